@@ -19,8 +19,8 @@ use Rattle.proc_names.specs.declared.scope.Variable.TheVariants as named
 use Rattle.proc_names.specs.declared.scope.Callee.{Callee}
 use Rattle.proc_names.specs.declared.scope.Callee.TheVariants as called
 use Rattle.proc_program.specs.declared.program.Handle.TheVariants.{Given}
-use Rattle.proc_program.specs.declared.program.Place.TheVariants as place
-use Rattle.proc_program.specs.declared.program.Arg.TheVariants as arg
+use Rattle.proc_program.specs.declared.program.Location.TheVariants as place
+use Rattle.proc_program.specs.declared.program.ArgExp.TheVariants as arg
 use Rattle.proc_program.specs.Program as run
 use Rattle.proc_program.specs.View.{args_of as args_view}
 use Rattle.proc_program.specs.StepView.{block_of as block_view}

@@ -13,7 +13,7 @@ use Rattle.proc_names.specs.Faults.{first}
 use Rattle.proc_names.specs.NameFaults.{name_faults, none_or, resolved}
 use Rattle.proc_parse.specs.Text.{parsed_text}
 use Rattle.proc_print.specs.Printed.{printed}
-use Rattle.proc_program.specs.declared.program.Part.{Part}
+use Rattle.proc_program.specs.declared.program.Program.{Program}
 use Rattle.proc_templates.specs.Compiled.{code_words, data_count, component_of}
 use Rattle.proc_compiler.specs.declared.fault.CompileFault.{CompileFault}
 use Rattle.proc_compiler.specs.declared.fault.CompileFault.TheVariants.{TooLarge, SealsShort}
@@ -28,7 +28,7 @@ use Rattle.alike_modules.proofs.Faults.{same_names}
 
 -- ---- components
 
-abbrev answer_with : Part → ℕ → ℕ → Result ComponentFields CompileFault
+abbrev answer_with : Program → ℕ → ℕ → Result ComponentFields CompileFault
 answer_with p seals calls =
     if nat_lt MOST_WORDS (code_words p) || nat_lt MOST_WORDS (data_count p) then Err TooLarge
     else (if nat_lt seals calls then Err SealsShort else Ok (component_of p))

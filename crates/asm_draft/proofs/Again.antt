@@ -21,8 +21,8 @@ use Rattle.component_file.specs.Limits.{KindFits}
 use Rattle.asm_labels.specs.declared.labels.Section.{Section as SectionOf}
 use Rattle.asm_labels.specs.declared.labels.Section.TheVariants.{Code, Data}
 use Rattle.asm_fields.specs.declared.fault.AsmFault.TheVariants.{Unknown, Section}
-use Rattle.asm_fields.specs.declared.directives.Item.{Item}
-use Rattle.asm_fields.specs.declared.directives.Item.TheVariants as item
+use Rattle.asm_fields.specs.declared.directives.ItemKind.{ItemKind}
+use Rattle.asm_fields.specs.declared.directives.ItemKind.TheVariants as item
 use Rattle.asm_fields.specs.declared.directives.WordKind.{WordKind}
 use Rattle.asm_fields.specs.declared.directives.WordKind.TheVariants as word_kind
 use Rattle.asm_fields.specs.declared.directives.Directive.{Directive}
@@ -204,14 +204,14 @@ word_line_again kind fs w section d is room one = directive_line_again (directiv
 
 -- ---- items
 
-item_in_again : (at : ℕ) (i : Item) (fs : List Form) (new d : Draft) → may_stand false i d ≡ true
+item_in_again : (at : ℕ) (i : ItemKind) (fs : List Form) (new d : Draft) → may_stand false i d ≡ true
     → Again fs new (operands_in at i (record d { last = Some i })) → Whole fs new (item_in at false i d)
 unfolding item_in
 item_in_again at i fs new d may one =
     whole_then [] fs tt new _ _ (again_holds _ (Section at) may)
     (whole_line fs new (operands_in at i (record d { last = Some i })) one)
 
-pub item_line_again : (i : Item) (fs : List Form) (new d : Draft) → may_stand false i d ≡ true
+pub item_line_again : (i : ItemKind) (fs : List Form) (new d : Draft) → may_stand false i d ≡ true
     → ((at : ℕ) → Again fs new (operands_in at i (record d { last = Some i })))
     → Whole (directive_forms (directive.Of i) fs) new (line_in d)
 item_line_again i fs new d may one = directive_line_again (directive.Of i) fs new d

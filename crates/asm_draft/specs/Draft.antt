@@ -10,24 +10,24 @@ use Rattle.asm_labels.specs.declared.labels.Section.{Section}
 use Rattle.asm_labels.specs.declared.labels.Section.TheVariants.{Code, Data}
 use Rattle.asm_labels.specs.declared.labels.Label.{Label}
 use Rattle.asm_labels.specs.References.{Reference}
-use Rattle.asm_fields.specs.declared.directives.Item.{Item}
+use Rattle.asm_fields.specs.declared.directives.ItemKind.{ItemKind}
 use Rattle.asm_fields.specs.Instrs.{Last, Plain, Code as CodeLabel, Data as DataLabel}
-use Rattle.asm_draft.specs.declared.header.Header.{Header}
+use Rattle.asm_draft.specs.declared.header.TextHeader.{TextHeader}
 use Rattle.asm_draft.specs.Order.{section_of}
 use Rattle.asm_draft.specs.Tables.{Tables, no_tables}
 
 -- the last item, what the single items said, the labels and the references to them in the order of the text,
 -- the words, and the tables
 pub record Draft : Type 0 where
-  pub last : Option Item
-  pub header : Header
+  pub last : Option ItemKind
+  pub header : TextHeader
   pub labels : List (List ℕ × Label)
   pub references : List Reference
   pub code : List Word
   pub data_words : List Word
   pub tables : Tables
 
-abbrev pub no_header : Header
+abbrev pub no_header : TextHeader
 no_header = record {
   name = [];
   stack_base = 0;
@@ -51,7 +51,7 @@ nothing = record {
   tables = no_tables;
 }
 
-abbrev pub with_header : Header → Draft → Draft
+abbrev pub with_header : TextHeader → Draft → Draft
 with_header h d = record d { header = h }
 
 abbrev pub with_tables : Tables → Draft → Draft

@@ -6,7 +6,7 @@ use Rattle.asm_labels.specs.declared.labels.Section.TheVariants.{Code}
 use Rattle.asm_labels.specs.Labels.{label_of}
 use Rattle.asm_fields.specs.declared.fault.AsmFault.{AsmFault}
 use Rattle.asm_fields.specs.declared.fault.AsmFault.TheVariants.{Unknown, Operand, LabelTwice, Section}
-use Rattle.asm_fields.specs.declared.directives.Item.{Item}
+use Rattle.asm_fields.specs.declared.directives.ItemKind.{ItemKind}
 use Rattle.asm_fields.specs.declared.directives.WordKind.{WordKind}
 use Rattle.asm_fields.specs.declared.directives.Directive.{Directive}
 use Rattle.asm_fields.specs.declared.directives.Directive.TheVariants.{Of, Word}
@@ -72,11 +72,11 @@ word_in at kind d = do
 
 -- the item may stand here: it has no label, follows rightly, ends no section without words, and isn't past
 -- the count of its kind
-abbrev pub may_stand : Bool → Item → Draft → Bool
+abbrev pub may_stand : Bool → ItemKind → Draft → Bool
 may_stand labelled item d = not labelled && may_follow d.last item && may_end d && has_room item d.tables
 
 -- an item that stands at this place
-unfoldable pub item_in : ℕ → Bool → Item → Draft → Reader Input AsmFault Draft
+unfoldable pub item_in : ℕ → Bool → ItemKind → Draft → Reader Input AsmFault Draft
 item_in at labelled item d = do
   _ ← holds (may_stand labelled item d) (Section at)
   new ← operands_in at item (record d { last = Some item })

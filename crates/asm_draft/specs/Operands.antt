@@ -8,8 +8,8 @@ use Rattle.asm_labels.specs.declared.labels.Section.{Section}
 use Rattle.asm_labels.specs.declared.labels.Section.TheVariants.{Code, Data}
 use Rattle.asm_labels.specs.Labels.{offset_of}
 use Rattle.asm_fields.specs.declared.fault.AsmFault.{AsmFault}
-use Rattle.asm_fields.specs.declared.directives.Item.{Item}
-use Rattle.asm_fields.specs.declared.directives.Item.TheVariants as item
+use Rattle.asm_fields.specs.declared.directives.ItemKind.{ItemKind}
+use Rattle.asm_fields.specs.declared.directives.ItemKind.TheVariants as item
 use Rattle.readers.specs.Readers.{Reader, ◌>>=◌, done}
 use Rattle.asm_fields.specs.Fields.{Input, proper_name_at}
 use Rattle.asm_fields.specs.Operands.{address_at, stretch_at, Offset, Number, Label, offset_at, shared_at}
@@ -99,7 +99,7 @@ row_in at d = do
   done (with_tables (with_row at (record { offset = off.0; kinds = kinds.0 }) kinds.1.tables) kinds.1)
 
 -- what an item says
-abbrev pub operands_in : ℕ → Item → Draft → Reader Input AsmFault Draft
+abbrev pub operands_in : ℕ → ItemKind → Draft → Reader Input AsmFault Draft
 operands_in at item.Name d = proper_name_at >>= λ name.
     done (with_header (record d.header { name = name }) d)
 operands_in at item.Stack d = address_at >>= λ n. done (with_header (record d.header { stack_base = n }) d)

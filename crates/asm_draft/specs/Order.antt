@@ -3,14 +3,14 @@ use Rattle.std.specs.Prelude.{ℕ, ◌+◌, ◌==◌, nat_lt, nat_le, Bool, true
 use Rattle.std.specs.Prelude.{Option, Some, None}
 use Rattle.asm_labels.specs.declared.labels.Section.{Section}
 use Rattle.asm_labels.specs.declared.labels.Section.TheVariants as section
-use Rattle.asm_fields.specs.declared.directives.Item.{Item}
-use Rattle.asm_fields.specs.declared.directives.Item.TheVariants.{Name, Stack, Closure, Movable, Seals}
-use Rattle.asm_fields.specs.declared.directives.Item.TheVariants.{Linear}
-use Rattle.asm_fields.specs.declared.directives.Item.TheVariants.{Code, Data, Import, Export, Site, Fail}
-use Rattle.asm_fields.specs.declared.directives.Item.TheVariants.{Literal, Row}
+use Rattle.asm_fields.specs.declared.directives.ItemKind.{ItemKind}
+use Rattle.asm_fields.specs.declared.directives.ItemKind.TheVariants.{Name, Stack, Closure, Movable, Seals}
+use Rattle.asm_fields.specs.declared.directives.ItemKind.TheVariants.{Linear}
+use Rattle.asm_fields.specs.declared.directives.ItemKind.TheVariants.{Code, Data, Import, Export, Site, Fail}
+use Rattle.asm_fields.specs.declared.directives.ItemKind.TheVariants.{Literal, Row}
 
 -- items stand in this order
-abbrev pub rank : Item → ℕ
+abbrev pub rank : ItemKind → ℕ
 rank Name = 1
 rank Stack = 2
 rank Closure = 3
@@ -27,7 +27,7 @@ rank Literal = 13
 rank Row = 14
 
 -- the others stand once at most
-abbrev pub repeats : Item → Bool
+abbrev pub repeats : ItemKind → Bool
 repeats Import = true
 repeats Export = true
 repeats Site = true
@@ -35,7 +35,7 @@ repeats Row = true
 repeats _ = false
 
 -- the rank of the last item that came; nothing has come yet: 0
-abbrev pub rank_of : Option Item → ℕ
+abbrev pub rank_of : Option ItemKind → ℕ
 rank_of None = 0
 rank_of (Some item) = rank item
 
@@ -46,17 +46,17 @@ furthest r =
     else if r == rank Code then rank Data else rank Row
 
 -- the item may stand next where those that came end with the last
-abbrev pub may_follow : Option Item → Item → Bool
+abbrev pub may_follow : Option ItemKind → ItemKind → Bool
 may_follow last item =
     (nat_lt (rank_of last) (rank item) || ((rank item == rank_of last) && repeats item))
     && nat_le (rank item) (furthest (rank_of last))
 
 -- the items that came go up to the data at least
-abbrev pub reaches_data : Option Item → Bool
+abbrev pub reaches_data : Option ItemKind → Bool
 reaches_data last = nat_le (rank Data) (rank_of last)
 
 -- the section in which the words behind an item stand
-abbrev pub section_of : Option Item → Option Section
+abbrev pub section_of : Option ItemKind → Option Section
 section_of (Some Code) = Some section.Code
 section_of (Some Data) = Some section.Data
 section_of _ = None

@@ -6,8 +6,8 @@ use Rattle.component_file.specs.declared.component.Import.{Import}
 use Rattle.component_file.specs.declared.component.Export.{Export}
 use Rattle.component_file.specs.declared.component.KindRow.{KindRow}
 use Rattle.component_file.specs.Limits.{ascends, name_lt}
-use Rattle.asm_fields.specs.declared.directives.Item.{Item}
-use Rattle.asm_fields.specs.declared.directives.Item.TheVariants as item
+use Rattle.asm_fields.specs.declared.directives.ItemKind.{ItemKind}
+use Rattle.asm_fields.specs.declared.directives.ItemKind.TheVariants as item
 use Rattle.asm_draft.specs.declared.tables.Tables.{Tables as TablesInCode}
 
 -- the items of each table in their order, and the place of the first one in the text that doesn't stand
@@ -44,7 +44,7 @@ no_tables = record {
 }
 
 -- whether one more item of its kind may come
-abbrev pub has_room : Item → Tables → Bool
+abbrev pub has_room : ItemKind → Tables → Bool
 has_room item.Import t = nat_lt (length t.imports) MOST_IMPORTS
 has_room item.Export t = nat_lt (length t.exports) MOST_EXPORTS
 has_room item.Site t = nat_lt (length t.sites) MOST_SITES

@@ -19,11 +19,11 @@ ghost use Rattle.asm_draft.specs.Lines.{label_in, label_if, is_code, instr_in, w
 ghost use Rattle.asm_draft.specs.Lines.{directive_from, directive_in, behind_label, line_in, MakesAs};
 ghost use Rattle.asm_draft.specs.Lines.{Makes};
 
-use crate::header::Header;
+use crate::header::TextHeader;
 use crate::order::{may_follow, reaches_data, section_of};
 use crate::tables::Tables;
 use asm_fields::{
-    AsmFault, Directive, Fields, Item, KindField, Last, Offset, WordKind, instr_operands,
+    AsmFault, Directive, Fields, ItemKind, KindField, Last, Offset, WordKind, instr_operands,
     row_named, shape_of, word_line,
 };
 use asm_labels::{Label, Labels, References, Section};
@@ -33,12 +33,12 @@ use lcm_isa::{Instr, encode};
 use std::alloc::{AllocError, Global};
 use std::marker::Model;
 
-/// What the lines of a text have made so far. A contract sees what [`Parts`] has, and the last item.
+/// What the lines of a text have made so far. A contract sees what [`DraftParts`] has, and the last item.
 ///
 /// It must be spent, as the references must.
 pub struct Draft<'a> {
-    last: Option<Item>,
-    header: Header,
+    last: Option<ItemKind>,
+    header: TextHeader,
     labels: Labels<'a>,
     references: References<'a>,
     code: Vec<Word>,
@@ -47,9 +47,9 @@ pub struct Draft<'a> {
 }
 
 /// The parts of a draft.
-pub struct Parts<'a> {
+pub struct DraftParts<'a> {
     /// What the single items said.
-    pub header: Header,
+    pub header: TextHeader,
     /// The labels.
     pub labels: Labels<'a>,
     /// The references to labels, of words and of tables, in the order of the text.
@@ -86,7 +86,7 @@ impl<'a> Draft<'a> {
     {
         Draft {
             last: None,
-            header: Header::new(alloc),
+            header: TextHeader::new(alloc),
             labels: Labels::new(alloc),
             references: References::new(alloc),
             code: Vec::new(alloc),
@@ -96,7 +96,7 @@ impl<'a> Draft<'a> {
     }
 
     /// Its parts.
-    pub fn into_parts(self) -> Parts<'a>
+    pub fn into_parts(self) -> DraftParts<'a>
         ensures { self.entry ≡ record {
           last = self.entry.last;
           header = result.header;
@@ -116,7 +116,7 @@ impl<'a> Draft<'a> {
             data_words,
             tables,
         } = self;
-        Parts {
+        DraftParts {
             header,
             labels,
             references,
@@ -398,34 +398,34 @@ impl<'a> Draft<'a> {
         &mut self,
         alloc: Global,
         at: u32,
-        item: Item,
+        item: ItemKind,
         fields: &mut Fields<'a, '_>,
     ) -> Result<(), AsmFault>
         ensures { Makes result self.new fields.new (operands_in at item self.old fields.old) }
     {
         match item {
-            Item::Name => self.header.name = name(alloc, fields)?,
-            Item::Stack => self.header.stack_base = fields.address()?,
-            Item::Closure => self.header.closure = fields.address()?,
-            Item::Movable => self.header.movable = true,
-            Item::Seals => {
+            ItemKind::Name => self.header.name = name(alloc, fields)?,
+            ItemKind::Stack => self.header.stack_base = fields.address()?,
+            ItemKind::Closure => self.header.closure = fields.address()?,
+            ItemKind::Movable => self.header.movable = true,
+            ItemKind::Seals => {
                 let seals = fields.stretch()?;
                 self.header.seals = SealRange::new(seals.base, seals.count);
             }
-            Item::Linear => self.header.linear = fields.stretch()?,
-            Item::Code => self.header.code_base = fields.address()?,
-            Item::Data => self.header.data_base = fields.address()?,
-            Item::Import => self.import(alloc, at, fields)?,
-            Item::Export => self.export(alloc, at, fields)?,
-            Item::Site => self.site(at, fields)?,
-            Item::Fail => self.fail(fields)?,
-            Item::Literal => self.literal(fields)?,
-            Item::Row => self.row(at, fields)?,
+            ItemKind::Linear => self.header.linear = fields.stretch()?,
+            ItemKind::Code => self.header.code_base = fields.address()?,
+            ItemKind::Data => self.header.data_base = fields.address()?,
+            ItemKind::Import => self.import(alloc, at, fields)?,
+            ItemKind::Export => self.export(alloc, at, fields)?,
+            ItemKind::Site => self.site(at, fields)?,
+            ItemKind::Fail => self.fail(fields)?,
+            ItemKind::Literal => self.literal(fields)?,
+            ItemKind::Row => self.row(at, fields)?,
         }
         Ok(())
     }
 
-    fn may_stand(&self, labelled: bool, item: Item) -> bool
+    fn may_stand(&self, labelled: bool, item: ItemKind) -> bool
         ensures { result ≡ may_stand labelled item self.now }
     {
         !labelled && may_follow(self.last, item) && self.may_end() && self.tables.has_room(item)
@@ -437,7 +437,7 @@ impl<'a> Draft<'a> {
         alloc: Global,
         at: u32,
         labelled: bool,
-        item: Item,
+        item: ItemKind,
         fields: &mut Fields<'a, '_>,
     ) -> Result<(), AsmFault>
         ensures { Makes result self.new fields.new (item_in at labelled item self.old fields.old) }

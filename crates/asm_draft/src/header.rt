@@ -9,7 +9,7 @@ use std::alloc::Global;
 /// What the single items of a text say, but for those among the tables. Before its item came, a number is
 /// 0 and the name has no bytes.
 #[derive(Debug, Drop)]
-pub struct Header {
+pub struct TextHeader {
     /// The part's name.
     pub name: Items<u8>,
     /// The address at which the stack begins.
@@ -28,12 +28,12 @@ pub struct Header {
     pub data_base: u32,
 }
 
-impl Header {
+impl TextHeader {
     // Before the first item. It takes no memory.
-    pub(crate) fn new(alloc: Global) -> Header
+    pub(crate) fn new(alloc: Global) -> TextHeader
         ensures { result ≡ no_header }
     {
-        Header {
+        TextHeader {
             name: Items::of(Vec::new(alloc)),
             stack_base: 0,
             closure: 0,

@@ -7,7 +7,7 @@ mod lines;
 mod order;
 mod tables;
 
-pub use draft::{Draft, Parts};
-pub use header::Header;
+pub use draft::{Draft, DraftParts};
+pub use header::TextHeader;
 pub use lines::draft_of;
 pub use tables::Tables;

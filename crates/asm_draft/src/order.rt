@@ -2,41 +2,44 @@
 ghost use Rattle.std.specs.Prelude.{◌≡◌, ◌≤◌};
 ghost use Rattle.asm_draft.specs.Order.{rank, rank_of, repeats, furthest, may_follow, reaches_data};
 ghost use Rattle.asm_draft.specs.Order.{section_of};
-ghost use Rattle.asm_fields.specs.declared.directives.Item.TheVariants.{Row};
+ghost use Rattle.asm_fields.specs.declared.directives.ItemKind.TheVariants.{Row};
 
-use asm_fields::Item;
+use asm_fields::ItemKind;
 use asm_labels::Section;
 
-fn rank(item: Item) -> u32
+fn rank(item: ItemKind) -> u32
     ensures value { result ≡ rank item }
     ensures below { result ≤ rank Row }
 {
     match item {
-        Item::Name => 1,
-        Item::Stack => 2,
-        Item::Closure => 3,
-        Item::Movable => 4,
-        Item::Seals => 5,
-        Item::Linear => 6,
-        Item::Code => 7,
-        Item::Data => 8,
-        Item::Import => 9,
-        Item::Export => 10,
-        Item::Site => 11,
-        Item::Fail => 12,
-        Item::Literal => 13,
-        Item::Row => 14,
+        ItemKind::Name => 1,
+        ItemKind::Stack => 2,
+        ItemKind::Closure => 3,
+        ItemKind::Movable => 4,
+        ItemKind::Seals => 5,
+        ItemKind::Linear => 6,
+        ItemKind::Code => 7,
+        ItemKind::Data => 8,
+        ItemKind::Import => 9,
+        ItemKind::Export => 10,
+        ItemKind::Site => 11,
+        ItemKind::Fail => 12,
+        ItemKind::Literal => 13,
+        ItemKind::Row => 14,
     }
 }
 
 // Whether the item may stand more than once.
-fn repeats(item: Item) -> bool
+fn repeats(item: ItemKind) -> bool
     ensures { result ≡ repeats item }
 {
-    matches!(item, Item::Import | Item::Export | Item::Site | Item::Row)
+    matches!(
+        item,
+        ItemKind::Import | ItemKind::Export | ItemKind::Site | ItemKind::Row
+    )
 }
 
-fn rank_of(last: Option<Item>) -> u32
+fn rank_of(last: Option<ItemKind>) -> u32
     ensures value { result ≡ rank_of last }
     ensures below { result ≤ rank Row }
 {
@@ -50,20 +53,20 @@ fn rank_of(last: Option<Item>) -> u32
 fn furthest(reached: u32) -> u32
     ensures { result ≡ furthest reached }
 {
-    let code = rank(Item::Code);
-    if reached < rank(Item::Closure) {
+    let code = rank(ItemKind::Code);
+    if reached < rank(ItemKind::Closure) {
         reached + 1
     } else if reached < code {
         code
     } else if reached == code {
-        rank(Item::Data)
+        rank(ItemKind::Data)
     } else {
-        rank(Item::Row)
+        rank(ItemKind::Row)
     }
 }
 
 /// Whether the item may stand next where those that came end with the last one.
-pub(crate) fn may_follow(last: Option<Item>, item: Item) -> bool
+pub(crate) fn may_follow(last: Option<ItemKind>, item: ItemKind) -> bool
     ensures { result ≡ may_follow last item }
 {
     let (before, rank) = (rank_of(last), rank(item));
@@ -71,19 +74,19 @@ pub(crate) fn may_follow(last: Option<Item>, item: Item) -> bool
 }
 
 /// Whether the items that came go up to the data at least.
-pub(crate) fn reaches_data(last: Option<Item>) -> bool
+pub(crate) fn reaches_data(last: Option<ItemKind>) -> bool
     ensures { result ≡ reaches_data last }
 {
-    rank(Item::Data) <= rank_of(last)
+    rank(ItemKind::Data) <= rank_of(last)
 }
 
 /// The section in which the words behind an item stand.
-pub(crate) fn section_of(last: Option<Item>) -> Option<Section>
+pub(crate) fn section_of(last: Option<ItemKind>) -> Option<Section>
     ensures { result ≡ section_of last }
 {
     match last {
-        Some(Item::Code) => Some(Section::Code),
-        Some(Item::Data) => Some(Section::Data),
+        Some(ItemKind::Code) => Some(Section::Code),
+        Some(ItemKind::Data) => Some(Section::Data),
         _ => None,
     }
 }

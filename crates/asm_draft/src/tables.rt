@@ -5,7 +5,7 @@ ghost use Rattle.component_file.specs.Limits.{ascends, name_lt};
 ghost use Rattle.asm_draft.specs.Tables.{tables_seen, no_tables, has_room, with_import, with_export};
 ghost use Rattle.asm_draft.specs.Tables.{with_site, with_row, first_out_of_order};
 
-use asm_fields::Item;
+use asm_fields::ItemKind;
 use component_file::{Export, Import, KindRow, MOST_EXPORTS, MOST_IMPORTS, MOST_ROWS, MOST_SITES};
 use std::alloc::{AllocError, Global};
 
@@ -84,14 +84,14 @@ impl Tables {
     }
 
     // Whether one more item of its kind may come.
-    pub(crate) fn has_room(&self, item: Item) -> bool
+    pub(crate) fn has_room(&self, item: ItemKind) -> bool
         ensures { result ≡ has_room item (tables_seen self.now) }
     {
         match item {
-            Item::Import => self.imports.len() < usize::from(MOST_IMPORTS),
-            Item::Export => self.exports.len() < usize::from(MOST_EXPORTS),
-            Item::Site => self.sites.len() < usize::from(MOST_SITES),
-            Item::Row => self.rows.len() < MOST_ROWS as usize,
+            ItemKind::Import => self.imports.len() < usize::from(MOST_IMPORTS),
+            ItemKind::Export => self.exports.len() < usize::from(MOST_EXPORTS),
+            ItemKind::Site => self.sites.len() < usize::from(MOST_SITES),
+            ItemKind::Row => self.rows.len() < MOST_ROWS as usize,
             _ => true,
         }
     }

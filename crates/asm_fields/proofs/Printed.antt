@@ -41,14 +41,16 @@ use Rattle.component_file.specs.declared.component.Kind.{Kind}
 use Rattle.component_file.specs.declared.component.Kind.TheVariants as kind
 use Rattle.asm_fields.specs.declared.fault.AsmFault.TheVariants as fault
 use Rattle.asm_fields.specs.declared.directives.WordKind.TheVariants as word_kind
-use Rattle.asm_fields.specs.declared.directives.Item.TheVariants as item
+use Rattle.asm_fields.specs.declared.directives.ItemKind.TheVariants as item
 use Rattle.asm_fields.specs.declared.directives.Directive.{Directive}
 use Rattle.asm_fields.specs.declared.directives.Directive.TheVariants as directive
 use Rattle.asm_fields.specs.Directives.{directive_name}
 use Rattle.readers.specs.Readers.{◌>>=◌, done}
 use Rattle.asm_fields.specs.Fields.{natural_at, Lexeme, is_sign, is_name_token, sign_at, proper_name_from}
 use Rattle.asm_fields.specs.Fields.{percent}
-use Rattle.asm_fields.specs.Names.{named, perm_named, lin_named, reg_named, ownership, shared_named}
+use Rattle.cap_words.specs.Text.{named, perm_named, lin_named}
+use Rattle.cap_words.proofs.Offers.{perm_again, lin_again}
+use Rattle.asm_fields.specs.Names.{reg_named, ownership, shared_named}
 use Rattle.asm_fields.specs.Names.{kind_name}
 use Rattle.asm_fields.specs.Words.{i64_at, cap_at, seals_at, word_behind, word_line}
 use Rattle.asm_fields.specs.Instrs.{i32_at, Plain, Code, Data, reg_at, plain_at, last_at, last_if, reg_if}
@@ -167,17 +169,6 @@ kind_field kind.DataCap = a_name 4 _ (lit< tt) refl refl (lit≤ tt)
 kind_field kind.Stk = a_name 4 _ (lit< tt) refl refl (lit≤ tt)
 kind_field (kind.Pc offset) = a_name 4 _ (lit< tt) refl refl (lit≤ tt)
 kind_field kind.Top = a_name 4 _ (lit< tt) refl refl (lit≤ tt)
-
-perm_again : (x : Perm) → perm_named (perm_name x) ≡ Some x
-perm_again No = refl
-perm_again ReadOnly = refl
-perm_again Rw = refl
-perm_again Rx = refl
-perm_again Rwx = refl
-
-lin_again : (x : Lin) → lin_named (lin_name x) ≡ Some x
-lin_again Normal = refl
-lin_again Linear = refl
 
 reg_again : (x : Reg) → reg_named (reg_name x) ≡ Some x
 reg_again Pc = refl

@@ -1,17 +1,17 @@
 -- The directives: what a `.` stands before.
 use Rattle.std.specs.Prelude.{ℕ, List, [], ◌∷◌, codes, Option}
-use Rattle.asm_fields.specs.declared.directives.Item.{Item}
-use Rattle.asm_fields.specs.declared.directives.Item.TheVariants.{Name, Stack, Closure, Movable, Seals}
-use Rattle.asm_fields.specs.declared.directives.Item.TheVariants.{Linear}
-use Rattle.asm_fields.specs.declared.directives.Item.TheVariants.{Code, Data, Import, Export, Site, Fail}
-use Rattle.asm_fields.specs.declared.directives.Item.TheVariants.{Literal, Row}
+use Rattle.asm_fields.specs.declared.directives.ItemKind.{ItemKind}
+use Rattle.asm_fields.specs.declared.directives.ItemKind.TheVariants.{Name, Stack, Closure, Movable, Seals}
+use Rattle.asm_fields.specs.declared.directives.ItemKind.TheVariants.{Linear}
+use Rattle.asm_fields.specs.declared.directives.ItemKind.TheVariants.{Code, Data, Import, Export, Site, Fail}
+use Rattle.asm_fields.specs.declared.directives.ItemKind.TheVariants.{Literal, Row}
 use Rattle.asm_fields.specs.declared.directives.WordKind.{WordKind}
 use Rattle.asm_fields.specs.declared.directives.WordKind.TheVariants.{Int, Cap, Seal}
 use Rattle.asm_fields.specs.declared.directives.Directive.{Directive}
 use Rattle.asm_fields.specs.declared.directives.Directive.TheVariants.{Of, Word}
-use Rattle.asm_fields.specs.Names.{named}
+use Rattle.cap_words.specs.Text.{named}
 
-abbrev pub item_name : Item → List ℕ
+abbrev pub item_name : ItemKind → List ℕ
 item_name Name = codes "name"
 item_name Stack = codes "stack"
 item_name Closure = codes "closure"

@@ -1,13 +1,10 @@
 -- How the faults of assembler text print.
-use Rattle.std.specs.Prelude.{ℕ, ◌++◌, List, codes, decimal}
+use Rattle.std.specs.Prelude.{ℕ, List, codes}
+use Rattle.cap_words.specs.FaultText.{at_byte}
 use Rattle.text_scan.specs.FaultText.{scan_fault_text}
 use Rattle.asm_fields.specs.declared.fault.AsmFault.{AsmFault}
 use Rattle.asm_fields.specs.declared.fault.AsmFault.TheVariants.{Scan, Unknown, Operand, LabelTwice}
 use Rattle.asm_fields.specs.declared.fault.AsmFault.TheVariants.{LabelMissing, Range, Section, NoMemory}
-
--- what is wrong at a byte
-abbrev at_byte : ℕ → List ℕ → List ℕ
-at_byte at what = codes "byte " ++ decimal at ++ what
 
 abbrev pub asm_fault_text : AsmFault → List ℕ
 asm_fault_text (Scan fault) = scan_fault_text fault

@@ -16,7 +16,8 @@ use Rattle.asm_fields.specs.declared.instrs.Shape.{Shape}
 use Rattle.readers.specs.Readers.{Reader, ◌>>=◌, done, unless_none}
 use Rattle.asm_fields.specs.Fields.{Input, place, kind_next, is_name_token}
 use Rattle.asm_fields.specs.Fields.{at_sign, percent, meant, proper_name_from, sign_at, integer_at, end_at}
-use Rattle.asm_fields.specs.Names.{named, reg_named}
+use Rattle.cap_words.specs.Text.{named}
+use Rattle.asm_fields.specs.Names.{reg_named}
 
 -- ---- operands
 

@@ -1,26 +1,11 @@
 -- Names that mean something: each is looked for in one table.
-use Rattle.std.specs.Prelude.{ℕ, Bool, true, false, List, [], ◌∷◌, find, codes, Option}
-use Rattle.std.specs.Str.{bytes_eq}
-use Rattle.cap_words.specs.declared.Perm.{Perm}
-use Rattle.cap_words.specs.declared.Perm.TheVariants.{No, R as ReadOnly, Rw, Rx, Rwx}
-use Rattle.cap_words.specs.declared.Lin.{Lin}
-use Rattle.cap_words.specs.declared.Lin.TheVariants.{Normal, Linear}
-use Rattle.cap_words.specs.Text.{perm_name, lin_name}
+use Rattle.std.specs.Prelude.{ℕ, Bool, true, false, List, [], ◌∷◌, codes, Option}
+use Rattle.cap_words.specs.Text.{named}
 use Rattle.lcm_isa.specs.declared.Reg.{Reg}
 use Rattle.lcm_isa.specs.Numbers.{all_regs}
 use Rattle.lcm_isa.specs.Texts.{reg_name}
 use Rattle.component_file.specs.declared.component.Kind.{Kind}
 use Rattle.component_file.specs.declared.component.Kind.TheVariants.{Any, Int, DataCap, Stk, Pc, Top}
-
--- the first that has the name
-abbrev pub named : {A : Type 0} → (A → List ℕ) → List A → List ℕ → Option A
-named name_of xs name = find (λ x. bytes_eq (name_of x) name) xs
-
-abbrev pub perm_named : List ℕ → Option Perm
-perm_named name = named perm_name (No ∷ ReadOnly ∷ Rw ∷ Rx ∷ Rwx ∷ []) name
-
-abbrev pub lin_named : List ℕ → Option Lin
-lin_named name = named lin_name (Normal ∷ Linear ∷ []) name
 
 abbrev pub reg_named : List ℕ → Option Reg
 reg_named name = named reg_name all_regs name

@@ -10,7 +10,7 @@ use Rattle.asm_fields.specs.declared.directives.WordKind.{WordKind}
 use Rattle.asm_fields.specs.declared.directives.WordKind.TheVariants.{Int, Cap, Seal}
 use Rattle.readers.specs.Readers.{Reader, ◌>>=◌, done}
 use Rattle.asm_fields.specs.Fields.{Input, meant, integer_at, natural_at, end_at}
-use Rattle.asm_fields.specs.Names.{perm_named, lin_named}
+use Rattle.cap_words.specs.Text.{perm_named, lin_named}
 
 -- a number of 64 bits
 abbrev pub i64_at : Reader Input AsmFault ℤ

@@ -4,7 +4,7 @@ ghost use Rattle.asm_fields.specs.Directives.{item_name, word_kind_name, directi
 
 /// The items of a text that aren't words, in the order in which they stand.
 #[derive(Clone, Copy, Debug, PartialEq, Eq)]
-pub enum Item {
+pub enum ItemKind {
     /// The part's name.
     Name,
     /// The address at which the stack begins.
@@ -35,26 +35,26 @@ pub enum Item {
     Row,
 }
 
-impl Item {
+impl ItemKind {
     /// Its name, which stands behind the `.`.
     pub fn name(self) -> &'static str
         ensures { result.now ≡ item_name self }
     {
         match self {
-            Item::Name => "name",
-            Item::Stack => "stack",
-            Item::Closure => "closure",
-            Item::Movable => "movable",
-            Item::Seals => "seals",
-            Item::Linear => "linear",
-            Item::Code => "code",
-            Item::Data => "data",
-            Item::Import => "import",
-            Item::Export => "export",
-            Item::Site => "site",
-            Item::Fail => "fail",
-            Item::Literal => "literal",
-            Item::Row => "row",
+            ItemKind::Name => "name",
+            ItemKind::Stack => "stack",
+            ItemKind::Closure => "closure",
+            ItemKind::Movable => "movable",
+            ItemKind::Seals => "seals",
+            ItemKind::Linear => "linear",
+            ItemKind::Code => "code",
+            ItemKind::Data => "data",
+            ItemKind::Import => "import",
+            ItemKind::Export => "export",
+            ItemKind::Site => "site",
+            ItemKind::Fail => "fail",
+            ItemKind::Literal => "literal",
+            ItemKind::Row => "row",
         }
     }
 }
@@ -87,7 +87,7 @@ impl WordKind {
 #[derive(Clone, Copy, Debug, PartialEq, Eq)]
 pub enum Directive {
     /// It begins an item.
-    Of(Item),
+    Of(ItemKind),
     /// It begins a word.
     Word(WordKind),
 }
@@ -108,20 +108,20 @@ impl Directive {
         ensures { result ≡ directive_named name.now }
     {
         [
-            Directive::Of(Item::Name),
-            Directive::Of(Item::Stack),
-            Directive::Of(Item::Closure),
-            Directive::Of(Item::Movable),
-            Directive::Of(Item::Seals),
-            Directive::Of(Item::Linear),
-            Directive::Of(Item::Code),
-            Directive::Of(Item::Data),
-            Directive::Of(Item::Import),
-            Directive::Of(Item::Export),
-            Directive::Of(Item::Site),
-            Directive::Of(Item::Fail),
-            Directive::Of(Item::Literal),
-            Directive::Of(Item::Row),
+            Directive::Of(ItemKind::Name),
+            Directive::Of(ItemKind::Stack),
+            Directive::Of(ItemKind::Closure),
+            Directive::Of(ItemKind::Movable),
+            Directive::Of(ItemKind::Seals),
+            Directive::Of(ItemKind::Linear),
+            Directive::Of(ItemKind::Code),
+            Directive::Of(ItemKind::Data),
+            Directive::Of(ItemKind::Import),
+            Directive::Of(ItemKind::Export),
+            Directive::Of(ItemKind::Site),
+            Directive::Of(ItemKind::Fail),
+            Directive::Of(ItemKind::Literal),
+            Directive::Of(ItemKind::Row),
             Directive::Word(WordKind::Int),
             Directive::Word(WordKind::Cap),
             Directive::Word(WordKind::Seal),

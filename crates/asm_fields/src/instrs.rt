@@ -2,7 +2,7 @@
 ghost use Rattle.std.specs.Prelude.{◌≡◌, ◌+◌, ◌<◌, true, false, if◌then◌else◌};
 ghost use Rattle.lcm_isa.specs.Texts.{mnemonic_of};
 ghost use Rattle.readers.specs.Answers.{Gives, GivesAs};
-ghost use Rattle.asm_fields.specs.Names.{named};
+ghost use Rattle.cap_words.specs.Text.{named};
 ghost use Rattle.asm_fields.specs.Instrs.{last_seen, plain, reg_at, plain_at, last_at, reg_if, last_if};
 ghost use Rattle.asm_fields.specs.Instrs.{shape_of, is_imm, row_named, operands_at};
 

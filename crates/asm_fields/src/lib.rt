@@ -14,7 +14,7 @@ mod names;
 mod operands;
 mod words;
 
-pub use directives::{Directive, Item, WordKind};
+pub use directives::{Directive, ItemKind, WordKind};
 pub use fault::AsmFault;
 pub use fields::Fields;
 pub use instrs::{Last, Shape, instr_operands, row_named, shape_of};

@@ -1,29 +1,10 @@
 //! Names that mean something.
 ghost use Rattle.std.specs.Prelude.{◌≡◌};
-ghost use Rattle.asm_fields.specs.Names.{perm_named, lin_named, reg_named, kind_name, kind_named};
+ghost use Rattle.asm_fields.specs.Names.{reg_named, kind_name, kind_named};
 ghost use Rattle.asm_fields.specs.Names.{ownership, shared_named};
 
-use cap_words::{Lin, Perm};
 use component_file::Kind;
 use lcm_isa::Reg;
-
-pub(crate) fn perm_named(name: &[u8]) -> Option<Perm>
-    ensures { result ≡ perm_named name.now }
-{
-    [Perm::No, Perm::R, Perm::Rw, Perm::Rx, Perm::Rwx]
-        .iter()
-        .copied()
-        .find(|p| p.name().as_bytes() == name)
-}
-
-pub(crate) fn lin_named(name: &[u8]) -> Option<Lin>
-    ensures { result ≡ lin_named name.now }
-{
-    [Lin::Normal, Lin::Linear]
-        .iter()
-        .copied()
-        .find(|l| l.name().as_bytes() == name)
-}
 
 pub(crate) fn reg_named(name: &[u8]) -> Option<Reg>
     ensures { result ≡ reg_named name.now }

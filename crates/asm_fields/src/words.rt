@@ -2,7 +2,7 @@
 ghost use Rattle.std.specs.Prelude.{◌≡◌};
 ghost use Rattle.readers.specs.Answers.{Gives};
 ghost use Rattle.asm_fields.specs.Fields.{meant};
-ghost use Rattle.asm_fields.specs.Names.{perm_named, lin_named};
+ghost use Rattle.cap_words.specs.Text.{perm_named, lin_named};
 ghost use Rattle.asm_fields.specs.Words.{i64_at, cap_at, seals_at, word_behind, word_line};
 
 use crate::directives::WordKind;
@@ -16,7 +16,7 @@ fn perm(fields: &mut Fields<'_, '_>) -> Result<Perm, AsmFault>
     ensures { Gives result fields.new (meant perm_named fields.old) }
 {
     let at = fields.place();
-    names::perm_named(fields.name()?).ok_or(AsmFault::Operand(at))
+    Perm::of_name(fields.name()?).ok_or(AsmFault::Operand(at))
 }
 
 #[tactic(auto, unfolding(crate::specs::Fields::meant))]
@@ -24,7 +24,7 @@ fn lin(fields: &mut Fields<'_, '_>) -> Result<Lin, AsmFault>
     ensures { Gives result fields.new (meant lin_named fields.old) }
 {
     let at = fields.place();
-    names::lin_named(fields.name()?).ok_or(AsmFault::Operand(at))
+    Lin::of_name(fields.name()?).ok_or(AsmFault::Operand(at))
 }
 
 fn number(fields: &mut Fields<'_, '_>) -> Result<i64, AsmFault>

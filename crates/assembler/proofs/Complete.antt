@@ -29,7 +29,7 @@ use Rattle.asm_labels.proofs.Offers.{within, first_of, last, rest_ready, word_le
 use Rattle.asm_fields.specs.declared.fault.AsmFault.{AsmFault}
 use Rattle.asm_fields.specs.declared.fault.AsmFault.TheVariants.{LabelMissing}
 use Rattle.asm_fields.specs.Fault.{of_scan}
-use Rattle.asm_fields.specs.declared.directives.Item.TheVariants as item
+use Rattle.asm_fields.specs.declared.directives.ItemKind.TheVariants as item
 use Rattle.asm_draft.specs.Order.{rank, rank_of, reaches_data}
 use Rattle.asm_draft.specs.Draft.{Draft, nothing, may_end}
 use Rattle.asm_draft.specs.Whole.{drafted, ended_all, draft_of_text}

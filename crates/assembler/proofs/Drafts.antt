@@ -18,8 +18,8 @@ use Rattle.asm_labels.specs.declared.labels.Label.{Label}
 use Rattle.asm_labels.specs.Labels.{label_of}
 use Rattle.asm_labels.specs.References.{Reference, AreReady}
 use Rattle.asm_labels.proofs.Offers.{one_more}
-use Rattle.asm_fields.specs.declared.directives.Item.{Item}
-use Rattle.asm_fields.specs.declared.directives.Item.TheVariants as item
+use Rattle.asm_fields.specs.declared.directives.ItemKind.{ItemKind}
+use Rattle.asm_fields.specs.declared.directives.ItemKind.TheVariants as item
 use Rattle.asm_fields.specs.declared.directives.WordKind.{WordKind}
 use Rattle.asm_fields.specs.declared.directives.Directive.{Directive}
 use Rattle.asm_fields.specs.declared.directives.Directive.TheVariants.{Of, Word as WordOf}
@@ -29,7 +29,7 @@ use Rattle.readers.specs.Readers.{◌>>=◌, unless_none, holds}
 use Rattle.asm_fields.specs.Fields.{Input, place, is_empty, is_labelled, name_at, proper_name_at, sign_at}
 use Rattle.asm_fields.specs.Fields.{colon, end_at}
 use Rattle.asm_fields.specs.Instrs.{Last, Plain, Code as CodeLabel, Data as DataLabel, row_named}
-use Rattle.asm_draft.specs.declared.header.Header.{Header}
+use Rattle.asm_draft.specs.declared.header.TextHeader.{TextHeader}
 use Rattle.asm_draft.specs.Order.{rank, rank_of, repeats, furthest, may_follow, section_of}
 use Rattle.asm_draft.specs.Tables.{has_room}
 use Rattle.asm_draft.specs.Draft.{Draft, nothing, words_in, has_word_room, with_word, may_end, may_end_in}
@@ -183,7 +183,7 @@ instr_is d k =
 -- ---- the order of items
 
 -- the items that came end with the code, or the data, where the next item is not before that
-code_last : (last : Option Item) → rank item.Code ≤ rank_of last
+code_last : (last : Option ItemKind) → rank item.Code ≤ rank_of last
     → (section_of last ≡ Some section.Code) ⊎ (rank item.Data ≤ rank_of last)
 code_last None le = absurd (omega (arith, le))
 code_last (Some item.Name) le = absurd (omega (arith, le))
@@ -201,7 +201,7 @@ code_last (Some item.Fail) le = inr (omega arith)
 code_last (Some item.Literal) le = inr (omega arith)
 code_last (Some item.Row) le = inr (omega arith)
 
-data_last : (last : Option Item) → rank item.Data ≤ rank_of last
+data_last : (last : Option ItemKind) → rank item.Data ≤ rank_of last
     → (section_of last ≡ Some section.Data) ⊎ (rank item.Import ≤ rank_of last)
 data_last None le = absurd (omega (arith, le))
 data_last (Some item.Name) le = absurd (omega (arith, le))
@@ -233,7 +233,7 @@ far_from_data r n le far = grind (arith, nat_tests)
 not_none : (words : List Word) → not (length words == 0) ≡ true → 1 ≤ length words
 not_none words h = grind (arith, nat_tests, h)
 
-code_some : (last : Option Item) (d : Draft) → (rank item.Data ≤ rank_of last → 1 ≤ length d.code)
+code_some : (last : Option ItemKind) (d : Draft) → (rank item.Data ≤ rank_of last → 1 ≤ length d.code)
     → may_end_in (section_of last) d ≡ true → rank item.Code ≤ rank_of last → 1 ≤ length d.code
 code_some last d came ends le = by_last (code_last last le)
   where
@@ -241,7 +241,7 @@ code_some last d came ends le = by_last (code_last last le)
     by_last (inl is) = not_none d.code (ap (λ o. may_end_in o d) (sym is) ∙ ends)
     by_last (inr past) = came past
 
-data_some : (last : Option Item) (d : Draft) → (rank item.Import ≤ rank_of last → 1 ≤ length d.data_words)
+data_some : (last : Option ItemKind) (d : Draft) → (rank item.Import ≤ rank_of last → 1 ≤ length d.data_words)
     → may_end_in (section_of last) d ≡ true → rank item.Data ≤ rank_of last → 1 ≤ length d.data_words
 data_some last d came ends le = by_last (data_last last le)
   where
@@ -251,10 +251,10 @@ data_some last d came ends le = by_last (data_last last le)
     by_last (inr past) = came past
 
 -- an item begins
-abbrev begun : Item → Draft → Draft
+abbrev begun : ItemKind → Draft → Draft
 begun i d = record d { last = Some i }
 
-others_begun : (labelled : Bool) (i : Item) (d : Draft) → IsDraft d → may_stand labelled i d ≡ true
+others_begun : (labelled : Bool) (i : ItemKind) (d : Draft) → IsDraft d → may_stand labelled i d ≡ true
     → 2 ≤ rank i → IsDraft (begun i d)
 others_begun labelled i d k stands behind =
     let follows = may_follow d.last i in
@@ -278,14 +278,14 @@ others_begun labelled i d k stands behind =
       };
     }
 
-room_in : (labelled : Bool) (i : Item) (d : Draft) → may_stand labelled i d ≡ true
+room_in : (labelled : Bool) (i : ItemKind) (d : Draft) → may_stand labelled i d ≡ true
     → has_room i d.tables ≡ true
 room_in labelled i d stands =
     (and_parts (not labelled && may_follow d.last i && may_end d) (has_room i d.tables) stands).1
 
 -- ---- what items say
 
-other_header : (d : Draft) (h : Header) → IsDraft d → HeaderKept h → h.name ≡ d.header.name
+other_header : (d : Draft) (h : TextHeader) → IsDraft d → HeaderKept h → h.name ≡ d.header.name
     → IsDraft (record d { header = h })
 other_header d h k kept same = record {
   words = k.words;
@@ -298,7 +298,7 @@ other_header d h k kept same = record {
   };
 }
 
-operands_are : (at : ℕ) (i : Item) (d : Draft) → 2 ≤ rank i → IsDraft d → has_room i d.tables ≡ true
+operands_are : (at : ℕ) (i : ItemKind) (d : Draft) → 2 ≤ rank i → IsDraft d → has_room i d.tables ≡ true
     → Gets IsDraft (operands_in at i d)
 operands_are at item.Name d le k room = absurd (omega (arith, le))
 operands_are at item.Stack d le k room =
@@ -399,7 +399,7 @@ name_item at d k =
       };
     }))
 
-name_or_other : (i : Item) → (i ≡ item.Name) ⊎ (2 ≤ rank i)
+name_or_other : (i : ItemKind) → (i ≡ item.Name) ⊎ (2 ≤ rank i)
 name_or_other item.Name = inl refl
 name_or_other item.Stack = inr (omega arith)
 name_or_other item.Closure = inr (omega arith)
@@ -415,17 +415,17 @@ name_or_other item.Fail = inr (omega arith)
 name_or_other item.Literal = inr (omega arith)
 name_or_other item.Row = inr (omega arith)
 
-begins : (at : ℕ) (labelled : Bool) (i : Item) (d : Draft) → IsDraft d → may_stand labelled i d ≡ true
+begins : (at : ℕ) (labelled : Bool) (i : ItemKind) (d : Draft) → IsDraft d → may_stand labelled i d ≡ true
     → Gets IsDraft (operands_in at i (begun i d))
 begins at labelled i d k stands = by_item (name_or_other i)
   where
     by_item : (i ≡ item.Name) ⊎ (2 ≤ rank i) → Gets IsDraft (operands_in at i (begun i d))
-    by_item (inl is) = subst (λ (j : Item). Gets IsDraft (operands_in at j (begun j d))) (sym is)
+    by_item (inl is) = subst (λ (j : ItemKind). Gets IsDraft (operands_in at j (begun j d))) (sym is)
         (name_item at d k)
     by_item (inr le) = operands_are at i (begun i d) le (others_begun labelled i d k stands le)
         (room_in labelled i d stands)
 
-item_is : (at : ℕ) (labelled : Bool) (i : Item) (d : Draft) → IsDraft d
+item_is : (at : ℕ) (labelled : Bool) (i : ItemKind) (d : Draft) → IsDraft d
     → Gets IsDraft (item_in at labelled i d)
 unfolding item_in
 item_is at labelled i d k =

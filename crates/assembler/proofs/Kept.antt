@@ -19,9 +19,9 @@ use Rattle.asm_labels.specs.declared.labels.Label.{Label}
 use Rattle.asm_labels.specs.Labels.{AreWithin}
 use Rattle.asm_labels.specs.Patch.{instr_in, some_immediate, has_immediate, has_immediate_at}
 use Rattle.asm_labels.specs.References.{Reference, IsReady, IsFrom, behind, AreReady}
-use Rattle.asm_fields.specs.declared.directives.Item.{Item}
-use Rattle.asm_draft.specs.declared.header.Header.{Header}
-use Rattle.asm_fields.specs.declared.directives.Item.TheVariants as item
+use Rattle.asm_fields.specs.declared.directives.ItemKind.{ItemKind}
+use Rattle.asm_draft.specs.declared.header.TextHeader.{TextHeader}
+use Rattle.asm_fields.specs.declared.directives.ItemKind.TheVariants as item
 use Rattle.asm_draft.specs.Order.{rank, rank_of}
 use Rattle.asm_draft.specs.Tables.{Tables}
 use Rattle.asm_draft.specs.Draft.{Draft}
@@ -38,7 +38,7 @@ pub record WordsKept (labels : List (List ℕ × Label)) (references : List Refe
   pub data_fits : AreWords data_words
 
 -- all but the name
-pub record HeaderKept (h : Header) : Type 0 where
+pub record HeaderKept (h : TextHeader) : Type 0 where
   pub stack_base : h.stack_base ≤ LAST_PLACE
   pub closure : h.closure ≤ LAST_PLACE
   pub seals : StretchFits h.seals.base h.seals.count
@@ -60,7 +60,7 @@ pub record TablesKept (t : Tables) : Type 0 where
   pub ordered : t.out_of_order ≡ None → AreOrdered t
 
 -- what has come with the last item
-pub record Came (last : Option Item) (name : List ℕ) (code data_words : List Word) : Type 0 where
+pub record Came (last : Option ItemKind) (name : List ℕ) (code data_words : List Word) : Type 0 where
   pub name_came : 1 ≤ rank_of last → IsTrue (is_name name)
   pub code_came : rank item.Data ≤ rank_of last → 1 ≤ length code
   pub data_came : rank item.Import ≤ rank_of last → 1 ≤ length data_words

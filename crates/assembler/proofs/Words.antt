@@ -27,7 +27,7 @@ use Rattle.asm_fields.specs.declared.directives.WordKind.TheVariants.{Int, Cap, 
 use Rattle.asm_fields.specs.declared.fault.AsmFault.TheVariants as fault
 use Rattle.asm_fields.specs.Fields.{place, at_sign, percent}
 use Rattle.asm_fields.specs.Fields.{meant, proper_name_from, sign_at, end_at}
-use Rattle.asm_fields.specs.Names.{named, perm_named, lin_named}
+use Rattle.cap_words.specs.Text.{named, perm_named, lin_named}
 use Rattle.asm_fields.specs.Words.{i64_at, cap_at, seals_at, word_behind, word_line}
 use Rattle.asm_fields.specs.Instrs.{Last, Plain, Code, Data, plain, reg_at, plain_at, last_at, shape_of}
 use Rattle.asm_fields.specs.Instrs.{row_named, is_imm}

@@ -6,7 +6,7 @@ ghost use Rattle.readers.specs.Answers.{AnswersUnlessRefused};
 ghost use Rattle.asm_fields.specs.Fault.{is_refusal};
 ghost use Rattle.assembler.specs.Assembled.{finished, assembled};
 
-use asm_draft::{Draft, Parts, draft_of};
+use asm_draft::{Draft, DraftParts, draft_of};
 use asm_fields::AsmFault;
 use cap_words::Items;
 use component_file::{Component, ComponentFields};
@@ -20,7 +20,7 @@ fn component_of(draft: Draft<'_>) -> Result<ComponentFields, AsmFault>
     requires few { length draft.code ≤ MOST_WORDS }
     ensures { result ≡ finished draft.entry }
 {
-    let Parts {
+    let DraftParts {
         header,
         labels,
         references,

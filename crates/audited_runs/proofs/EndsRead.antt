@@ -1,5 +1,5 @@
 -- The end line of a run is read by an audit as one.
-use Rattle.std.proofs.Common.{◌≡◌, ℕ, zero, suc, ◌+◌, ◌<◌, ◌^◌, ◌≤◌, Bool, true, false, List, [], ◌∷◌, ◌++◌}
+use Rattle.std.proofs.Common.{◌≡◌, ℕ, ◌+◌, ◌<◌, ◌^◌, Bool, true, false, List, [], ◌∷◌, ◌++◌}
 use Rattle.std.proofs.Common.{Some}
 use Rattle.std.proofs.Common.{refl, ap, arith, append_assoc, append-nil}
 use Rattle.std.specs.Prelude.{codes, decimal, is_some, ◌||◌}
@@ -16,7 +16,7 @@ use Rattle.lcm_machine.specs.declared.Step.TheVariants.{Went, Halted, Failed}
 use Rattle.lcm_machine.specs.Places.{reg}
 use Rattle.lcm_machine.specs.Fitting.{MapsFit}
 use Rattle.lcm_machine.specs.Run.{Run, plain}
-use Rattle.lcm_machine.proofs.Offers.{count_next}
+use Rattle.lcm_machine.proofs.Offers.{plain_count}
 use Rattle.trace_tool.specs.EndLines.{cause_text, pc_text}
 use Rattle.line_fields.specs.Cuts.{behind}
 use Rattle.line_fields.specs.Numbers.{number_in}
@@ -118,12 +118,6 @@ end_read (Failed f at) r h =
     (regroup_two (codes "failed") (codes " ") (pc_text w) (cause_text f) (codes "steps") (decimal r.count))
     (record { all = refl }) (pc_high w, (cause_high f, (steps_high, (decimal_high r.count, tt))))
     (failed_at w f r.count (fits_has_text w h.pc) h.count)
-
--- ---- the count
-
-plain_count : (n : ℕ) (r : Run) → (plain n r).count ≤ r.count + n
-plain_count zero r = omega arith
-plain_count (suc n) r = let a = plain_count n r in let b = count_next (plain n r) in omega (arith, a, b)
 
 pub end_fits : (n : ℕ) (r : Run) → r.count ≡ 0 → n < 2 ^ 64 → MapsFit (plain n r).maps → EndFits (plain n r)
 end_fits n r none small h = record {

@@ -24,11 +24,10 @@ use Rattle.trace_tool.specs.Told.{step_lines, Told, none_yet, and_then}
 use Rattle.trace_tool.specs.OpenCalls.{LineTold}
 use Rattle.trace_tool.specs.Brackets.{mark_of, marks_in, line_told, lines_told, LinesAreBracketed}
 use Rattle.run_audit.specs.declared.line.Line.TheVariants.{Call, Ret, Enter}
-use Rattle.run_audit.specs.Told.{ToldSeen, same_told}
 use Rattle.run_audit.specs.Traces.{IsWide}
 use Rattle.run_audit.specs.Audit.{OpenSeen, below_newest, stepped, audit_on as goes_on_with}
 use Rattle.run_audit.specs.Audit.{followed}
-use Rattle.run_audit.proofs.Offers.{told_decides, wide_true, followed_append}
+use Rattle.run_audit.proofs.Offers.{told_same, wide_true, followed_append}
 use Rattle.audited_runs.specs.Audited.{told_seen, line_seen}
 
 as_many : {A B : Type 0} (f : A → B) (xs : List A) → length (map f xs) ≡ length xs
@@ -79,9 +78,6 @@ below : (f : LineTold) (fs : List LineTold) → Below f fs
 below f [] h = refl
 below f (g ∷ gs) h = lt-ltb _ _ h
 
-same : (t : ToldSeen) → same_told t t ≡ true
-same t = (told_decides t t).1 refl
-
 opens_one : (f : LineTold) (fs : List LineTold) (n : ℕ) (b : Bool) → Lie (f ∷ fs)
     → stepped (opened_at fs b) n (Call (told_seen f)) ≡ Ok (opened_at (f ∷ fs) false)
 unfolding stepped
@@ -90,7 +86,8 @@ opens_one f fs n b h = let w = wide_true (told_seen f) h.0 in let v = below f fs
 closes_one : (f : LineTold) (fs : List LineTold) (n : ℕ) (b : Bool) → Lie (f ∷ fs)
     → stepped (opened_at (f ∷ fs) b) n (Ret (told_seen f)) ≡ Ok (opened_at fs false)
 unfolding stepped
-closes_one f fs n b h = let w = wide_true (told_seen f) h.0 in let v = same (told_seen f) in rw (w, v) refl
+closes_one f fs n b h = let w = wide_true (told_seen f) h.0 in let v = told_same (told_seen f) in rw (w, v)
+    refl
 
 -- of the events but an entry
 one : (x : Line) (ps qs : List LineTold) → (b : Bool) → IsNoPass x → Brackets LineTold ps (mark_of x ++ []) qs

@@ -1,27 +1,21 @@
 -- A text of lines that fit and spoil nothing, and of an end line, is a trace.
-use Rattle.std.proofs.Common.{◌≡◌, ℕ, ◌+◌, false, List, [], ◌∷◌, ◌++◌, Some, Ok, Err}
-use Rattle.std.proofs.Common.{Result, refl, ap, ◌∙◌, arith}
+use Rattle.std.proofs.Common.{◌≡◌, ℕ, ◌+◌, false, List, [], ◌∷◌, ◌++◌, Some, Ok}
+use Rattle.std.proofs.Common.{refl, ap, ◌∙◌, arith}
 use Rattle.std.specs.Prelude.{map}
 use Rattle.trace_tool.specs.Lines.{Line, call, ret, enter, pass, leave}
 use Rattle.trace_tool.specs.Texts.{lines_text}
 use Rattle.trace_tool.specs.Fits.{LinesFit}
 use Rattle.line_fields.specs.Fields.{lines}
 use Rattle.run_items.proofs.Offers.{body, IsPassedOver, lines_are, end_line_is}
-use Rattle.run_audit.specs.declared.fault.AuditFault.{AuditFault}
 use Rattle.run_audit.specs.declared.line.Line.TheVariants.{End}
 use Rattle.run_audit.specs.Lines.{line_in, is_end}
 use Rattle.run_audit.specs.Audit.{OpenSeen, nothing_open, audit_on, judged, stepped, followed, audited}
 use Rattle.run_audit.specs.Audit.{audited_from}
 use Rattle.run_audit.specs.Traces.{IsTrace}
-use Rattle.run_audit.proofs.Offers.{before_more, judged_event, answered_trace}
+use Rattle.run_audit.proofs.Offers.{before_more, first_went, judged_event, answered_trace}
 use Rattle.line_fields.proofs.Offers.{parts_some}
 use Rattle.audited_runs.specs.Audited.{line_seen}
 use Rattle.audited_runs.proofs.Spelled.{line_read}
-
-first_went : (r : Result OpenSeen AuditFault) (f : OpenSeen → Result OpenSeen AuditFault) (u : OpenSeen)
-    → audit_on r f ≡ Ok u → (s : OpenSeen) × (r ≡ Ok s) × (f s ≡ Ok u)
-first_went (Ok s) f u h = (s, refl, h)
-first_went (Err e) f u h = absurd cc
 
 pub no_end : (l : Line) → is_end (line_seen l) ≡ false
 no_end (call inward part site base last args words) = refl

@@ -14,9 +14,9 @@ use Rattle.trace_tool.specs.Texts.{direction, field, words_text, args_text, plac
 use Rattle.trace_tool.specs.Fits.{AllOf, ArgsOf, LineFits}
 use Rattle.line_fields.specs.Words.{HasText, is_word}
 use Rattle.line_fields.specs.Fields.{meant, tested, whole}
-use Rattle.line_fields.proofs.Offers.{fits_has_text, text_is_word}
+use Rattle.line_fields.proofs.Offers.{fits_has_text, text_is_back, text_is_handed, text_is_word}
 use Rattle.run_items.proofs.Offers.{IsHigh, decimal_high, word_high, name_high, name_is, spaced, AllHigh}
-use Rattle.run_items.proofs.Offers.{fields_are, words_spaced, words_high, natural_again, back_read, pair_read}
+use Rattle.run_items.proofs.Offers.{fields_are, words_spaced, words_high, natural_again}
 use Rattle.run_items.proofs.Offers.{back_high, pair_high, body}
 use Rattle.run_audit.specs.declared.line.Line.TheVariants.{Enter, Pass, Leave}
 use Rattle.run_audit.specs.declared.line.Line.{Line as AuditLine}
@@ -231,7 +231,7 @@ enter_at part export stk a back h =
     let x1 = word_read a.a1 h.3.1 in
     let x2 = word_read a.a2 h.3.2 in
     let x3 = word_read a.a3 h.3.3 in
-    let b = back_read back h.4 in
+    let b = text_is_back back (back_text back) (h.4, refl) in
     rw (p, e, s, x0, x1, x2, x3, b) refl
 
 -- ---- pass lines
@@ -253,9 +253,9 @@ pass_at : (p0 p1 p2 : FeedPair) → LineHasText (pass p0 p1 p2)
     → one_line (codes "pass" ∷ pass_fields p0 p1 p2) ≡ Some (Pass, [])
 unfolding one_line line_named passed meant
 pass_at p0 p1 p2 h =
-    let x0 = pair_read p0 h.0 in
-    let x1 = pair_read p1 h.1 in
-    let x2 = pair_read p2 h.2 in
+    let x0 = text_is_handed p0 (pair_text p0) (h.0, refl) in
+    let x1 = text_is_handed p1 (pair_text p1) (h.1, refl) in
+    let x2 = text_is_handed p2 (pair_text p2) (h.2, refl) in
     let some = some_told (is_pair p0) (is_pair p1) (is_pair p2) h.3 in
     rw (x0, x1, x2, some) refl
 

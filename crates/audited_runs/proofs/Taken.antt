@@ -1,4 +1,5 @@
 -- What is taken from the front of fields is a text of what it is read as.
+use Rattle.std.proofs.Common.{append-nil}
 use Rattle.std.proofs.Common.{◌≡◌, ℕ, ◌≤◌, ◌<◌, ◌^◌, Bool, true, false, List, [], ◌∷◌, ◌++◌, Option}
 use Rattle.std.proofs.Common.{Some, None, refl, sym, ap, ◌∙◌}
 use Rattle.std.specs.Prelude.{codes, decimal, map, is_some, ◌||◌}
@@ -22,7 +23,7 @@ use Rattle.line_fields.specs.Forms.{back_in, handed_in}
 use Rattle.line_fields.specs.Fields.{Reader, reads_on, done, field, unless_none, meant, tested, fields}
 use Rattle.line_fields.specs.Fields.{whole}
 use Rattle.line_fields.proofs.Offers.{number_is, chosen, word_is, back_is, handed_is}
-use Rattle.run_items.proofs.Offers.{spaced, no_rest}
+use Rattle.run_items.proofs.Offers.{spaced}
 use Rattle.run_audit.specs.Lines.{is_direction, registers, words_left}
 use Rattle.audited_runs.proofs.Spelled.{dir_text}
 use Rattle.trace_tool.specs.Fits.{AllOf}
@@ -199,7 +200,7 @@ words_taken ts xs rest h =
 -- ---- a line by its fields
 
 joined : (t : List ℕ) (ts : Fields) → join_with_byte 32 (t ∷ ts) ≡ t ++ spaced ts
-joined t [] = sym (no_rest t)
+joined t [] = sym (append-nil t)
 joined t (u ∷ us) = ap (λ v. t ++ 32 ∷ v) (joined u us)
 
 pub by_fields : (text t : List ℕ) (ts : Fields) → fields text ≡ t ∷ ts → text ≡ t ++ spaced ts

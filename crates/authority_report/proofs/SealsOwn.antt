@@ -22,7 +22,7 @@ use Rattle.lcm_machine.specs.Cells.{cell}
 use Rattle.component_linker.specs.declared.owners.Owner.{Owner}
 use Rattle.component_linker.specs.Owners.{owner_of}
 use Rattle.component_linker.specs.Parts.{PartSeen}
-use Rattle.component_linker.specs.Regions.{Apart, part_regions, region, stack_span, in_region, in_regions}
+use Rattle.component_linker.specs.Regions.{part_regions, region, stack_span, in_region, in_regions}
 use Rattle.component_linker.specs.Start.{Exported, code_half, data_half, stack_base_of, start_regs}
 use Rattle.component_linker.specs.Started.{StartSeen}
 use Rattle.component_linker.specs.Linked.{HasRange}
@@ -30,7 +30,7 @@ use Rattle.component_linker.specs.SealsApart.{is_seal_of as is_seal}
 use Rattle.component_linker.proofs.Offers.{whole, code_in, data_in, linear_in, stack_in, in_regions_is}
 use Rattle.component_linker.proofs.Offers.{apart_parts, apart_stack, size_bounds, IsExport, CellIs, of_code}
 use Rattle.component_linker.proofs.Offers.{of_data, of_slot, of_none, cell_is, OwnCap, over_code, over_data}
-use Rattle.component_linker.proofs.Offers.{over_linear, OwnWord, own_code, own_data, parts_apart}
+use Rattle.component_linker.proofs.Offers.{over_linear, OwnWord, no_overlap, own_code, own_data, parts_apart}
 use Rattle.authority_report.specs.Reaches.{is_seal_of, whole_code, whole_data}
 use Rattle.authority_report.specs.Within.{Authority, CapWithin, IsWithin}
 use Rattle.authority_report.specs.Entered.{IsLinked}
@@ -51,10 +51,6 @@ over_area rs a h =
     let r = x.1 in
     let k = and_parts (nat_le r.base a) (nat_le a r.end) x.4 in
     (r, (x.0, x.2, x.3), leb-true r.base a k.0, leb-true a r.end k.1)
-
-clash : (r q : Region) (a : ℕ) → Apart r q → r.base ≤ a → a ≤ r.end → q.base ≤ a → a ≤ q.end → ⊥
-clash r q a (inl e) low high below above = omega (arith, e, low, high, below, above)
-clash r q a (inr e) low high below above = omega (arith, e, low, high, below, above)
 
 -- the two ways to ask whether a seal is a part's
 own_seal : (p : PartSeen) (k n : ℕ) → is_seal_of (owner_of k p) n ≡ true → IsTrue (is_seal p n)
@@ -167,14 +163,15 @@ module _ (s : StartSeen) (here : IsLinked s) (k : ℕ) (p : PartSeen)
       as (λ _. p ≡ q) [
         | inl mine ↦ elim (cases_order k n) as (λ _. p ≡ q) [
           | inl same ↦ (let e : Some p ≡ Some q = sym at ∙ ap (slice_get parts) same ∙ there in cc)
-          | inr (inl lt) ↦ absurd (clash x.0 r a
+          | inr (inl lt) ↦ absurd (no_overlap x.0 r a
               (apart_parts parts size k n p q x.0 r apart lt at there mine is)
               x.2 x.3 low high)
-          | inr (inr gt) ↦ absurd (clash r x.0 a
+          | inr (inr gt) ↦ absurd (no_overlap r x.0 a
               (apart_parts parts size n k q p r x.0 apart gt there at is mine)
               low high x.2 x.3)
         ]
-        | inr stack ↦ absurd (clash r x.0 a (apart_stack parts size n q r x.0 apart there is stack) low high
+        | inr stack ↦ absurd
+            (no_overlap r x.0 a (apart_stack parts size n q r x.0 apart there is stack) low high
             x.2 x.3)
       ]
 

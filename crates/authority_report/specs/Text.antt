@@ -5,7 +5,7 @@ use Rattle.std.specs.List.{flat_map}
 use Rattle.cap_words.specs.Text.{field_text, newline}
 use Rattle.cap_words.specs.Stretch.{Stretch}
 use Rattle.component_linker.specs.declared.owners.Owner.{Owner}
-use Rattle.component_linker.specs.declared.owners.Call.{Call}
+use Rattle.component_linker.specs.declared.owners.CalledEntry.{CalledEntry}
 use Rattle.component_linker.specs.Start.{same_name}
 use Rattle.component_linker.specs.Started.{StartSeen}
 use Rattle.place_sets.specs.declared.spans.ReachSpan.{ReachSpan}
@@ -32,7 +32,7 @@ seals_line s =
     codes "seals" ++ field_text (decimal s.base) ++ field_text (decimal (s.base + s.count - 1)) ++ newline
 
 -- a call of an own entry is no exit
-abbrev pub exit_line : Owner → Call → List ℕ
+abbrev pub exit_line : Owner → CalledEntry → List ℕ
 exit_line o c =
     if same_name c.part o.name then [] else codes "exit" ++ field_text c.part ++ field_text c.name ++ newline
 

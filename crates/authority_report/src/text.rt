@@ -10,7 +10,7 @@ ghost use Rattle.authority_report.specs.Text.{exit_line, part_text, IsReachText}
 use crate::reach::Reach;
 use crate::reporting::{owner_at, report_of};
 use cap_words::{Items, SealRange};
-use component_linker::{Call, Owner, Start};
+use component_linker::{CalledEntry, Owner, Start};
 use itoa::Buffer;
 use place_sets::ReachSpan;
 use std::alloc::{AllocError, Global};
@@ -72,7 +72,7 @@ fn push_seals(text: &mut Vec<u8>, seals: &SealRange) -> Result<(), AllocError>
     end_line(text)
 }
 
-fn push_exit(text: &mut Vec<u8>, owner: &Owner, call: &Call) -> Result<(), AllocError>
+fn push_exit(text: &mut Vec<u8>, owner: &Owner, call: &CalledEntry) -> Result<(), AllocError>
     ensures { OnOk result (text.new.items ≡ text.old.items ++ exit_line owner.now call.now) }
 {
     if call.part.as_slice() == owner.name.as_slice() {

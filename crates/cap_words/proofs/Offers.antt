@@ -7,3 +7,5 @@ pub use Rattle.cap_words.proofs.Fields.{byte_reads, bytes_again, bytes_cut, byte
 pub use Rattle.cap_words.proofs.Fields.{number_reads, within_reads}
 -- a word is read where it is spelled, and spelled where it was read
 pub use Rattle.cap_words.proofs.Words.{unsealed_reads}
+-- a permission and a linearity are what their names are read as
+pub use Rattle.cap_words.proofs.Texts.{perm_again, lin_again}

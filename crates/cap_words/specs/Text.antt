@@ -1,5 +1,6 @@
 -- The text of a word, as bytes of ASCII: every number in it is decimal.
-use Rattle.std.specs.Prelude.{ℕ, ◌++◌, List, ℤ, codes, decimal}
+use Rattle.std.specs.Prelude.{ℕ, ◌++◌, List, [], ◌∷◌, ℤ, codes, decimal, find, Option}
+use Rattle.std.specs.Str.{bytes_eq}
 use Rattle.std.specs.Fmt.{signed_decimal}
 use Rattle.cap_words.specs.declared.Perm.{Perm}
 use Rattle.cap_words.specs.declared.Perm.TheVariants.{No, R as ReadOnly, Rw, Rx, Rwx}
@@ -24,6 +25,17 @@ perm_name Rwx = codes "rwx"
 abbrev pub lin_name : Lin → List ℕ
 lin_name Normal = codes "nor"
 lin_name Linear = codes "lin"
+
+-- the first that has the name
+abbrev pub named : {A : Type 0} → (A → List ℕ) → List A → List ℕ → Option A
+named name_of xs name = find (λ x. bytes_eq (name_of x) name) xs
+
+-- the permission of a name, and which of normal and linear a name is
+abbrev pub perm_named : List ℕ → Option Perm
+perm_named name = named perm_name (No ∷ ReadOnly ∷ Rw ∷ Rx ∷ Rwx ∷ []) name
+
+abbrev pub lin_named : List ℕ → Option Lin
+lin_named name = named lin_name (Normal ∷ Linear ∷ []) name
 
 -- a range, and the place that the capability points to: BASE,END,AT
 unfoldable pub range_text : ℕ → ℕ → ℤ → List ℕ

@@ -19,7 +19,7 @@ ghost use Rattle.cap_words.specs.Faces.{may_write, may_read, may_run, perm_numbe
 ghost use Rattle.cap_words.specs.Faces.{same_kind, int_in, memory_in, seals_in, face_linear, face_number};
 ghost use Rattle.cap_words.specs.Faces.{face_address, face_base, face_end, face_perm, seals_at, address};
 ghost use Rattle.cap_words.specs.Faces.{target_of};
-ghost use Rattle.cap_words.specs.Text.{perm_name, lin_name};
+ghost use Rattle.cap_words.specs.Text.{perm_name, lin_name, perm_named, lin_named};
 
 mod bytes;
 mod items;
@@ -121,6 +121,16 @@ impl Perm {
         }
     }
 
+    /// The permission of this name, and `None` exactly where none has it.
+    pub fn of_name(name: &[u8]) -> Option<Perm>
+        ensures { result ≡ perm_named name.now }
+    {
+        [Perm::No, Perm::R, Perm::Rw, Perm::Rx, Perm::Rwx]
+            .iter()
+            .copied()
+            .find(|perm| perm.name().as_bytes() == name)
+    }
+
     /// Whether it allows no more than `other`. A program may lower the permission of a
     /// capability that it has, and never raise it. Neither of `rw` and `rx` is below the other.
     pub fn is_below(self, other: Perm) -> bool
@@ -164,6 +174,16 @@ impl Lin {
             Lin::Normal => "nor",
             Lin::Linear => "lin",
         }
+    }
+
+    /// Which of the two has this name, and `None` exactly where neither has it.
+    pub fn of_name(name: &[u8]) -> Option<Lin>
+        ensures { result ≡ lin_named name.now }
+    {
+        [Lin::Normal, Lin::Linear]
+            .iter()
+            .copied()
+            .find(|lin| lin.name().as_bytes() == name)
     }
 }
 

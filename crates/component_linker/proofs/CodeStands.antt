@@ -25,6 +25,7 @@ use Rattle.component_file.specs.declared.component.ComponentFields.{ComponentFie
 use Rattle.component_file.specs.declared.component.Export.{Export}
 use Rattle.component_file.specs.Limits.{IsComponent}
 use Rattle.component_check.specs.Rules.{c12, is_zero_word, code_at, is_over_seals, has_sites}
+use Rattle.call_sequence.specs.declared.TheConstants.{CALL_WORDS}
 use Rattle.call_sequence.specs.Sequences.{call_code, return_code, entry_code}
 use Rattle.call_sequence.specs.Standing as seq
 use Rattle.flow_check.specs.Verdict.{IsKept}
@@ -281,10 +282,11 @@ trusted_stand sites entries parts size s each linked start k p at trusted =
               (subst (λ n. seq.CodeStands p.component.code n (call_code literal.offset n index))
               o (subst (λ l. seq.CodeStands p.component.code (slice_index p.component.sites index)
               (call_code l (slice_index p.component.sites index) index)) lit x.call));
-          back = stands (offset + 16) (return_code fail.offset (offset + 16) p.component.stack_base)
-              (subst (λ n. seq.CodeStands p.component.code (n + 16)
-              (return_code fail.offset (n + 16) p.component.stack_base)) o
-              (subst (λ f. seq.CodeStands p.component.code (slice_index p.component.sites index + 16)
-              (return_code f (slice_index p.component.sites index + 16) p.component.stack_base))
+          back = stands (offset + CALL_WORDS)
+              (return_code fail.offset (offset + CALL_WORDS) p.component.stack_base)
+              (subst (λ n. seq.CodeStands p.component.code (n + CALL_WORDS)
+              (return_code fail.offset (n + CALL_WORDS) p.component.stack_base)) o
+              (subst (λ f. seq.CodeStands p.component.code (slice_index p.component.sites index + CALL_WORDS)
+              (return_code f (slice_index p.component.sites index + CALL_WORDS) p.component.stack_base))
               same x.back));
         }

@@ -58,3 +58,5 @@ pub use Rattle.component_linker.proofs.PairStart.{cells_filled, owners_are, owne
 unfoldable pub use Rattle.component_linker.proofs.PairStart.{filled}
 -- the start of the instance
 pub use Rattle.component_linker.proofs.ExampleLink.{cells_are, has_room, spans, start, starts}
+-- an address lies in one of two regions that are apart
+pub use Rattle.component_linker.proofs.StartHeld.{no_overlap}

@@ -1,4 +1,5 @@
 -- What the rules C say of a part, as the start rests on it.
+use Rattle.call_sequence.specs.declared.TheConstants.{SITE_WORDS}
 use Rattle.std.proofs.Common.{◌≡◌, ℕ, zero, suc, ◌+◌, ◌-◌, ◌<◌, ◌≤◌, ◌⊎◌, inl, inr, Bool, true, false, not}
 use Rattle.std.proofs.Common.{List, length, Option, Some, None, refl, sym, ap, subst, ◌∙◌, arith, map}
 use Rattle.std.specs.Prelude.{slice_get, slice_index, nat_le, nat_lt, ◌&&◌, ◌||◌, is_some, option_map}
@@ -250,14 +251,14 @@ sites_in p h trusted k o e =
     nowhere (lists p.component) (h.flow trusted).placed 1 k (k1 p.component)
     refl (slice_get_within p.component.sites k o e) in
     let at : slice_index p.component.sites k ≡ o = get_or_from_slice_get p.component.sites k o 0 e in
-    let P : ℕ → Type 0 = λ s. s + 26 ≤ length p.component.code in
+    let P : ℕ → Type 0 = λ s. s + SITE_WORDS ≤ length p.component.code in
     let room = subst P at (has_room (length p.component.code) (slice_index p.component.sites k) _ fits) in
     omega (arith, room)
   where
-    has_room : (n s : ℕ) (b : Bool) → (nat_lt n (s + 26) || b) ≡ false → s + 26 ≤ n
-    has_room n s b e = by_test (nat_lt n (s + 26)) refl
+    has_room : (n s : ℕ) (b : Bool) → (nat_lt n (s + SITE_WORDS) || b) ≡ false → s + SITE_WORDS ≤ n
+    has_room n s b e = by_test (nat_lt n (s + SITE_WORDS)) refl
       where
-        by_test : (t : Bool) → nat_lt n (s + 26) ≡ t → s + 26 ≤ n
+        by_test : (t : Bool) → nat_lt n (s + SITE_WORDS) ≡ t → s + SITE_WORDS ≤ n
         by_test true f = let g : true ≡ false = sym (ap (λ t. t || b) f) ∙ e in cc
         by_test false f = grind (arith, nat_tests)
 

@@ -348,7 +348,7 @@ linear_holder parts size a place c linked (over_stack here is) lin low high =
 linear_holder parts size a place c linked (own_word k i p at word here) lin low high =
     a_word k i p c at word here lin low high (linear_range p c lin ((linked.closed.kept k p at).own i c word))
 
-no_overlap : (r q : Region) (a : ℕ) → Apart r q → r.base ≤ a → a ≤ r.end → q.base ≤ a → a ≤ q.end → ⊥
+pub no_overlap : (r q : Region) (a : ℕ) → Apart r q → r.base ≤ a → a ≤ r.end → q.base ≤ a → a ≤ q.end → ⊥
 no_overlap r q a (inl e) low high below above = omega (arith, e, low, high, below, above)
 no_overlap r q a (inr e) low high below above = omega (arith, e, low, high, below, above)
 

@@ -9,7 +9,7 @@ use Rattle.component_file.specs.declared.component.Import.{Import}
 use Rattle.component_linker.specs.declared.owners.Site.{Site}
 use Rattle.component_linker.specs.declared.owners.Owner.{Owner}
 use Rattle.component_linker.specs.declared.owners.Entry.{Entry}
-use Rattle.component_linker.specs.declared.owners.Call.{Call}
+use Rattle.component_linker.specs.declared.owners.CalledEntry.{CalledEntry}
 use Rattle.component_linker.specs.Parts.{PartSeen}
 use Rattle.component_linker.specs.Regions.{addresses}
 
@@ -64,7 +64,7 @@ pub record AreSites (parts : List PartSeen) (sites : List Site) : Type 0 where
 abbrev pub placed_entry : ComponentFields → Export → Entry
 placed_entry c e = record { name = e.name; at = c.code_base + e.offset }
 
-abbrev pub call_of : ComponentFields → Import → Call
+abbrev pub call_of : ComponentFields → Import → CalledEntry
 call_of c i = record { part = i.part; name = i.name; at = c.data_base + i.slot }
 
 -- who a part is, in its place among the parts

@@ -23,7 +23,7 @@ mod whole;
 
 pub use fault::{LinkFault, RuleAt};
 pub use linking::link;
-pub use owners::{Call, Entry, Owner, Site};
+pub use owners::{CalledEntry, Entry, Owner, Site};
 pub use part::{Part, accept};
 pub use site_list::SiteList;
 pub use started::Start;

@@ -54,12 +54,12 @@ pub struct Owner {
     /// Its entries, shared or not, in the order of their names.
     pub entries: Items<Entry>,
     /// What its slots name, in their order.
-    pub calls: Items<Call>,
+    pub calls: Items<CalledEntry>,
 }
 
 /// What a slot of a part's data names: an entry of another part, or of the part itself.
 #[derive(Debug, Drop)]
-pub struct Call {
+pub struct CalledEntry {
     /// The name of the part that has the entry.
     pub part: Items<u8>,
     /// The entry's name there.
@@ -141,14 +141,14 @@ fn entries_of(alloc: Global, part: &Placed<'_>) -> Result<Items<Entry>, AllocErr
 }
 
 // What the slots of a part name, one for each import.
-fn calls_of(alloc: Global, part: &Placed<'_>) -> Result<Items<Call>, AllocError>
+fn calls_of(alloc: Global, part: &Placed<'_>) -> Result<Items<CalledEntry>, AllocError>
     requires { Kept part.now }
     ensures { let c = part.now.component in IfOk result (λ calls. calls ≡ map (call_of c) c.imports) }
 {
     let base = part.data_base();
     let mut calls = Vec::new(alloc);
     for import in part.imports() {
-        calls.push(Call {
+        calls.push(CalledEntry {
             part: copy_name(alloc, import.part.as_slice())?,
             name: copy_name(alloc, import.name.as_slice())?,
             at: base + import.slot,

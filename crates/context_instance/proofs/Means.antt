@@ -8,7 +8,7 @@ use Rattle.source_events.specs.declared.Item.TheVariants.{Enter, Ret}
 use Rattle.source_events.specs.declared.FeedBack.{FeedBack}
 use Rattle.source_events.specs.declared.FeedBack.TheVariants as way
 use Rattle.proc_language.specs.declared.tree.Op.TheVariants.{Plus}
-use Rattle.proc_program.specs.declared.program.Part.{Part}
+use Rattle.proc_program.specs.declared.program.Program.{Program}
 use Rattle.proc_program.specs.declared.program.Procedure.{Procedure}
 use Rattle.proc_semantics.specs.declared.value.Target.{Target}
 use Rattle.proc_semantics.specs.declared.value.Value.TheVariants.{Num}
@@ -95,7 +95,7 @@ module _ {T : Type 0} (part name : List ℕ) (need : ℕ) where
   tell k [] = []
   tell k (i ∷ is) = tell_item i k (tell (k + 1) is)
 
-module _ (U : Part) (Q : Procedure) (name : List ℕ) (one : U.procs ≡ Q ∷ []) (shared : Q.shared ≡ true)
+module _ (U : Program) (Q : Procedure) (name : List ℕ) (one : U.procs ≡ Q ∷ []) (shared : Q.shared ≡ true)
     (named : Q.name ≡ name) (plain : Q.callbacks ≡ false ∷ []) (Inv : Store → Type 0) (c : ℕ)
     (after : ℤ → Store → Store) (kept : (v : ℤ) (st : Store) → Inv st → Inv (after v st))
     (body : (l : Level M) (f : Frame Whence ℕ) (v : ℤ) (k : Then M) (st : Store) → f.home ≡ 0 → Inv st

@@ -9,7 +9,7 @@ use Rattle.source_events.specs.declared.FeedBack.{FeedBack}
 use Rattle.source_events.specs.declared.FeedBack.TheVariants as way
 use Rattle.proc_language.specs.declared.tree.Op.TheVariants.{Plus}
 use Rattle.proc_names.specs.Names.{variable_named}
-use Rattle.proc_program.specs.declared.program.Part.{Part}
+use Rattle.proc_program.specs.declared.program.Program.{Program}
 use Rattle.proc_program.specs.declared.program.Procedure.{Procedure}
 use Rattle.proc_program.specs.Lower.{part_of}
 use Rattle.proc_semantics.specs.declared.value.Value.TheVariants.{Num}
@@ -28,10 +28,10 @@ abbrev first : List Procedure → Procedure
 first [] = record { name = []; shared = false; callbacks = []; locals = 0; need = 0; body = [] }
 first (p ∷ ps) = p
 
-abbrev U : Part
+abbrev U : Program
 U = part_of sums
 
-abbrev V : Part
+abbrev V : Program
 V = part_of keeps
 
 -- ---- the first
@@ -147,14 +147,15 @@ no_main_too = refl
 -- what is observed of a module without main, by what is told of it
 observed_is : (W : World) (size : ℕ) (feed : List Item) (f : ℕ) (es : List (Event Whence ℕ))
     → main_target W ≡ None
-    → ((level M W (f + length (numbered_items 0 feed) + 1)).wait None (map (λ (u : Part). u.globals) W) None f
+    → ((level M W (f + length (numbered_items 0 feed) + 1)).wait None (map (λ (u : Program). u.globals) W)
+    None f
     (numbered_items 0 feed)).events ≡ es
     → observed W size feed f ≡ map (event_to (name_of W) (λ (k : ℕ). k)) es
 observed_is W size feed f es none e =
     ap (map (event_to (name_of W) (λ (k : ℕ). k)))
     (ap (λ t.
     (start M W (level M W (f + length (numbered_items 0 feed) + 1)) size t
-    (map (λ (u : Part). u.globals) W) None f
+    (map (λ (u : Program). u.globals) W) None f
     (numbered_items 0 feed)).events) none ∙ e)
 
 pub mean_the_same : (size : ℕ) → MeanTheSame (map part_of (sums ∷ [])) (map part_of (keeps ∷ [])) size

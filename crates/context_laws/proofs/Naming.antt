@@ -21,8 +21,8 @@ use Rattle.overlay_machine.specs.Keeping.{HoldsFor}
 use Rattle.overlay_machine.proofs.Offers.{is_overlay}
 use Rattle.proc_language.specs.declared.module.ModuleFields.{ModuleFields}
 use Rattle.proc_program.specs.declared.program.Procedure.{Procedure}
-use Rattle.proc_program.specs.declared.program.Import as program
-use Rattle.proc_program.specs.declared.program.Part.{Part}
+use Rattle.proc_program.specs.declared.program.ProgramImport as program
+use Rattle.proc_program.specs.declared.program.Program.{Program}
 use Rattle.proc_program.specs.Lower.{part_of, import_of}
 use Rattle.proc_templates.specs.Compiled.{imports_of}
 use Rattle.proc_semantics.specs.Values.{World, home_part, proc_in, import_in}
@@ -96,7 +96,7 @@ module _ (begin : StartsBegin) (modules : List ModuleFields) (parts : List PartS
       by e f g DataHalf = g
 
   -- what a module has
-  source_at : (i : ℕ) (u : Part) → home_part W i ≡ Some u
+  source_at : (i : ℕ) (u : Program) → home_part W i ≡ Some u
       → (m : ModuleFields) × (slice_get modules i ≡ Some m) × (part_of m ≡ u)
   source_at i u e = by (slice_get modules i) refl (sym (slice_get-map part_of modules i) ∙ e)
     where
@@ -105,12 +105,12 @@ module _ (begin : StartsBegin) (modules : List ModuleFields) (parts : List PartS
       by None f g = absurd cc
       by (Some m) f g = (m, f, (let z : part_of m ≡ u = cc in z))
 
-  record Here (i : ℕ) (u : Part) : Type 0 where
+  record Here (i : ℕ) (u : Program) : Type 0 where
     pub part : PartSeen
     pub home : Home modules P i part
     pub same : part_of home.source ≡ u
 
-  here : (i : ℕ) (u : Part) → home_part W i ≡ Some u → Here i u
+  here : (i : ℕ) (u : Program) → home_part W i ≡ Some u → Here i u
   here i u e =
       let m = source_at i u e in
       let p = part_of_home modules P beside i m.0 m.1 in
@@ -118,7 +118,7 @@ module _ (begin : StartsBegin) (modules : List ModuleFields) (parts : List PartS
       let t : p.1.source ≡ m.0 = cc in
       record { part = p.0; home = p.1; same = ap part_of t ∙ m.2 }
 
-  own_by : (i j : ℕ) (x : PairHalf) (is' : List (Thing OWord Back)) (o : Option Part) → home_part W i ≡ o
+  own_by : (i j : ℕ) (x : PairHalf) (is' : List (Thing OWord Back)) (o : Option Program) → home_part W i ≡ o
       → (q : Option Procedure) → proc_in o j ≡ q
       → IsNamed P is' (own_name (rules.name_in o) q x) (where_there modules P s q
       (slot_in modules P s (slice_get (trusted_parts P) i)
@@ -129,20 +129,21 @@ module _ (begin : StartsBegin) (modules : List ModuleFields) (parts : List PartS
   own_by i j x is' (Some u) e (Some q) f =
       let h = here i u e in
       let at : slice_get (part_of h.home.source).procs j ≡ Some q =
-      ap (λ (v : Part). slice_get v.procs j) h.same ∙ f in
+      ap (λ (v : Program). slice_get v.procs j) h.same ∙ f in
       let n : imports_in modules P s (slice_get modules i) ≡ length (part_of h.home.source).imports =
       ap (imports_in modules P s) h.home.source_is ∙ sym (length-map h.home.source.imports import_of) in
       let w = slot_words i h.part h.home (length (part_of h.home.source).imports + j)
       (2 * (length (part_of h.home.source).imports + j)) (part_of h.home.source).name q.name
       (own_at (part_of h.home.source) j q at) in (
         w.0,
-        ap (λ (v : Part). imported P (by_name v.name q.name)) (sym h.same) ∙ w.1,
+        ap (λ (v : Program). imported P (by_name v.name q.name)) (sym h.same) ∙ w.1,
         ap (λ m. slot_in modules P s (slice_get (trusted_parts P) i) (half_at modules P s (2 * (m + j)) x)) n
             ∙ w.2 x,
       )
 
-  import_by : (i k : ℕ) (x : PairHalf) (is' : List (Thing OWord Back)) (o : Option Part) → home_part W i ≡ o
-      → (q : Option program.Import) → import_in o k ≡ q
+  import_by : (i k : ℕ) (x : PairHalf) (is' : List (Thing OWord Back)) (o : Option Program) → home_part W i
+      ≡ o
+      → (q : Option program.ProgramImport) → import_in o k ≡ q
       → IsNamed P is' (import_name q x) (where_there modules P s q
       (slot_in modules P s (slice_get (trusted_parts P) i) (half_at modules P s (2 * k) x)))
   import_by i k x is' None e None f = refl
@@ -151,7 +152,7 @@ module _ (begin : StartsBegin) (modules : List ModuleFields) (parts : List PartS
   import_by i k x is' (Some u) e (Some q) f =
       let h = here i u e in
       let at : slice_get (part_of h.home.source).imports k ≡ Some q =
-      ap (λ (v : Part). slice_get v.imports k) h.same ∙ f in
+      ap (λ (v : Program). slice_get v.imports k) h.same ∙ f in
       let w = slot_words i h.part h.home k (2 * k) q.part q.name (import_at (part_of h.home.source) k q at) in
       (w.0, w.1, w.2 x)
 

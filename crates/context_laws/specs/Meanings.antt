@@ -25,7 +25,7 @@ use Rattle.template_runs.specs.Runs.{is_inside}
 use Rattle.template_runs.specs.Public.{IsFreeAt}
 use Rattle.proc_language.specs.declared.module.ModuleFields.{ModuleFields}
 use Rattle.proc_program.specs.declared.program.Procedure.{Procedure}
-use Rattle.proc_program.specs.declared.program.Import.{Import as Imported}
+use Rattle.proc_program.specs.declared.program.ProgramImport.{ProgramImport as Imported}
 use Rattle.proc_program.specs.Lower.{part_of as program_of}
 use Rattle.source_events.specs.declared.Item.{Item}
 use Rattle.proc_semantics.specs.Values.{World, home_part, proc_in, import_in}

@@ -10,9 +10,9 @@ use Rattle.lcm_isa.proofs.Offers.{first_named, first_named-reg_name, named_found
 use Rattle.line_fields.specs.Cuts.{behind}
 use Rattle.line_fields.specs.Numbers.{number_in}
 use Rattle.line_fields.proofs.Offers.{number_again, number_is, some_from, some_of, chosen, behind_is}
-use Rattle.debug_script.specs.declared.command.Command.{Command}
-use Rattle.debug_script.specs.declared.command.Command.TheVariants.{Forward, Back, StopAt, Clear, Cell}
-use Rattle.debug_script.specs.declared.command.Command.TheVariants.{Register}
+use Rattle.debug_script.specs.declared.command.DebugCommand.{DebugCommand}
+use Rattle.debug_script.specs.declared.command.DebugCommand.TheVariants.{Forward, Back, StopAt, Clear, Cell}
+use Rattle.debug_script.specs.declared.command.DebugCommand.TheVariants.{Register}
 use Rattle.debug_script.specs.declared.TheConstants.{MOST_STEPS, LAST_ADDRESS}
 use Rattle.debug_script.specs.Commands.{Fits, command_text, steps_in, address_in, register_in, with_operand}
 use Rattle.debug_script.specs.Commands.{command_in}
@@ -67,7 +67,7 @@ named_is None text found none = by_read (register_in text) refl
 
 -- ---- commands
 
-pub command_again : (c : Command) → Fits c → command_in (command_text c) ≡ Some c
+pub command_again : (c : DebugCommand) → Fits c → command_in (command_text c) ≡ Some c
 unfolding command_in behind
 command_again (Forward n) h = ap (option_map Forward) (steps_again n h.0 h.1)
 command_again (Back n) h = ap (option_map Back) (steps_again n h.0 h.1)
@@ -76,11 +76,12 @@ command_again (Clear a) h = ap (option_map Clear) (address_again a h)
 command_again (Cell a) h = ap (option_map Cell) (address_again a h)
 command_again (Register r) h = ap (option_map Register) (register_again r)
 
-abbrev Is : List ℕ → Command → Type 0
+abbrev Is : List ℕ → DebugCommand → Type 0
 Is line c = Fits c × (line ≡ command_text c)
 
 -- what is read behind a front, or by what else is tried
-by_front : (front line : List ℕ) (meant : List ℕ → Option Command) (other : Option Command) (c : Command)
+by_front : (front line : List ℕ) (meant : List ℕ → Option DebugCommand) (other : Option DebugCommand)
+    (c : DebugCommand)
     → ((t : List ℕ) → line ≡ front ++ t → meant t ≡ Some c → Is line c) → (other ≡ Some c → Is line c)
     → with_operand (behind front line) meant other ≡ Some c → Is line c
 by_front front line meant other c here else_ h = by_operand (behind front line) refl h
@@ -91,7 +92,7 @@ by_front front line meant other c here else_ h = by_operand (behind front line) 
     by_operand (Some t) e k = here t (behind_is front line t e) k
 
 -- a command of steps
-of_steps : (make : ℕ → Command) (front line t : List ℕ) (c : Command)
+of_steps : (make : ℕ → DebugCommand) (front line t : List ℕ) (c : DebugCommand)
     → ((n : ℕ) → 1 ≤ n → n ≤ MOST_STEPS → line ≡ front ++ decimal n → Is line (make n))
     → line ≡ front ++ t → option_map make (steps_in t) ≡ Some c → Is line c
 of_steps make front line t c is e h =
@@ -100,7 +101,7 @@ of_steps make front line t c is e h =
     subst (Is line) k.2 (is k.0 s.0 s.1 (e ∙ ap (λ d. front ++ d) s.2))
 
 -- a command with an address
-of_address : (make : ℕ → Command) (front line t : List ℕ) (c : Command)
+of_address : (make : ℕ → DebugCommand) (front line t : List ℕ) (c : DebugCommand)
     → ((a : ℕ) → a ≤ LAST_ADDRESS → line ≡ front ++ decimal a → Is line (make a))
     → line ≡ front ++ t → option_map make (address_in t) ≡ Some c → Is line c
 of_address make front line t c is e h =
@@ -108,14 +109,14 @@ of_address make front line t c is e h =
     let s = number_is LAST_ADDRESS k.0 t (omega arith) k.1 in
     subst (Is line) k.2 (is k.0 s.0 (e ∙ ap (λ d. front ++ d) s.1))
 
-of_register : (line t : List ℕ) (c : Command) → line ≡ codes "r " ++ t
+of_register : (line t : List ℕ) (c : DebugCommand) → line ≡ codes "r " ++ t
     → option_map Register (register_in t) ≡ Some c → Is line c
 of_register line t c e h =
     let k = some_of (register_in t) Register c h in
     let s = register_is t k.0 k.1 in
     subst (Is line) k.2 (tt, e ∙ ap (λ d. codes "r " ++ d) s)
 
-pub command_is : (line : List ℕ) (c : Command) → command_in line ≡ Some c → Is line c
+pub command_is : (line : List ℕ) (c : DebugCommand) → command_in line ≡ Some c → Is line c
 unfolding command_in
 command_is line c h =
     by_front (codes "f ") line _ _ c
@@ -132,5 +133,5 @@ command_is line c h =
     h3) h2)
     h1) h
 
-pub commands_are_read : (line : List ℕ) (c : Command) → (command_in line ≡ Some c) ↔ Is line c
+pub commands_are_read : (line : List ℕ) (c : DebugCommand) → (command_in line ≡ Some c) ↔ Is line c
 commands_are_read line c = (command_is line c, λ is. ap command_in is.1 ∙ command_again c is.0)

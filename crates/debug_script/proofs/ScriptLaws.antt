@@ -15,9 +15,9 @@ use Rattle.lcm_isa.specs.Texts.{reg_name}
 use Rattle.line_fields.specs.Cuts.{cut, parts}
 use Rattle.line_fields.specs.Fields.{lines}
 use Rattle.line_fields.proofs.Offers.{parts_at, cut_is, is_free, cut_front, decimal_free}
-use Rattle.debug_script.specs.declared.command.Command.{Command}
-use Rattle.debug_script.specs.declared.command.Command.TheVariants.{Forward, Back, StopAt, Clear, Cell}
-use Rattle.debug_script.specs.declared.command.Command.TheVariants.{Register}
+use Rattle.debug_script.specs.declared.command.DebugCommand.{DebugCommand}
+use Rattle.debug_script.specs.declared.command.DebugCommand.TheVariants.{Forward, Back, StopAt, Clear, Cell}
+use Rattle.debug_script.specs.declared.command.DebugCommand.TheVariants.{Register}
 use Rattle.debug_script.specs.declared.fault.ScriptFault.{ScriptFault}
 use Rattle.debug_script.specs.declared.fault.ScriptFault.TheVariants.{Line}
 use Rattle.debug_script.specs.declared.TheConstants.{MOST_LINES, MOST_STEPS, LAST_ADDRESS}
@@ -50,7 +50,7 @@ register_free reg.G2 = refl
 number_free : (n most : ℕ) → n ≤ most → most < 2 ^ 64 → is_free 10 (decimal n) ≡ true
 number_free n most le small = decimal_free 10 n (inl (omega arith)) (omega (arith, le, small))
 
-text_free : (c : Command) → Fits c → is_free 10 (command_text c) ≡ true
+text_free : (c : DebugCommand) → Fits c → is_free 10 (command_text c) ≡ true
 text_free (Forward n) h = number_free n MOST_STEPS h.1 (omega arith)
 text_free (Back n) h = number_free n MOST_STEPS h.1 (omega arith)
 text_free (StopAt a) h = number_free a LAST_ADDRESS h (omega arith)
@@ -60,25 +60,25 @@ text_free (Register r) h = register_free r
 
 -- ---- texts of commands
 
-line_first : (c : Command) (rest : List ℕ) → command_line c ++ rest ≡ command_text c ++ 10 ∷ rest
+line_first : (c : DebugCommand) (rest : List ℕ) → command_line c ++ rest ≡ command_text c ++ 10 ∷ rest
 line_first c rest = append_assoc (command_text c) (10 ∷ []) rest
 
-text_first : (c : Command) (cs : List Command) (rest : List ℕ)
+text_first : (c : DebugCommand) (cs : List DebugCommand) (rest : List ℕ)
     → script_text (c ∷ cs) ++ rest ≡ command_text c ++ 10 ∷ (script_text cs ++ rest)
 text_first c cs rest =
     append_assoc (command_line c) (script_text cs) rest ∙ line_first c (script_text cs ++ rest)
 
 -- the first line of a text that begins with a command's
-cut_command : (c : Command) (back : List ℕ) → Fits c
+cut_command : (c : DebugCommand) (back : List ℕ) → Fits c
     → cut 10 (command_text c ++ 10 ∷ back) ≡ Some (command_text c, back)
 cut_command c back h = cut_front 10 (command_text c) back (text_free c h)
 
-command_there : (n : ℕ) (c : Command) → n ≤ MOST_LINES → Fits c → command_at n (command_text c) ≡ Some c
+command_there : (n : ℕ) (c : DebugCommand) → n ≤ MOST_LINES → Fits c → command_at n (command_text c) ≡ Some c
 command_there n c le h =
     let few : nat_le n MOST_LINES ≡ true = le-leb n MOST_LINES le in
     rw few (command_again c h)
 
-one_more : (n : ℕ) (c : Command) (cs : List Command) (rest : List ℕ) → n ≤ MOST_LINES → Fits c
+one_more : (n : ℕ) (c : DebugCommand) (cs : List DebugCommand) (rest : List ℕ) → n ≤ MOST_LINES → Fits c
     → scripted_from n (lines (script_text (c ∷ cs) ++ rest))
     ≡ with_command n (Some c) (scripted_from (n + 1) (lines (script_text cs ++ rest)))
 one_more n c cs rest le h =
@@ -94,14 +94,14 @@ nothing_left n = refl
 
 -- ---- a script is read
 
-read_from : (n : ℕ) (cs : List Command) → All Fits cs → n + length cs ≤ MOST_LINES + 1
+read_from : (n : ℕ) (cs : List DebugCommand) → All Fits cs → n + length cs ≤ MOST_LINES + 1
     → scripted_from n (lines (script_text cs ++ [])) ≡ Ok cs
 read_from n [] fit few = nothing_left n
 read_from n (c ∷ cs) fit few =
     one_more n c cs [] (omega (arith, few)) (All-head Fits c cs fit)
     ∙ ap (with_command n (Some c)) (read_from (n + 1) cs (All-tail Fits c cs fit) (omega (arith, few)))
 
-pub script_read : (text : List ℕ) (cs : List Command) → AreCommands cs → text ≡ script_text cs
+pub script_read : (text : List ℕ) (cs : List DebugCommand) → AreCommands cs → text ≡ script_text cs
     → scripted text ≡ Ok cs
 unfolding scripted
 script_read text cs are e =
@@ -110,24 +110,25 @@ script_read text cs are e =
 
 -- ---- what is read is a script
 
-first_ok : (n : ℕ) (o : Option Command) (r : Result (List Command) ScriptFault) (cs : List Command)
+first_ok : (n : ℕ) (o : Option DebugCommand) (r : Result (List DebugCommand) ScriptFault)
+    (cs : List DebugCommand)
     → with_command n o r ≡ Ok cs
-    → (c : Command) × (more : List Command) × (o ≡ Some c) × (r ≡ Ok more) × (cs ≡ c ∷ more)
+    → (c : DebugCommand) × (more : List DebugCommand) × (o ≡ Some c) × (r ≡ Ok more) × (cs ≡ c ∷ more)
 first_ok n None r cs h = absurd cc
 first_ok n (Some c) (Ok more) cs h = (c, more, refl, refl, cc)
 first_ok n (Some c) (Err e) cs h = absurd cc
 
-end_ok : (n : ℕ) (last : List ℕ) (cs : List Command) → at_end n last ≡ Ok cs → (last ≡ []) × (cs ≡ [])
+end_ok : (n : ℕ) (last : List ℕ) (cs : List DebugCommand) → at_end n last ≡ Ok cs → (last ≡ []) × (cs ≡ [])
 end_ok n [] cs h = (refl, cc)
 end_ok n (b ∷ bs) cs h = absurd cc
 
 -- what a text of lines is, where it is read
-record IsRead (n : ℕ) (ls : List (List ℕ)) (cs : List Command) : Type 0 where
+record IsRead (n : ℕ) (ls : List (List ℕ)) (cs : List DebugCommand) : Type 0 where
   fit : All Fits cs
   few : n + length cs ≤ MOST_LINES + 1
   text : join_with_byte 10 ls ≡ script_text cs
 
-read_is : (n : ℕ) (ls : List (List ℕ)) (cs : List Command) → n ≤ MOST_LINES + 1
+read_is : (n : ℕ) (ls : List (List ℕ)) (cs : List DebugCommand) → n ≤ MOST_LINES + 1
     → scripted_from n ls ≡ Ok cs → IsRead n ls cs
 unfolding scripted_from
 read_is n [] cs le h =
@@ -151,7 +152,7 @@ read_is n (line ∷ next ∷ rest) cs le h =
       text = text;
     })
 
-pub script_is : (text : List ℕ) (cs : List Command) → scripted text ≡ Ok cs
+pub script_is : (text : List ℕ) (cs : List DebugCommand) → scripted text ≡ Ok cs
     → AreCommands cs × (text ≡ script_text cs)
 unfolding scripted parts
 script_is text cs h =
@@ -162,20 +163,21 @@ script_is text cs h =
 
 -- at the first line of a text, which has this number
 abbrev IsBad : ℕ → List ℕ → Type 0
-IsBad n rest = (n ≡ MOST_LINES + 1) ⊎ ((c : Command) (more : List ℕ) → Fits c → rest ≢ command_line c ++ more)
+IsBad n rest = (n ≡ MOST_LINES + 1)
+    ⊎ ((c : DebugCommand) (more : List ℕ) → Fits c → rest ≢ command_line c ++ more)
 
 no_command : (n : ℕ) (line back rest : List ℕ) → rest ≡ line ++ 10 ∷ back → IsBad n rest
     → command_at n line ≡ None
 no_command n line back rest e bad = by_command (command_at n line) refl
   where
-    none_there : (c : Command) → command_at n line ≡ Some c → IsBad n rest → ⊥
+    none_there : (c : DebugCommand) → command_at n line ≡ Some c → IsBad n rest → ⊥
     none_there c k (inl many) = let at = command_fits n line c k in omega (arith, many, at.0)
     none_there c k (inr other) =
         let at = command_fits n line c k in
         let is = command_is line c at.1 in
         other c back is.0 (e ∙ ap (λ t. t ++ 10 ∷ back) is.1 ∙ sym (line_first c back))
 
-    by_command : (o : Option Command) → command_at n line ≡ o → o ≡ None
+    by_command : (o : Option DebugCommand) → command_at n line ≡ o → o ≡ None
     by_command None k = refl
     by_command (Some c) k = absurd (none_there c k bad)
 
@@ -193,11 +195,11 @@ bad_at n rest some bad = by_cut (cut 10 rest) refl
         ∙ ap (λ o. with_command n o (scripted_from (n + 1) (lines p.1)))
         (no_command n p.0 p.1 rest (cut_is 10 rest p.0 p.1 k) bad)
 
-with_err : (n m : ℕ) (c : Command) (r : Result (List Command) ScriptFault) → r ≡ Err (Line m)
+with_err : (n m : ℕ) (c : DebugCommand) (r : Result (List DebugCommand) ScriptFault) → r ≡ Err (Line m)
     → with_command n (Some c) r ≡ Err (Line m)
 with_err n m c r h = ap (with_command n (Some c)) h
 
-bad_from : (n : ℕ) (cs : List Command) (rest : List ℕ) → All Fits cs → n + length cs ≤ MOST_LINES + 1
+bad_from : (n : ℕ) (cs : List DebugCommand) (rest : List ℕ) → All Fits cs → n + length cs ≤ MOST_LINES + 1
     → rest ≢ []
     → IsBad (n + length cs) rest
     → scripted_from n (lines (script_text cs ++ rest)) ≡ Err (Line (n + length cs))
@@ -221,7 +223,7 @@ bad_told text n f =
     ∙ ap (λ k. Err (Line k)) same
   where
     is_bad : (length f.before ≡ MOST_LINES) ⊎
-        ((c : Command) (more : List ℕ) → Fits c → f.rest ≢ command_line c ++ more)
+        ((c : DebugCommand) (more : List ℕ) → Fits c → f.rest ≢ command_line c ++ more)
         → IsBad (1 + length f.before) f.rest
     is_bad (inl many) = inl (omega (arith, many))
     is_bad (inr other) = inr other
@@ -230,7 +232,7 @@ bad_told text n f =
 
 -- where a text, whose first line has number n, is refused with a number
 record IsRefused (n : ℕ) (text : List ℕ) (m : ℕ) : Type 0 where
-  before : List Command
+  before : List DebugCommand
   rest : List ℕ
   fit : All Fits before
   few : n + length before ≤ MOST_LINES + 1
@@ -253,7 +255,7 @@ refused_here n m text same le some bad = record {
   bad = subst (λ k. IsBad k text) same bad;
 }
 
-refused_later : (n m : ℕ) (text line back : List ℕ) (c : Command) → text ≡ line ++ 10 ∷ back → Fits c
+refused_later : (n m : ℕ) (text line back : List ℕ) (c : DebugCommand) → text ≡ line ++ 10 ∷ back → Fits c
     → line ≡ command_text c → IsRefused (n + 1) back m → IsRefused n text m
 refused_later n m text line back c e fits is r = record {
   before = c ∷ r.before;
@@ -271,18 +273,18 @@ end_err : (n m : ℕ) (last : List ℕ) → at_end n last ≡ Err (Line m) → (
 end_err n m [] h = absurd cc
 end_err n m (b ∷ bs) h = (cc, λ e. absurd (let k : b ∷ bs ≡ [] = e in cc))
 
-data FirstErr (n m : ℕ) (o : Option Command) (r : Result (List Command) ScriptFault) : Type 0 where
+data FirstErr (n m : ℕ) (o : Option DebugCommand) (r : Result (List DebugCommand) ScriptFault) : Type 0 where
   here : o ≡ None → n ≡ m → FirstErr n m o r
-  later : (c : Command) → o ≡ Some c → r ≡ Err (Line m) → FirstErr n m o r
+  later : (c : DebugCommand) → o ≡ Some c → r ≡ Err (Line m) → FirstErr n m o r
 
-first_err : (n m : ℕ) (o : Option Command) (r : Result (List Command) ScriptFault)
+first_err : (n m : ℕ) (o : Option DebugCommand) (r : Result (List DebugCommand) ScriptFault)
     → with_command n o r ≡ Err (Line m) → FirstErr n m o r
 first_err n m None r h = here refl cc
 first_err n m (Some c) (Ok more) h = absurd cc
 first_err n m (Some c) (Err e) h = later c refl (let same : e ≡ Line m = cc in ap Err same)
 
 -- a text without a newline begins with no command's line
-no_line : (text : List ℕ) → cut 10 text ≡ None → (c : Command) (more : List ℕ) → Fits c
+no_line : (text : List ℕ) → cut 10 text ≡ None → (c : DebugCommand) (more : List ℕ) → Fits c
     → text ≢ command_line c ++ more
 no_line text k c more fits e =
     let other : cut 10 text ≡ Some (command_text c, more) =
@@ -291,7 +293,7 @@ no_line text k c more fits e =
 
 -- nor does one whose first line is no command
 no_such_line : (n : ℕ) (text line back : List ℕ) → cut 10 text ≡ Some (line, back) → command_at n line ≡ None
-    → n ≤ MOST_LINES → (c : Command) (more : List ℕ) → Fits c → text ≢ command_line c ++ more
+    → n ≤ MOST_LINES → (c : DebugCommand) (more : List ℕ) → Fits c → text ≢ command_line c ++ more
 no_such_line n text line back k none le c more fits e =
     let other : cut 10 text ≡ Some (command_text c, more) =
     ap (cut 10) (e ∙ line_first c more) ∙ cut_command c more fits in
@@ -365,15 +367,15 @@ told_bad text n h =
       bad = is_bad r.before r.rest r.number r.bad;
     }
   where
-    is_bad : (before : List Command) (rest : List ℕ) → n ≡ 1 + length before → IsBad n rest
+    is_bad : (before : List DebugCommand) (rest : List ℕ) → n ≡ 1 + length before → IsBad n rest
         → (length before ≡ MOST_LINES) ⊎
-        ((c : Command) (more : List ℕ) → Fits c → rest ≢ command_line c ++ more)
+        ((c : DebugCommand) (more : List ℕ) → Fits c → rest ≢ command_line c ++ more)
     is_bad before rest e (inl many) = inl (omega (arith, e, many))
     is_bad before rest e (inr other) = inr other
 
 -- ---- both ways
 
-pub scripts_are_read : (text : List ℕ) (cs : List Command)
+pub scripts_are_read : (text : List ℕ) (cs : List DebugCommand)
     → (scripted text ≡ Ok cs) ↔ (AreCommands cs × (text ≡ script_text cs))
 scripts_are_read text cs = (script_is text cs, λ h. script_read text cs h.0 h.1)
 

@@ -9,7 +9,7 @@ use Rattle.std.proofs.lemmas.List.Splits.{length-slice_split}
 use Rattle.line_fields.specs.Cuts.{cut, parts}
 use Rattle.line_fields.specs.Fields.{lines}
 use Rattle.line_fields.proofs.Offers.{parts_at, parts_none}
-use Rattle.debug_script.specs.declared.command.Command.{Command}
+use Rattle.debug_script.specs.declared.command.DebugCommand.{DebugCommand}
 use Rattle.debug_script.specs.declared.fault.ScriptFault.{ScriptFault}
 use Rattle.debug_script.specs.declared.fault.ScriptFault.TheVariants.{Line}
 use Rattle.debug_script.specs.declared.TheConstants.{MOST_LINES}
@@ -41,7 +41,7 @@ pub at_last : (n : ℕ) (text : List ℕ) → None ≡ cut 10 text → scripted_
 at_last n text h = ap (scripted_from n) (parts_none 10 text h) ∙ only_last n text
 
 -- a command that stands in a line fits there
-pub command_fits : (n : ℕ) (line : List ℕ) (c : Command) → command_at n line ≡ Some c
+pub command_fits : (n : ℕ) (line : List ℕ) (c : DebugCommand) → command_at n line ≡ Some c
     → (n ≤ MOST_LINES) × (command_in line ≡ Some c)
 command_fits n line c h = by_number (nat_le n MOST_LINES) refl h
   where
@@ -53,35 +53,36 @@ command_fits n line c h = by_number (nat_le n MOST_LINES) refl h
 -- ---- the loop
 
 -- behind commands that are read already
-abbrev pub behind_commands : List Command → Result (List Command) ScriptFault
-    → Result (List Command) ScriptFault
+abbrev pub behind_commands : List DebugCommand → Result (List DebugCommand) ScriptFault
+    → Result (List DebugCommand) ScriptFault
 behind_commands cs (Ok more) = Ok (cs ++ more)
 behind_commands cs (Err e) = Err e
 
-behind_none : (r : Result (List Command) ScriptFault) → behind_commands [] r ≡ r
+behind_none : (r : Result (List DebugCommand) ScriptFault) → behind_commands [] r ≡ r
 behind_none (Ok more) = refl
 behind_none (Err e) = refl
 
-behind_one : (n : ℕ) (cs : List Command) (c : Command) (r : Result (List Command) ScriptFault)
+behind_one : (n : ℕ) (cs : List DebugCommand) (c : DebugCommand) (r : Result (List DebugCommand) ScriptFault)
     → behind_commands (cs ++ c ∷ []) r ≡ behind_commands cs (with_command n (Some c) r)
 behind_one n cs c (Ok more) = ap Ok (append_assoc cs (c ∷ []) more)
 behind_one n cs c (Err e) = refl
 
-pub begins : (cs : List Command) (text : List ℕ) → cs ≡ []
+pub begins : (cs : List DebugCommand) (text : List ℕ) → cs ≡ []
     → behind_commands cs (scripted_from 1 (lines text)) ≡ scripted text
 unfolding scripted
 begins cs text none =
     ap (λ x. behind_commands x (scripted_from 1 (lines text))) none
     ∙ behind_none (scripted_from 1 (lines text))
 
-module _ (cs : List Command) (n : ℕ) (text : List ℕ) where
+module _ (cs : List DebugCommand) (n : ℕ) (text : List ℕ) where
   pub bad_line : (line back : List ℕ) → Some (line, back) ≡ cut 10 text → None ≡ command_at n line
       → behind_commands cs (scripted_from n (lines text)) ≡ Err (Line n)
   bad_line line back at none =
       ap (behind_commands cs) (at_line n text line back at
       ∙ ap (λ o. with_command n o (scripted_from (n + 1) (lines back))) (sym none))
 
-  pub good_line : (more : List Command) (line back : List ℕ) (c : Command) → Some (line, back) ≡ cut 10 text
+  pub good_line : (more : List DebugCommand) (line back : List ℕ) (c : DebugCommand) → Some (line, back)
+      ≡ cut 10 text
       → Some c ≡ command_at n line → more ≡ cs ++ c ∷ []
       → behind_commands more (scripted_from (n + 1) (lines back))
       ≡ behind_commands cs (scripted_from n (lines text))
@@ -99,6 +100,6 @@ some_end : (n : ℕ) (text : List ℕ) → 0 < length text → at_end n text ≡
 some_end n [] h = absurd (omega (arith, h))
 some_end n (b ∷ bs) h = refl
 
-pub bad_end : (cs : List Command) (n : ℕ) (text : List ℕ) → None ≡ cut 10 text → 0 < length text
+pub bad_end : (cs : List DebugCommand) (n : ℕ) (text : List ℕ) → None ≡ cut 10 text → 0 < length text
     → behind_commands cs (scripted_from n (lines text)) ≡ Err (Line n)
 bad_end cs n text at some = ap (behind_commands cs) (at_last n text at ∙ some_end n text some)

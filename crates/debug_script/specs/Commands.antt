@@ -8,15 +8,15 @@ use Rattle.lcm_isa.specs.Texts.{reg_name}
 use Rattle.line_fields.specs.Options.{◌>>=◌, where_true}
 use Rattle.line_fields.specs.Cuts.{behind}
 use Rattle.line_fields.specs.Numbers.{number_in}
-use Rattle.debug_script.specs.declared.command.Command.{Command}
-use Rattle.debug_script.specs.declared.command.Command.TheVariants.{Forward, Back, StopAt, Clear, Cell}
-use Rattle.debug_script.specs.declared.command.Command.TheVariants.{Register}
+use Rattle.debug_script.specs.declared.command.DebugCommand.{DebugCommand}
+use Rattle.debug_script.specs.declared.command.DebugCommand.TheVariants.{Forward, Back, StopAt, Clear, Cell}
+use Rattle.debug_script.specs.declared.command.DebugCommand.TheVariants.{Register}
 use Rattle.debug_script.specs.declared.TheConstants.{MOST_STEPS, LAST_ADDRESS}
 
 -- ---- spelled
 
 -- a command makes one step or more, up to the most, and an address is one of a machine
-abbrev pub Fits : Command → Type 0
+abbrev pub Fits : DebugCommand → Type 0
 Fits (Forward n) = (1 ≤ n) × (n ≤ MOST_STEPS)
 Fits (Back n) = (1 ≤ n) × (n ≤ MOST_STEPS)
 Fits (StopAt a) = a ≤ LAST_ADDRESS
@@ -24,7 +24,7 @@ Fits (Clear a) = a ≤ LAST_ADDRESS
 Fits (Cell a) = a ≤ LAST_ADDRESS
 Fits (Register r) = Unit {0}
 
-abbrev pub command_text : Command → List ℕ
+abbrev pub command_text : DebugCommand → List ℕ
 command_text (Forward n) = codes "f " ++ decimal n
 command_text (Back n) = codes "b " ++ decimal n
 command_text (StopAt a) = codes "stop " ++ decimal a
@@ -47,12 +47,13 @@ unfoldable pub register_in : List ℕ → Option Reg
 register_in text = find (λ r. bytes_eq (reg_name r) text) all_regs
 
 -- what stands behind a front is the operand, where there is such a front; else something else is tried
-abbrev pub with_operand : Option (List ℕ) → (List ℕ → Option Command) → Option Command → Option Command
+abbrev pub with_operand : Option (List ℕ) → (List ℕ → Option DebugCommand) → Option DebugCommand
+    → Option DebugCommand
 with_operand None meant other = other
 with_operand (Some operand) meant other = meant operand
 
 -- the command that a line spells, without its newline
-unfoldable pub command_in : List ℕ → Option Command
+unfoldable pub command_in : List ℕ → Option DebugCommand
 command_in line =
     with_operand (behind (codes "f ") line) (λ n. option_map Forward (steps_in n))
     (with_operand (behind (codes "b ") line) (λ n. option_map Back (steps_in n))

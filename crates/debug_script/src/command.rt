@@ -8,7 +8,7 @@ use line_fields::{behind, number_in};
 
 /// A command of a script.
 #[derive(Clone, Copy, Debug, PartialEq, Eq)]
-pub enum Command {
+pub enum DebugCommand {
     /// `f N`: so many steps forward.
     Forward(u32),
     /// `b N`: so many steps back.
@@ -48,24 +48,24 @@ fn register_in(name: &[u8]) -> Option<Reg>
 
 /// The command that a line spells, without its newline, and `None` exactly where it spells none.
 #[tactic(auto, unfolding(crate::specs::Commands::command_in))]
-pub fn command_in(line: &[u8]) -> Option<Command>
+pub fn command_in(line: &[u8]) -> Option<DebugCommand>
     ensures { result ≡ command_in line.now }
 {
     if let Some(steps) = behind(b"f ", line) {
-        return Some(Command::Forward(steps_in(steps)?));
+        return Some(DebugCommand::Forward(steps_in(steps)?));
     }
     if let Some(steps) = behind(b"b ", line) {
-        return Some(Command::Back(steps_in(steps)?));
+        return Some(DebugCommand::Back(steps_in(steps)?));
     }
     if let Some(at) = behind(b"stop ", line) {
-        return Some(Command::StopAt(address_in(at)?));
+        return Some(DebugCommand::StopAt(address_in(at)?));
     }
     if let Some(at) = behind(b"clear ", line) {
-        return Some(Command::Clear(address_in(at)?));
+        return Some(DebugCommand::Clear(address_in(at)?));
     }
     if let Some(at) = behind(b"c ", line) {
-        return Some(Command::Cell(address_in(at)?));
+        return Some(DebugCommand::Cell(address_in(at)?));
     }
     let name = behind(b"r ", line)?;
-    Some(Command::Register(register_in(name)?))
+    Some(DebugCommand::Register(register_in(name)?))
 }

@@ -8,7 +8,7 @@ mod fault;
 pub mod laws;
 mod script;
 
-pub use command::{Command, command_in};
+pub use command::{DebugCommand, command_in};
 pub use fault::ScriptFault;
 pub use script::{Script, script_of};
 

@@ -7,7 +7,7 @@ ghost use Rattle.debug_script.specs.Commands.{Fits};
 ghost use Rattle.debug_script.specs.Script.{command_at, scripted};
 
 use crate::MOST_LINES;
-use crate::command::{Command, command_in};
+use crate::command::{DebugCommand, command_in};
 use crate::fault::ScriptFault;
 use line_fields::cut;
 use std::alloc::Global;
@@ -16,19 +16,19 @@ use std::marker::Model;
 /// The commands of a script, at most [`MOST_LINES`]. A contract sees their list.
 #[derive(Debug, Drop)]
 pub struct Script {
-    commands: Vec<Command>,
+    commands: Vec<DebugCommand>,
 }
 
 impl Model for Script {
     ghost use Rattle.std.specs.Prelude.{List, length, ◌≤◌};
     ghost use Rattle.std.specs.Prelude.{All};
     ghost use Rattle.std.specs.Coded.{coded_list};
-    ghost use Rattle.debug_script.specs.declared.command.Command.{Command};
-    ghost use Rattle.debug_script.specs.contracts.command.Command as command;
+    ghost use Rattle.debug_script.specs.declared.command.DebugCommand.{DebugCommand};
+    ghost use Rattle.debug_script.specs.contracts.command.DebugCommand as command;
     ghost use Rattle.debug_script.specs.declared.TheConstants.{MOST_LINES};
     ghost use Rattle.debug_script.specs.Commands.{Fits};
 
-    ghost Value = { List Command };
+    ghost Value = { List DebugCommand };
 
     ghost coded = { coded_list command.the_row.coded };
 
@@ -40,7 +40,7 @@ impl Model for Script {
 
 impl Script {
     /// The commands, in their order.
-    pub fn commands(&self) -> &[Command]
+    pub fn commands(&self) -> &[DebugCommand]
         ensures are { result.now ≡ self.now }
         ensures fit { All Fits result.now }
         ensures few { length result.now ≤ MOST_LINES }
@@ -50,7 +50,7 @@ impl Script {
 }
 
 // The command of a line with this number.
-fn command_at(number: u32, line: &[u8]) -> Option<Command>
+fn command_at(number: u32, line: &[u8]) -> Option<DebugCommand>
     ensures { result ≡ command_at number line.now }
 {
     if number > MOST_LINES {

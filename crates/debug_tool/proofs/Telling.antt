@@ -6,35 +6,36 @@ use Rattle.outside_io.specs.SinkSeen.{SinkSeen, Adds, FailsToWrite, IsOneWrite}
 use Rattle.outside_io.specs.Writes.{AddsPieces}
 use Rattle.outside_io.proofs.Offers.{pieces_then, one_write}
 use Rattle.step_back.specs.Seen.{Debugging}
-use Rattle.debug_script.specs.declared.command.Command.{Command}
+use Rattle.debug_script.specs.declared.command.DebugCommand.{DebugCommand}
 use Rattle.debug_tool.specs.Replies.{steps_of, reply, after_command, steps_in, replies, after_commands}
 use Rattle.debug_tool.specs.Faults.{StopsAtReply}
 
-replies-append : (cs more : List Command) (d : Debugging)
+replies-append : (cs more : List DebugCommand) (d : Debugging)
     → replies (cs ++ more) d ≡ replies cs d ++ replies more (after_commands cs d)
 replies-append [] more d = refl
 replies-append (c ∷ cs) more d = ap (λ rs. reply c d ∷ rs) (replies-append cs more (after_command c d))
 
-after-append : (cs more : List Command) (d : Debugging)
+after-append : (cs more : List DebugCommand) (d : Debugging)
     → after_commands (cs ++ more) d ≡ after_commands more (after_commands cs d)
 after-append [] more d = refl
 after-append (c ∷ cs) more d = after-append cs more (after_command c d)
 
-length-replies : (cs : List Command) (d : Debugging) → length (replies cs d) ≡ length cs
+length-replies : (cs : List DebugCommand) (d : Debugging) → length (replies cs d) ≡ length cs
 length-replies [] d = refl
 length-replies (c ∷ cs) d = ap suc (length-replies cs (after_command c d))
 
 -- So many commands of a script were done: their replies are written, the debugger stands where they led, and
 -- there is room for the steps of the others.
-pub record HaveTold (sink : SinkSeen) (begun : Debugging) (all : List Command) (i : ℕ) (now : SinkSeen)
+pub record HaveTold (sink : SinkSeen) (begun : Debugging) (all : List DebugCommand) (i : ℕ) (now : SinkSeen)
     (d : Debugging) : Type 0 where
   pub written : AddsPieces sink (replies (take i all) begun) now
   pub led : d ≡ after_commands (take i all) begun
   pub room : d.now.count + steps_in (drop i all) ≤ 2 ^ 63
 
 -- one more is done
-module _ (sink : SinkSeen) (begun : Debugging) (all : List Command) (i : ℕ) (now : SinkSeen) (d : Debugging)
-    (other : Command) (lt : i < length all) (t : HaveTold sink begun all i now d) where
+module _ (sink : SinkSeen) (begun : Debugging) (all : List DebugCommand) (i : ℕ) (now : SinkSeen)
+    (d : Debugging)
+    (other : DebugCommand) (lt : i < length all) (t : HaveTold sink begun all i now d) where
   behind_it : drop i all ≡ get_or all i other ∷ drop (i + 1) all
   behind_it = let one : suc i ≡ i + 1 = omega arith in
       drop-cons all i other lt ∙ ap (λ k. get_or all i other ∷ drop k all) one

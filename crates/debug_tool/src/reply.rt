@@ -7,21 +7,21 @@ ghost use Rattle.debug_tool.specs.Replies.{reached_text, said, word_line, cell_l
 ghost use Rattle.debug_tool.specs.Replies.{reply, after_command};
 
 use cap_words::{Word, word_text};
-use debug_script::Command;
+use debug_script::DebugCommand;
 use lcm_machine::LcmState;
-use step_back::{Debugger, Stop};
+use step_back::{Debugger, StopReason};
 use trace_tool::{EndLine, end_line, place_line};
 
 // Where steps forward led.
-fn reached_line(state: &LcmState, stop: Stop) -> EndLine
-    requires { (step : AnyStep) → stop ≡ Stop.Ended step → step ≡ answer state.now }
+fn reached_line(state: &LcmState, stop: StopReason) -> EndLine
+    requires { (step : AnyStep) → stop ≡ StopReason.Ended step → step ≡ answer state.now }
     ensures bytes { result.bytes ≡ reached_text stop state.now }
     ensures some { 0 < length result.bytes }
 {
     match stop {
-        Stop::Break => place_line("stop", state),
-        Stop::Ended(step) => end_line(state, step),
-        Stop::Spent => place_line("at", state),
+        StopReason::Break => place_line("stop", state),
+        StopReason::Ended(step) => end_line(state, step),
+        StopReason::Spent => place_line("at", state),
     }
 }
 
@@ -70,7 +70,7 @@ fn said_if(is: bool, other: &str) -> EndLine
 }
 
 /// Does a command, and answers the reply.
-pub(crate) fn reply(debugger: &mut Debugger, command: Command) -> EndLine
+pub(crate) fn reply(debugger: &mut Debugger, command: DebugCommand) -> EndLine
     requires { debugger.old.now.count + steps_of command ≤ 2 ^ 63 }
     ensures after { debugger.new ≡ after_command command debugger.old }
     ensures count { debugger.new.now.count ≤ debugger.old.now.count + steps_of command }
@@ -78,17 +78,17 @@ pub(crate) fn reply(debugger: &mut Debugger, command: Command) -> EndLine
     ensures some { 0 < length result.bytes }
 {
     match command {
-        Command::Forward(steps) => {
+        DebugCommand::Forward(steps) => {
             let stop = debugger.go(u64::from(steps));
             reached_line(debugger.state(), stop)
         }
-        Command::Back(steps) => {
+        DebugCommand::Back(steps) => {
             let _ = debugger.go_back(u64::from(steps));
             place_line("at", debugger.state())
         }
-        Command::StopAt(at) => said_if(debugger.stop_at(at), "full"),
-        Command::Clear(at) => said_if(debugger.clear(at), "none"),
-        Command::Cell(at) => cell_line(debugger.state(), at),
-        Command::Register(register) => word_line(debugger.state().reg(register)),
+        DebugCommand::StopAt(at) => said_if(debugger.stop_at(at), "full"),
+        DebugCommand::Clear(at) => said_if(debugger.clear(at), "none"),
+        DebugCommand::Cell(at) => cell_line(debugger.state(), at),
+        DebugCommand::Register(register) => word_line(debugger.state().reg(register)),
     }
 }

@@ -9,7 +9,7 @@ ghost use Rattle.debug_tool.specs.Faults.{FailsBy, StopsAtReply};
 
 use crate::reply::reply;
 use component_linker::Start;
-use debug_script::{Command, Script};
+use debug_script::{DebugCommand, Script};
 use outside_io::{Failed, Sink};
 use std::alloc::{AllocError, Global};
 use step_back::{Debugger, MOST_DEPTH};
@@ -34,7 +34,7 @@ impl From<AllocError> for DebugFault {
 // Does a command, and writes its reply in one piece.
 fn run_command<S: Sink>(
     debugger: &mut Debugger,
-    command: Command,
+    command: DebugCommand,
     out: &mut S,
 ) -> Result<(), Failed>
     requires { debugger.old.now.count + steps_of command ≤ 2 ^ 63 }

@@ -16,8 +16,8 @@ use Rattle.lcm_isa.specs.Numbers.{decode_of}
 use Rattle.lcm_isa.proofs.Offers.{number_of-decode_of, decode_of-fits}
 use Rattle.asm_labels.specs.declared.labels.Section.{Section}
 use Rattle.asm_labels.specs.declared.labels.Section.TheVariants as section
-use Rattle.asm_fields.specs.declared.directives.Item.{Item}
-use Rattle.asm_fields.specs.declared.directives.Item.TheVariants as item
+use Rattle.asm_fields.specs.declared.directives.ItemKind.{ItemKind}
+use Rattle.asm_fields.specs.declared.directives.ItemKind.TheVariants as item
 use Rattle.asm_fields.specs.declared.directives.WordKind.{WordKind}
 use Rattle.asm_fields.specs.declared.directives.WordKind.TheVariants as word_kind
 use Rattle.asm_fields.specs.declared.directives.Directive.TheVariants as directive
@@ -26,7 +26,7 @@ use Rattle.asm_fields.specs.Words.{word_line as word_reader}
 use Rattle.asm_fields.proofs.Offers.{Again, Whole, directive_is_field, perm_field, lin_field, place_field}
 use Rattle.asm_fields.proofs.Offers.{i64_field, cap_forms, seals_forms, int_again, cap_again, seals_again}
 use Rattle.asm_fields.proofs.Offers.{instr_forms, instr_printed}
-use Rattle.asm_draft.specs.declared.header.Header.{Header}
+use Rattle.asm_draft.specs.declared.header.TextHeader.{TextHeader}
 use Rattle.asm_draft.specs.Order.{rank, rank_of, repeats, furthest, may_follow, section_of}
 use Rattle.asm_draft.specs.Tables.{Tables}
 use Rattle.asm_draft.specs.Draft.{Draft, has_word_room, with_word, may_end, may_end_in}
@@ -38,7 +38,7 @@ use Rattle.disassembler.specs.Disassembled.{item_line, word_line, code_line, int
 use Rattle.disassembler.proofs.Leads.{Leads, leads_line, leads_fields}
 
 -- what lines without labels have made
-abbrev pub so_far : Option Item → Header → List Word → List Word → Tables → Draft
+abbrev pub so_far : Option ItemKind → TextHeader → List Word → List Word → Tables → Draft
 so_far last h code words t = record {
   last = last;
   header = h;
@@ -55,7 +55,7 @@ pub one_operand : (n : ℕ) (a : List ℕ) (fs : List Form) → IsField n a fs
     → IsRest (1 + n + 0) (32 ∷ (a ++ [])) (fs ++ [])
 one_operand n a fs one = rest_more n 0 a [] fs [] one rest_none
 
-pub leads_item : (i : Item) (m : ℕ) (operands : List ℕ) (gs : List Form) (d new : Draft)
+pub leads_item : (i : ItemKind) (m : ℕ) (operands : List ℕ) (gs : List Form) (d new : Draft)
     → IsRest m operands gs → m ≤ 504 → may_stand false i d ≡ true
     → ((at : ℕ) → Again gs new (operands_in at i (record d { last = Some i })))
     → Leads 1 (46 ∷ directive_name (directive.Of i) ++ (operands ++ newline)) d new
@@ -65,7 +65,7 @@ leads_item i m operands gs d new rest le may one =
     (directive_is_field (directive.Of i)) rest (omega arith) (item_line_again i gs new d may one)
 
 -- an item that is one place
-pub leads_place : (i : Item) (n : ℕ) (d new : Draft) → n ≤ 1048575 → may_stand false i d ≡ true
+pub leads_place : (i : ItemKind) (n : ℕ) (d new : Draft) → n ≤ 1048575 → may_stand false i d ≡ true
     → ((at : ℕ) → Again (offset_forms n) new (operands_in at i (record d { last = Some i })))
     → Leads 1 (item_line i (decimal n ∷ [])) d new
 leads_place i n d new h may one = leads_item i 8 (32 ∷ (decimal n ++ [])) (offset_forms n) d new
@@ -109,7 +109,7 @@ word_leads (Seal c) s d fits plain is room =
 word_leads (Sealed seal content) s d fits plain is room = absurd plain
 
 -- an integer of the code, as the instruction that it is or by its directive
-integer_leads : (n : ℤ) (o : Option Instr) (h : Header) (code words : List Word) (t : Tables)
+integer_leads : (n : ℤ) (o : Option Instr) (h : TextHeader) (code words : List Word) (t : Tables)
     → decode_of n ≡ o → FitsSigned w64 n → nat_lt (length code) 65536 ≡ true
     → Leads 1 (integer_line n o) (so_far (Some item.Code) h code words t)
     (so_far (Some item.Code) h (code ++ Int n ∷ []) words t)
@@ -123,7 +123,7 @@ integer_leads n (Some i) h code words t is fits room =
 integer_leads n None h code words t is fits room = word_leads (Int n) section.Code
     (so_far (Some item.Code) h code words t) fits tt refl room
 
-pub code_leads : (w : Word) (h : Header) (code words : List Word) (t : Tables) → WordFits w → IsUnsealed w
+pub code_leads : (w : Word) (h : TextHeader) (code words : List Word) (t : Tables) → WordFits w → IsUnsealed w
     → nat_lt (length code) 65536 ≡ true
     → Leads 1 (code_line w) (so_far (Some item.Code) h code words t)
     (so_far (Some item.Code) h (code ++ w ∷ []) words t)
@@ -152,23 +152,24 @@ pub some_words : (n : ℕ) → 1 ≤ n → not (n == 0) ≡ true
 some_words n h = grind (arith, nat_tests)
 
 -- a section with words may end
-pub ends : (last : Option Item) (h : Header) (code words : List Word) (t : Tables) → 1 ≤ length code
+pub ends : (last : Option ItemKind) (h : TextHeader) (code words : List Word) (t : Tables) → 1 ≤ length code
     → 1 ≤ length words → may_end (so_far last h code words t) ≡ true
 ends last h code words t c w = ends_in (section_of last) (so_far last h code words t)
     (some_words (length code) c) (some_words (length words) w)
 
 -- the last item, where items of one kind stand behind another
-abbrev pub last_in : {A : Type 0} → Item → Option Item → List A → Option Item
+abbrev pub last_in : {A : Type 0} → ItemKind → Option ItemKind → List A → Option ItemKind
 last_in i last [] = last
 last_in i last (x ∷ xs) = Some i
 
-pub last_behind : {A : Type 0} (i : Item) (last : Option Item) (xs : List A) (x : A)
+pub last_behind : {A : Type 0} (i : ItemKind) (last : Option ItemKind) (xs : List A) (x : A)
     → last_in i last (xs ++ x ∷ []) ≡ Some i
 last_behind i last [] x = refl
 last_behind i last (y ∷ xs) x = refl
 
 -- one more item of a table may stand there
-pub follows : {A : Type 0} (i : Item) (last : Option Item) (xs : List A) → rank item.Data ≤ rank_of last
+pub follows : {A : Type 0} (i : ItemKind) (last : Option ItemKind) (xs : List A)
+    → rank item.Data ≤ rank_of last
     → rank_of last < rank i
     → rank i ≤ rank item.Row → may_follow (Some i) i ≡ true → may_follow (last_in i last xs) i ≡ true
 follows i last [] low lt high again = in_tables (rank_of last) (rank i) (repeats i) low lt high

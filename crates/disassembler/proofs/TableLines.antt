@@ -13,11 +13,11 @@ use Rattle.component_file.specs.declared.component.Import.{Import}
 use Rattle.component_file.specs.declared.component.Export.{Export}
 use Rattle.component_file.specs.declared.component.KindRow.{KindRow}
 use Rattle.component_file.specs.Limits.{Chain, ImportFits, ExportFits, SiteFits, KindRowFits, KindFits}
-use Rattle.asm_fields.specs.declared.directives.Item.{Item}
-use Rattle.asm_fields.specs.declared.directives.Item.TheVariants as item
+use Rattle.asm_fields.specs.declared.directives.ItemKind.{ItemKind}
+use Rattle.asm_fields.specs.declared.directives.ItemKind.TheVariants as item
 use Rattle.asm_fields.specs.Names.{kind_name, ownership}
 use Rattle.asm_fields.proofs.Offers.{proper_field, shared_field, kind_field, offset_field}
-use Rattle.asm_draft.specs.declared.header.Header.{Header}
+use Rattle.asm_draft.specs.declared.header.TextHeader.{TextHeader}
 use Rattle.asm_draft.specs.Order.{rank, rank_of, may_follow}
 use Rattle.asm_draft.specs.Tables.{Tables, last_of as last_item, first_out_of_order, has_room}
 use Rattle.asm_draft.specs.Draft.{may_end}
@@ -59,7 +59,8 @@ fewer most xs before x after few is =
     lt-ltb (length before) most (omega (arith, all, few))
 
 -- an item of a table may stand behind those before it
-stands : {A : Type 0} (i : Item) (last : Option Item) (h : Header) (code words : List Word) (t : Tables)
+stands : {A : Type 0} (i : ItemKind) (last : Option ItemKind) (h : TextHeader) (code words : List Word)
+    (t : Tables)
     (before : List A) → HasWords code words → rank item.Data ≤ rank_of last → rank_of last < rank i
     → rank i ≤ rank item.Row
     → may_follow (Some i) i ≡ true → has_room i t ≡ true
@@ -71,8 +72,9 @@ stands i last h code words t before some low lt high again room =
     (ends (last_in i last before) h code words t some.in_code some.in_data) room
 
 -- lists of items, each in its line, make a table
-table : {A : Type 0} (i : Item) (t : A → List ℕ) (T : List A → Tables) (most : ℕ)
-    (P : Option A → A → Type 0) (last : Option Item) (h : Header) (code words : List Word) (xs : List A)
+table : {A : Type 0} (i : ItemKind) (t : A → List ℕ) (T : List A → Tables) (most : ℕ)
+    (P : Option A → A → Type 0) (last : Option ItemKind) (h : TextHeader) (code words : List Word)
+    (xs : List A)
     → length xs ≤ most → Chain P None xs
     → ((before : List A) (x : A) → nat_lt (length before) most ≡ true → P (last_item before) x
     → Leads 1 (t x) (so_far (last_in i last before) h code words (T before))
@@ -93,7 +95,7 @@ still false at h = absurd cc
 
 -- ---- imports
 
-pub imports_lead : (last : Option Item) (h : Header) (code words : List Word) (is : List Import)
+pub imports_lead : (last : Option ItemKind) (h : TextHeader) (code words : List Word) (is : List Import)
     → HasWords code words → rank item.Data ≤ rank_of last
     → rank_of last < rank item.Import → length is ≤ 1024 → Chain ImportFits None is
     → Leads (length is) (flat_map import_line is) (so_far last h code words (tables [] [] [] None None []))
@@ -116,7 +118,7 @@ imports_lead last h code words is some low lt few chain =
 
 -- ---- exports
 
-pub exports_lead : (last : Option Item) (h : Header) (code words : List Word) (is : List Import)
+pub exports_lead : (last : Option ItemKind) (h : TextHeader) (code words : List Word) (is : List Import)
     (es : List Export) → HasWords code words → rank item.Data ≤ rank_of last
     → rank_of last < rank item.Export → length es ≤ 1024 → Chain ExportFits None es
     → Leads (length es) (flat_map export_line es) (so_far last h code words (tables is [] [] None None []))
@@ -140,7 +142,7 @@ exports_lead last h code words is es some low lt few chain =
 
 -- ---- sites
 
-pub sites_lead : (last : Option Item) (h : Header) (code words : List Word) (is : List Import)
+pub sites_lead : (last : Option ItemKind) (h : TextHeader) (code words : List Word) (is : List Import)
     (es : List Export) (ss : List ℕ) → HasWords code words → rank item.Data ≤ rank_of last
     → rank_of last < rank item.Site → length ss ≤ 4096 → Chain SiteFits None ss
     → Leads (length ss) (flat_map site_line ss) (so_far last h code words (tables is es [] None None []))
@@ -161,11 +163,11 @@ sites_lead last h code words is es ss some low lt few chain =
 
 -- ---- two offsets
 
-abbrev pub last_some : Item → Option Item → Option ℕ → Option Item
+abbrev pub last_some : ItemKind → Option ItemKind → Option ℕ → Option ItemKind
 last_some i last None = last
 last_some i last (Some n) = Some i
 
-pub fail_leads : (last : Option Item) (h : Header) (code words : List Word) (is : List Import)
+pub fail_leads : (last : Option ItemKind) (h : TextHeader) (code words : List Word) (is : List Import)
     (es : List Export) (ss : List ℕ) (f : Option ℕ) → HasWords code words → rank item.Data ≤ rank_of last
     → rank_of last < rank item.Fail → IfSome f (λ o. o ≤ 65535)
     → Leads 1 (optional_line item.Fail f) (so_far last h code words (tables is es ss None None []))
@@ -181,7 +183,7 @@ fail_leads last h code words is es ss (Some n) some low lt fits =
     (ends last h code words (tables is es ss None None []) some.in_code some.in_data) refl)
     (λ at. fail_again at n (so_far (Some item.Fail) h code words (tables is es ss None None [])) fits)
 
-pub literal_leads : (last : Option Item) (h : Header) (code words : List Word) (is : List Import)
+pub literal_leads : (last : Option ItemKind) (h : TextHeader) (code words : List Word) (is : List Import)
     (es : List Export) (ss : List ℕ) (f l : Option ℕ) → HasWords code words → rank item.Data ≤ rank_of last
     → rank_of last < rank item.Literal → IfSome l (λ o. o ≤ 65535)
     → Leads 1 (optional_line item.Literal l) (so_far last h code words (tables is es ss f None []))
@@ -250,7 +252,7 @@ row_rest r offset many kinds =
     (integer_forms (pos r.offset)) (flat_map kind_forms r.kinds ++ [])
     (offset_field r.offset offset) all)
 
-pub rows_lead : (last : Option Item) (h : Header) (code words : List Word) (is : List Import)
+pub rows_lead : (last : Option ItemKind) (h : TextHeader) (code words : List Word) (is : List Import)
     (es : List Export) (ss : List ℕ) (f l : Option ℕ) (rs : List KindRow) → HasWords code words
     → rank item.Data ≤ rank_of last
     → rank_of last < rank item.Row → length rs ≤ 65536 → Chain KindRowFits None rs

@@ -16,11 +16,11 @@ use Rattle.cap_words.specs.Names.{is_name}
 use Rattle.component_file.specs.Limits.{Chain, WordsFit, StretchFits, IsComponent}
 use Rattle.asm_labels.specs.declared.labels.Section.TheVariants as section
 use Rattle.asm_labels.specs.References.{resolved}
-use Rattle.asm_fields.specs.declared.directives.Item.{Item}
-use Rattle.asm_fields.specs.declared.directives.Item.TheVariants as item
+use Rattle.asm_fields.specs.declared.directives.ItemKind.{ItemKind}
+use Rattle.asm_fields.specs.declared.directives.ItemKind.TheVariants as item
 use Rattle.asm_fields.specs.Fields.{seen}
 use Rattle.asm_fields.proofs.Offers.{Again, proper_field, place_field}
-use Rattle.asm_draft.specs.declared.header.Header.{Header}
+use Rattle.asm_draft.specs.declared.header.TextHeader.{TextHeader}
 use Rattle.asm_draft.specs.Order.{rank, rank_of, reaches_data}
 use Rattle.asm_draft.specs.Tables.{no_tables}
 use Rattle.asm_draft.specs.Draft.{Draft, nothing, may_end}
@@ -42,7 +42,7 @@ use Rattle.disassembler.proofs.TableLines.{sites_lead, fail_leads, literal_leads
 
 -- ---- the header
 
-abbrev header : List ℕ → ℕ → ℕ → Bool → Stretch → Area → ℕ → ℕ → Header
+abbrev header : List ℕ → ℕ → ℕ → Bool → Stretch → Area → ℕ → ℕ → TextHeader
 header name stack closure movable seals linear code words =
     record {
       name = name;
@@ -70,7 +70,7 @@ name_leads name h =
     (λ at. name_again at name (record nothing { last = Some item.Name }) h)
 
 -- the last item behind `.closure`, and behind `.movable` where it stands
-abbrev at_closure : Bool → Option Item
+abbrev at_closure : Bool → Option ItemKind
 at_closure false = Some item.Closure
 at_closure true = Some item.Movable
 
@@ -88,7 +88,7 @@ movable_leads name stack closure true =
     (λ at. movable_again at (record d { last = Some item.Movable }))
 
 -- the last item, where one that counts something may stand behind another
-abbrev last_counted : Item → Option Item → ℕ → Option Item
+abbrev last_counted : ItemKind → Option ItemKind → ℕ → Option ItemKind
 last_counted i last zero = last
 last_counted i last (suc n) = Some i
 
@@ -96,7 +96,7 @@ counted : (n : ℕ) → (suc n == 0) ≡ false
 counted n = ne_eqb (suc n) 0 (λ e. omega (arith, e))
 
 -- a range of which something is counted
-stretch_leads : (i : Item) (base n : ℕ) (d new : Draft) → StretchFits base (suc n)
+stretch_leads : (i : ItemKind) (base n : ℕ) (d new : Draft) → StretchFits base (suc n)
     → may_stand false i d ≡ true
     → ((at : ℕ) → base ≤ 1048575 → 1 ≤ suc n → suc n ≤ 65536 → Again (stretch_forms base (suc n)) new
     (operands_in at i (record d { last = Some i }))) → Leads 1 (stretch_line i base (suc n)) d new
@@ -111,7 +111,7 @@ stretch_leads i base n d new fits may one =
     (place_field (suc n) (omega arith)))) (lit≤ tt) may
     (λ at. one at low (omega arith) high))
 
-seals_stand : (h : Header) (movable : Bool)
+seals_stand : (h : TextHeader) (movable : Bool)
     → may_stand false item.Seals (so_far (at_closure movable) h [] [] no_tables) ≡ true
 seals_stand h false = refl
 seals_stand h true = refl
@@ -139,7 +139,7 @@ seals_lead name stack closure movable base (suc n) fits =
     stretch_leads item.Seals base n d _ fits (seals_stand d.header movable)
     (λ at. seals_again at base (suc n) (record d { last = Some item.Seals }))
 
-linear_stands : (h : Header) (movable : Bool) (seals : ℕ) → may_stand false item.Linear
+linear_stands : (h : TextHeader) (movable : Bool) (seals : ℕ) → may_stand false item.Linear
     (so_far (last_counted item.Seals (at_closure movable) seals) h [] [] no_tables) ≡ true
 linear_stands h false zero = refl
 linear_stands h true zero = refl
@@ -168,7 +168,7 @@ linear_leads name stack closure movable s base (suc n) fits =
     (linear_stands (header name stack closure movable s no_area 0 0) movable s.count)
     (λ at. linear_again at base (suc n) (record d { last = Some item.Linear }))
 
-code_stands : (h : Header) (movable : Bool) (seals linear : ℕ)
+code_stands : (h : TextHeader) (movable : Bool) (seals linear : ℕ)
     → may_stand false item.Code
     (so_far (last_counted item.Linear (last_counted item.Seals (at_closure movable) seals) linear) h [] []
     no_tables) ≡ true
@@ -191,42 +191,43 @@ words_lead t D ws fit step = leads_all t D ws (λ before w after is.
 -- ---- the tables' order
 
 -- the last item that came is at least `.data` and before another
-pub record IsPast (m : ℕ) (last : Option Item) : Type 0 where
+pub record IsPast (m : ℕ) (last : Option ItemKind) : Type 0 where
   pub low : rank item.Data ≤ rank_of last
   pub high : rank_of last < m
 
-past_in : {A : Type 0} (i : Item) (last : Option Item) (xs : List A) → rank item.Data ≤ rank i
+past_in : {A : Type 0} (i : ItemKind) (last : Option ItemKind) (xs : List A) → rank item.Data ≤ rank i
     → IsPast (rank i) last → IsPast (1 + rank i) (last_in i last xs)
 past_in i last [] low p = record { low = p.low; high = omega (arith, p.high) }
 past_in i last (x ∷ xs) low p = record { low = low; high = omega arith }
 
-past_some : (i : Item) (last : Option Item) (o : Option ℕ) → rank item.Data ≤ rank i → IsPast (rank i) last
+past_some : (i : ItemKind) (last : Option ItemKind) (o : Option ℕ) → rank item.Data ≤ rank i
+    → IsPast (rank i) last
     → IsPast (1 + rank i) (last_some i last o)
 past_some i last None low p = record { low = p.low; high = omega (arith, p.high) }
 past_some i last (Some n) low p = record { low = low; high = omega arith }
 
 -- ---- the whole text
 
-abbrev header_of : ComponentFields → Header
+abbrev header_of : ComponentFields → TextHeader
 header_of c = header c.name c.stack_base c.closure c.movable c.seals c.linear c.code_base c.data_base
 
 -- the last item behind each table
-abbrev at_imports : ComponentFields → Option Item
+abbrev at_imports : ComponentFields → Option ItemKind
 at_imports c = last_in item.Import (Some item.Data) c.imports
 
-abbrev at_exports : ComponentFields → Option Item
+abbrev at_exports : ComponentFields → Option ItemKind
 at_exports c = last_in item.Export (at_imports c) c.exports
 
-abbrev at_sites : ComponentFields → Option Item
+abbrev at_sites : ComponentFields → Option ItemKind
 at_sites c = last_in item.Site (at_exports c) c.sites
 
-abbrev at_fail : ComponentFields → Option Item
+abbrev at_fail : ComponentFields → Option ItemKind
 at_fail c = last_some item.Fail (at_sites c) c.fail_at
 
-abbrev at_literal : ComponentFields → Option Item
+abbrev at_literal : ComponentFields → Option ItemKind
 at_literal c = last_some item.Literal (at_fail c) c.literal_at
 
-abbrev at_rows : ComponentFields → Option Item
+abbrev at_rows : ComponentFields → Option ItemKind
 at_rows c = last_in item.Row (at_literal c) c.rows
 
 past_data : IsPast (rank item.Import) (Some item.Data)

@@ -15,8 +15,8 @@ use Rattle.component_file.specs.declared.component.Import.{Import}
 use Rattle.component_file.specs.declared.component.Export.{Export}
 use Rattle.component_file.specs.declared.component.KindRow.{KindRow}
 use Rattle.component_file.specs.declared.component.ComponentFields.{ComponentFields}
-use Rattle.asm_fields.specs.declared.directives.Item.{Item}
-use Rattle.asm_fields.specs.declared.directives.Item.TheVariants as item
+use Rattle.asm_fields.specs.declared.directives.ItemKind.{ItemKind}
+use Rattle.asm_fields.specs.declared.directives.ItemKind.TheVariants as item
 use Rattle.asm_fields.specs.declared.directives.WordKind.TheVariants as kind
 use Rattle.asm_fields.specs.declared.directives.Directive.{Directive}
 use Rattle.asm_fields.specs.declared.directives.Directive.TheVariants as directive
@@ -30,7 +30,7 @@ use Rattle.asm_fields.specs.Names.{kind_name, ownership}
 abbrev pub directive_line : Directive → List (List ℕ) → List ℕ
 directive_line d operands = dot ∷ directive_name d ++ (flat_map field_text operands ++ newline)
 
-abbrev pub item_line : Item → List (List ℕ) → List ℕ
+abbrev pub item_line : ItemKind → List (List ℕ) → List ℕ
 item_line i operands = directive_line (directive.Of i) operands
 
 -- ---- words
@@ -57,16 +57,16 @@ code_line w = word_line w
 -- ---- items
 
 -- an item without operands; nothing where it isn't so
-abbrev pub flag_line : Item → Bool → List ℕ
+abbrev pub flag_line : ItemKind → Bool → List ℕ
 flag_line i false = []
 flag_line i true = item_line i []
 
 -- nothing where nothing is counted
-abbrev pub stretch_line : Item → ℕ → ℕ → List ℕ
+abbrev pub stretch_line : ItemKind → ℕ → ℕ → List ℕ
 stretch_line i base count = if count == 0 then [] else item_line i (decimal base ∷ decimal count ∷ [])
 
 -- nothing where the offset is missing
-abbrev pub optional_line : Item → Option ℕ → List ℕ
+abbrev pub optional_line : ItemKind → Option ℕ → List ℕ
 optional_line i None = []
 optional_line i (Some offset) = item_line i (decimal offset ∷ [])
 

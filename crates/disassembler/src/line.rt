@@ -5,7 +5,7 @@ ghost use Rattle.asm_fields.specs.Fields.{dot};
 ghost use Rattle.asm_fields.specs.Directives.{directive_name};
 ghost use Rattle.cap_words.specs.Text.{field_text, newline};
 
-use asm_fields::{Directive, Item};
+use asm_fields::{Directive, ItemKind};
 use itoa::Buffer;
 use std::alloc::AllocError;
 
@@ -18,7 +18,7 @@ pub(crate) fn begin(text: &mut Vec<u8>, directive: Directive) -> Result<(), Allo
 }
 
 /// Begins a line with the directive of an item.
-pub(crate) fn begin_item(text: &mut Vec<u8>, item: Item) -> Result<(), AllocError>
+pub(crate) fn begin_item(text: &mut Vec<u8>, item: ItemKind) -> Result<(), AllocError>
     ensures { OnOk result (text.new.items ≡ text.old.items ++ dot ∷ directive_name (Directive.Of item)) }
 {
     begin(text, Directive::Of(item))

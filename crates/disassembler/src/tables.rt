@@ -9,7 +9,7 @@ ghost use Rattle.disassembler.specs.Disassembled.{kind_fields, row_line};
 
 use crate::line::{begin_item, end, push_number, push_operand};
 use crate::words::push_word;
-use asm_fields::{Item, kind_name, ownership};
+use asm_fields::{ItemKind, kind_name, ownership};
 use cap_words::Word;
 use component_file::{Export, Import, Kind, KindRow};
 use std::alloc::AllocError;
@@ -37,7 +37,7 @@ impl Listed for Import {
     ghost line = { import_line };
 
     fn push_line(&self, text: &mut Vec<u8>) -> Result<(), AllocError> {
-        begin_item(text, Item::Import)?;
+        begin_item(text, ItemKind::Import)?;
         push_operand(text, self.part.as_slice())?;
         push_operand(text, self.name.as_slice())?;
         push_number(text, self.slot)?;
@@ -49,7 +49,7 @@ impl Listed for Export {
     ghost line = { export_line };
 
     fn push_line(&self, text: &mut Vec<u8>) -> Result<(), AllocError> {
-        begin_item(text, Item::Export)?;
+        begin_item(text, ItemKind::Export)?;
         push_operand(text, self.name.as_slice())?;
         push_number(text, self.offset)?;
         push_operand(text, ownership(self.shared).as_bytes())?;
@@ -62,7 +62,7 @@ impl Listed for u32 {
     ghost line = { site_line };
 
     fn push_line(&self, text: &mut Vec<u8>) -> Result<(), AllocError> {
-        begin_item(text, Item::Site)?;
+        begin_item(text, ItemKind::Site)?;
         push_number(text, *self)?;
         end(text)
     }
@@ -72,7 +72,7 @@ impl Listed for KindRow {
     ghost line = { row_line };
 
     fn push_line(&self, text: &mut Vec<u8>) -> Result<(), AllocError> {
-        begin_item(text, Item::Row)?;
+        begin_item(text, ItemKind::Row)?;
         push_number(text, self.offset)?;
         push_kinds(text, &self.kinds)?;
         end(text)
@@ -113,7 +113,7 @@ pub(crate) fn push_lines<T: Listed>(text: &mut Vec<u8>, items: &[T]) -> Result<(
 /// Appends the line of a range, or nothing where nothing is counted.
 pub(crate) fn push_stretch(
     text: &mut Vec<u8>,
-    item: Item,
+    item: ItemKind,
     base: u32,
     count: u32,
 ) -> Result<(), AllocError>
@@ -129,7 +129,7 @@ pub(crate) fn push_stretch(
 }
 
 /// Appends the line of an item without operands, or nothing where it isn't so.
-pub(crate) fn push_flag(text: &mut Vec<u8>, item: Item, is_so: bool) -> Result<(), AllocError>
+pub(crate) fn push_flag(text: &mut Vec<u8>, item: ItemKind, is_so: bool) -> Result<(), AllocError>
     ensures { OnOk result (text.new.items ≡ text.old.items ++ flag_line item is_so) }
 {
     if !is_so {
@@ -140,7 +140,7 @@ pub(crate) fn push_flag(text: &mut Vec<u8>, item: Item, is_so: bool) -> Result<(
 }
 
 /// Appends the line of an item that is one number.
-pub(crate) fn push_single(text: &mut Vec<u8>, item: Item, number: u32) -> Result<(), AllocError>
+pub(crate) fn push_single(text: &mut Vec<u8>, item: ItemKind, number: u32) -> Result<(), AllocError>
     ensures { OnOk result (text.new.items ≡ text.old.items ++ item_line item (decimal number ∷ [])) }
 {
     begin_item(text, item)?;
@@ -151,7 +151,7 @@ pub(crate) fn push_single(text: &mut Vec<u8>, item: Item, number: u32) -> Result
 /// Appends the line of an offset, or nothing where it is missing.
 pub(crate) fn push_optional(
     text: &mut Vec<u8>,
-    item: Item,
+    item: ItemKind,
     offset: Option<u32>,
 ) -> Result<(), AllocError>
     ensures { OnOk result (text.new.items ≡ text.old.items ++ optional_line item offset) }

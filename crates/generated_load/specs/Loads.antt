@@ -9,14 +9,14 @@ use Rattle.lcm_isa.specs.declared.Operand.TheVariants.{Imm}
 use Rattle.lcm_isa.specs.declared.Reg.TheVariants.{A0, Rcode, Rdata}
 use Rattle.lcm_isa.specs.Numbers.{number_of}
 use Rattle.component_file.specs.declared.component.ComponentFields.{ComponentFields}
-use Rattle.generated_load.specs.declared.load.Load.{Load}
+use Rattle.generated_load.specs.declared.load.Workload.{Workload}
 
 -- the number that follows another one
 abbrev pub next_number : ℕ → ℕ
 next_number x = (1103515245 * x + 12345) % 2147483648
 
 -- of the two numbers that follow a seed
-abbrev pub load_of : ℕ → Load
+abbrev pub load_of : ℕ → Workload
 load_of seed =
     let first = next_number seed in
     record { rounds = 100 + first / 65536 % 900; added = next_number first / 65536 % 100 }
@@ -37,14 +37,14 @@ tail_text =
     codes ") + seen; }\nproc down(n) { if n < 1 { return 0; } "
     ++ codes "seen = seen + go(n); return down(n - 1) + 1; }\n"
 
-abbrev pub module_text : Load → List ℕ
+abbrev pub module_text : Workload → List ℕ
 module_text load = head_text ++ (decimal load.rounds ++ tail_text)
 
 abbrev pub instr_word : Instr → Word
 instr_word i = Int (pos (number_of i))
 
 -- it adds to the word that it is called with, and goes back
-abbrev pub adder : Load → ComponentFields
+abbrev pub adder : Workload → ComponentFields
 adder load = record {
   name = codes "adv";
   stack_base = 65536;

@@ -8,7 +8,7 @@ mod load;
 mod module;
 mod other_part;
 
-pub use load::{Load, load_of, load_steps};
+pub use load::{Workload, load_of, load_steps};
 pub use module::{ModuleText, module_text};
 pub use other_part::adder;
 

@@ -4,7 +4,7 @@ ghost use Rattle.generated_load.specs.Loads.{next_number, load_of, load_steps};
 
 /// What the parts of a load are made with.
 #[derive(Clone, Copy, Debug, PartialEq, Eq)]
-pub struct Load {
+pub struct Workload {
     /// How often the module calls itself: 100 to 999 of a seed.
     pub rounds: u16,
     /// What the other part adds: 0 to 99 of a seed.
@@ -19,12 +19,12 @@ fn next_number(number: u32) -> u32
 }
 
 /// The load of a seed: its numbers come of the two that follow the seed, each of the one before it.
-pub fn load_of(seed: u32) -> Load
+pub fn load_of(seed: u32) -> Workload
     ensures { result ≡ load_of seed }
 {
     let first = next_number(seed);
     let second = next_number(first);
-    Load {
+    Workload {
         rounds: (100 + first / 65_536 % 900) as u16,
         added: (second / 65_536 % 100) as u16,
     }

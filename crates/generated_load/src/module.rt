@@ -2,7 +2,7 @@
 ghost use Rattle.std.specs.Prelude.{◌≡◌, ◌<◌, length};
 ghost use Rattle.generated_load.specs.Loads.{module_text};
 
-use crate::load::Load;
+use crate::load::Workload;
 use arrayvec::ArrayString;
 use itoa::Buffer;
 
@@ -20,7 +20,7 @@ proc down(n) { if n < 1 { return 0; } seen = seen + go(n); return down(n - 1) + 
 ";
 
 /// The text of a load's module, a source of the language of `docs/LANGUAGE.md`.
-pub fn module_text(load: Load) -> ModuleText
+pub fn module_text(load: Workload) -> ModuleText
     ensures { result.bytes ≡ module_text load }
 {
     let mut text = ModuleText::new();

@@ -2,7 +2,7 @@
 ghost use Rattle.std.specs.Prelude.{◌≡◌, IfOk};
 ghost use Rattle.generated_load.specs.Loads.{instr_word, adder};
 
-use crate::load::Load;
+use crate::load::Workload;
 use cap_words::{Items, SealRange, Word};
 use component_file::{Area, Component, ComponentFields, Export};
 use lcm_isa::{Instr, Operand, Reg, encode};
@@ -16,7 +16,7 @@ fn word_of(instr: &Instr) -> Word
 
 /// The component of a load's other part.
 #[tactic(auto, unfolding(cap_words::specs::Names::is_name))]
-pub fn adder(alloc: Global, load: Load) -> Result<Component, AllocError>
+pub fn adder(alloc: Global, load: Workload) -> Result<Component, AllocError>
     ensures { IfOk result (λ c. c ≡ adder load) }
 {
     let added = Operand::Imm(i32::from(load.added));

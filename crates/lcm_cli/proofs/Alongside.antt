@@ -10,7 +10,7 @@ use Rattle.file_plans.specs.declared.refusal.Refusal.{Refusal}
 use Rattle.file_plans.specs.declared.refusal.Refusal.TheVariants.{TooLong}
 use Rattle.file_plans.specs.Plans.{Plan, Reads, Ends, Made, ◌>>=◌, unless, each_at}
 use Rattle.lcm_cli.specs.Answers.{Settles}
-use Rattle.lcm_cli.specs.Erasures.{Held, IsBeside, AreBeside}
+use Rattle.lcm_cli.specs.Roads.{Held, Pairwise}
 
 -- ---- what is due, as a value; none where a file isn't there
 
@@ -88,12 +88,12 @@ abbrev pub Agree : {A B : Type 0} → Held → Held → (A → B → Type 0) →
 Agree held there R p q = Match R (settled held p) (settled there q)
 
 -- what goes on with what was made
-abbrev on : {A B : Type 0} → Due A → (A → Due B) → Due B
+abbrev pub on : {A B : Type 0} → Due A → (A → Due B) → Due B
 on None f = None
 on (Some (Ok x)) f = f x
 on (Some (Err why)) f = Some (Err why)
 
-settled_bind : {A B : Type 0} (held : Held) (p : Plan A) (f : A → Plan B)
+pub settled_bind : {A B : Type 0} (held : Held) (p : Plan A) (f : A → Plan B)
     → settled held (p >>= f) ≡ on (settled held p) (λ x. settled held (f x))
 settled_bind held (Made x) f = refl
 settled_bind held (Ends why) f = refl
@@ -115,12 +115,12 @@ settled_bind held (Reads name index next) f = by_read (λ bytes. settled_bind he
 
 -- ---- lists
 
--- each of the one list is so to each of the other
-abbrev pub Pairwise : {A B : Type 0} → (A → B → Type 0) → List A → List B → Type 0
-Pairwise R [] [] = Unit {0}
-Pairwise R [] (y ∷ ys) = ⊥
-Pairwise R (x ∷ xs) [] = ⊥
-Pairwise R (x ∷ xs) (y ∷ ys) = R x y × Pairwise R xs ys
+pub as_many : {A B : Type 0} (R : A → B → Type 0) (xs : List A) (ys : List B) → Pairwise R xs ys
+    → length ys ≡ length xs
+as_many R [] [] h = refl
+as_many R [] (y ∷ ys) h = absurd h
+as_many R (x ∷ xs) [] h = absurd h
+as_many R (x ∷ xs) (y ∷ ys) h = ap suc (as_many R xs ys h.1)
 
 pub all_equal : {A : Type 0} (xs ys : List A) → Pairwise (λ x y. x ≡ y) xs ys → xs ≡ ys
 all_equal [] [] h = refl
@@ -152,24 +152,19 @@ module _ (held there : Held) where
       rw (settled_bind held p f, settled_bind there q g)
       (match_on R S (settled held p) (settled there q) _ _ m k)
 
-  pub each_agree : {A : Type 0} (R : A → A → Type 0) (item : ℕ → PartWord → Plan A)
-      → ((index : ℕ) (w v : PartWord) → IsBeside held there w v
-      → Agree held there R (item index w) (item index v))
-      → (index : ℕ) (ws vs : List PartWord) → AreBeside held there ws vs
+  -- words of which each is so to each of others
+  pub each_agree : {A : Type 0} (B : PartWord → PartWord → Type 0) (R : A → A → Type 0)
+      (item : ℕ → PartWord → Plan A)
+      → ((index : ℕ) (w v : PartWord) → B w v → Agree held there R (item index w) (item index v))
+      → (index : ℕ) (ws vs : List PartWord) → Pairwise B ws vs
       → Agree held there (Pairwise R) (each_at item index ws) (each_at item index vs)
-  each_agree R item k index [] [] h = tt
-  each_agree R item k index [] (v ∷ vs) h = absurd h
-  each_agree R item k index (w ∷ ws) [] h = absurd h
-  each_agree R item k index (w ∷ ws) (v ∷ vs) h =
+  each_agree B R item k index [] [] h = tt
+  each_agree B R item k index [] (v ∷ vs) h = absurd h
+  each_agree B R item k index (w ∷ ws) [] h = absurd h
+  each_agree B R item k index (w ∷ ws) (v ∷ vs) h =
       agree_bind R (Pairwise R) (item index w) (item index v) _ _ (k index w v h.0) (λ a b r.
       agree_bind (Pairwise R) (Pairwise R) (each_at item (index + 1) ws) (each_at item (index + 1) vs) _ _
-      (each_agree R item k (index + 1) ws vs h.1) (λ xs ys rs. (r, rs)))
-
-  pub as_many : (ws vs : List PartWord) → AreBeside held there ws vs → length vs ≡ length ws
-  as_many [] [] h = refl
-  as_many [] (v ∷ vs) h = absurd h
-  as_many (w ∷ ws) [] h = absurd h
-  as_many (w ∷ ws) (v ∷ vs) h = ap suc (as_many ws vs h.1)
+      (each_agree B R item k (index + 1) ws vs h.1) (λ xs ys rs. (r, rs)))
 
 -- ---- a file that is read, and what a layer below gives of it
 

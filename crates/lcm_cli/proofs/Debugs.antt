@@ -14,7 +14,7 @@ use Rattle.component_linker.specs.Parts.{PartSeen}
 use Rattle.component_linker.specs.Standing.{free_of, placed}
 use Rattle.component_linker.specs.Started.{StartSeen}
 use Rattle.component_linker.proofs.Offers.{are_linked, as_many}
-use Rattle.debug_script.specs.declared.command.Command.{Command as Line}
+use Rattle.debug_script.specs.declared.command.DebugCommand.{DebugCommand as Line}
 use Rattle.debug_script.specs.declared.fault.ScriptFault.{ScriptFault}
 use Rattle.debug_script.specs.Script.{scripted}
 use Rattle.image_loader.specs.declared.fault.ImageFault.{ImageFault}
@@ -26,8 +26,8 @@ use Rattle.file_plans.specs.declared.refusal.Stop.{Stop}
 use Rattle.file_plans.specs.Plans.{Plan, Made, ◌>>=◌, unless, whole, too_long, unread, Comes, Follows}
 use Rattle.file_plans.proofs.Offers.{comes_bind, comes_made, follows_bind, follows_end}
 use Rattle.component_linker.specs.LinkedStarts.{IsStartOf}
-use Rattle.lcm_cli.specs.declared.job.Job.TheVariants as job
-use Rattle.lcm_cli.specs.Jobs.{FollowsTask}
+use Rattle.lcm_cli.specs.declared.ready.ReadyTask.TheVariants as ready
+use Rattle.lcm_cli.specs.ReadyTasks.{FollowsTask}
 use Rattle.lcm_cli.specs.Commands.{Task, Debug, linked_in, debug_plan}
 use Rattle.lcm_cli.specs.Debugs.{unscripted, script_at}
 use Rattle.lcm_cli.specs.Causes.{Breaks, IsUnloaded}
@@ -203,7 +203,7 @@ module _ (l : Linked) (script : List ℕ) (i : ImageSeen) (start : StartSeen) (i
     (old mid new : FilesSeen) (c : Comes (linked_in l) old (Ok i) mid) (is : IsStartOf i.parts i.stack start)
     (e : index ≡ length start.owners) where
   pub debug_follows : (lines : List Line) → Comes (script_at script index) mid (Ok lines) new
-      → FollowsTask (debug_plan l script) old (Ok (job.Debug start lines)) new
+      → FollowsTask (debug_plan l script) old (Ok (ready.Debug start lines)) new
   unfolding debug_plan
   debug_follows lines s =
       let k : Comes (script_at script (length i.parts)) mid (Ok lines) new =

@@ -12,7 +12,8 @@ pub mod Loads
 pub mod Debugs
 pub mod Audits
 pub mod Alongside
-pub mod Erasures
+pub mod ComponentLimits
+pub mod Roads
 pub mod Why
 pub mod Put
 pub mod Caused

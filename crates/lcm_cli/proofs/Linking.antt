@@ -25,7 +25,7 @@ use Rattle.file_plans.specs.declared.refusal.Stop.TheVariants.{Refused}
 use Rattle.file_plans.specs.Plans.{unless, Made, ◌>>=◌, Comes, Follows, Meets, each_at}
 use Rattle.lcm_cli.specs.Parts.{linked, linked_as, loaded_by, loaded, part_at}
 use Rattle.lcm_cli.specs.Commands.{linked_parts}
-use Rattle.lcm_cli.specs.Jobs.{MeetsStart}
+use Rattle.lcm_cli.specs.ReadyTasks.{MeetsStart}
 use Rattle.file_plans.proofs.Offers.{comes_bind, follows_bind, follows_end, meets_follows, unless_made}
 use Rattle.file_plans.proofs.Offers.{unless_ended}
 use Rattle.lcm_cli.proofs.FirstOf.{linked_none, linked_first}

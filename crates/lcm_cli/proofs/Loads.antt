@@ -8,7 +8,7 @@ use Rattle.component_linker.specs.Parts.{PartSeen}
 use Rattle.component_linker.specs.Started.{StartSeen}
 use Rattle.image_loader.specs.Image.{ImageSeen}
 use Rattle.generated_load.specs.declared.TheConstants.{LOAD_STACK}
-use Rattle.generated_load.specs.declared.load.Load.{Load}
+use Rattle.generated_load.specs.declared.load.Workload.{Workload}
 use Rattle.generated_load.specs.Loads.{load_of, load_steps, module_text, adder}
 use Rattle.proc_sources.specs.Sources.{sourced}
 use Rattle.proc_language.specs.declared.dialect.Dialect.TheVariants.{Plain}
@@ -20,9 +20,9 @@ use Rattle.file_plans.specs.Plans.{Plan, Ends, Made, ◌>>=◌, unless, Comes, M
 use Rattle.component_linker.specs.LinkedStarts.{IsStartOf}
 use Rattle.lcm_cli.specs.Parts.{broken_in, linked}
 use Rattle.lcm_cli.specs.Loads.{load_module, load_other, load_parts, load_image}
-use Rattle.lcm_cli.specs.Jobs.{without, MeetsStart, FollowsTask}
+use Rattle.lcm_cli.specs.ReadyTasks.{without, MeetsStart, FollowsTask}
 use Rattle.lcm_cli.specs.Commands.{Task, Run, Totals, for_task}
-use Rattle.lcm_cli.specs.declared.job.Job.TheVariants as job
+use Rattle.lcm_cli.specs.declared.ready.ReadyTask.TheVariants as ready
 use Rattle.file_plans.proofs.Offers.{comes_same}
 use Rattle.lcm_cli.proofs.Tasks.{task_done}
 use Rattle.lcm_cli.proofs.Ends.{Never, same_err, not_made, never_unless, never_bind}
@@ -40,7 +40,7 @@ meets_end p f (Refused why) m = rw m refl
 meets_end p f NoMemory m = tt
 
 -- the parts were made, and linking them gave this
-pub load_starts : (load : Load) (parts : List PartSeen) (r : Result StartSeen Stop)
+pub load_starts : (load : Workload) (parts : List PartSeen) (r : Result StartSeen Stop)
     → load_parts load ≡ Made parts → Meets (unless refusal.Rule (linked parts LOAD_STACK)) (without r)
     → IfOk r (IsStartOf parts LOAD_STACK) → MeetsStart (load_image load) r
 unfolding load_image
@@ -52,14 +52,14 @@ load_starts load parts (Err NoMemory) e m links = tt
 abbrev pub task_of : ℕ → ImageSeen → Task
 task_of seed i = Run i load_steps (Totals (load_of seed))
 
-pub load_done : (seed : ℕ) (load : Load) (start : StartSeen) → load ≡ load_of seed
+pub load_done : (seed : ℕ) (load : Workload) (start : StartSeen) → load ≡ load_of seed
     → MeetsStart (load_image load) (Ok start) → (seen : FilesSeen)
     → FollowsTask (for_task (load_image (load_of seed)) (task_of seed)) seen
-    (Ok (job.Generate start load)) seen
+    (Ok (ready.Generate start load)) seen
 load_done seed load start e m seen =
     let h : MeetsStart (load_image (load_of seed)) (Ok start) =
     subst (λ x. MeetsStart (load_image x) (Ok start)) e m in
-    task_done (load_image (load_of seed)) (task_of seed) seen seen h.0 (job.Generate start load)
+    task_done (load_image (load_of seed)) (task_of seed) seen seen h.0 (ready.Generate start load)
     (comes_same (load_image (load_of seed)) (Made h.0) seen seen (Ok h.0) h.1 (refl, refl))
     (h.0, ap (λ x. Run h.0 load_steps (Totals x)) (sym e), h.2)
 
@@ -77,7 +77,7 @@ settled_bind : {A B : Type 0} (p : Plan A) (f : A → Plan B) → IsSettled p �
 settled_bind p f (inl m) k = rw m.1 (k m.0)
 settled_bind p f (inr e) k = rw e.1 (inr (e.0, refl))
 
-settled_parts : (load : Load) → IsSettled (load_parts load)
+settled_parts : (load : Workload) → IsSettled (load_parts load)
 unfolding load_module load_other load_parts
 settled_parts load =
     settled_bind _ _
@@ -87,7 +87,7 @@ settled_parts load =
     (settled_unless (broken_in 1) (accepted (record { component = adder load; trusted = false })))
     (λ second. inl (_, refl)))
 
-settled_image : (load : Load) → IsSettled (load_image load)
+settled_image : (load : Workload) → IsSettled (load_image load)
 unfolding load_image
 settled_image load =
     settled_bind (load_parts load) _ (settled_parts load)
@@ -116,16 +116,16 @@ ended_by {A} p why old new (inr e) h =
     subst (λ q. Comes q old (Err why) new) e.1 h in
     e.1 ∙ (let k : why ≡ e.0 = same_err {A = A} e.0 why (sym c.0) in rw k refl)
 
-pub load_made : (load : Load) (image : ImageSeen) (old new : FilesSeen)
+pub load_made : (load : Workload) (image : ImageSeen) (old new : FilesSeen)
     → Comes (load_image load) old (Ok image) new → load_image load ≡ Made image
 load_made load image old new h = made_by (load_image load) image old new (settled_image load) h
 
-pub comes_stays : (load : Load) (image : ImageSeen) (old new : FilesSeen)
+pub comes_stays : (load : Workload) (image : ImageSeen) (old new : FilesSeen)
     → Comes (load_image load) old (Ok image) new → new ≡ old
 comes_stays load image old new h =
     (subst (λ q. Comes q old (Ok image) new) (load_made load image old new h) h).1
 
-pub load_ended : (load : Load) (why : Refusal) (old new : FilesSeen)
+pub load_ended : (load : Workload) (why : Refusal) (old new : FilesSeen)
     → Comes (load_image load) old (Err why) new → load_image load ≡ Ends why
 load_ended load why old new h = ended_by (load_image load) why old new (settled_image load) h
 
@@ -139,7 +139,7 @@ NotOfLoad _ = Unit {0}
 not_of_load : (x why : Refusal) → NotOfLoad why → x ≡ why → NotOfLoad x
 not_of_load x why h e = subst NotOfLoad (sym e) h
 
-never_module : (why : Refusal) → NotOfLoad why → (load : Load) → Never (load_module load) why
+never_module : (why : Refusal) → NotOfLoad why → (load : Workload) → Never (load_module load) why
 unfolding load_module
 never_module why h load =
     never_bind _ _ why
@@ -148,20 +148,20 @@ never_module why h load =
     (λ c. never_unless (broken_in 0) (accepted (record { component = c; trusted = true })) why
     (λ b. not_of_load (broken_in 0 b) why h))
 
-never_other : (why : Refusal) → NotOfLoad why → (load : Load) → Never (load_other load) why
+never_other : (why : Refusal) → NotOfLoad why → (load : Workload) → Never (load_other load) why
 unfolding load_other
 never_other why h load =
     never_unless (broken_in 1) (accepted (record { component = adder load; trusted = false })) why
     (λ b. not_of_load (broken_in 1 b) why h)
 
-never_parts : (why : Refusal) → NotOfLoad why → (load : Load) → Never (load_parts load) why
+never_parts : (why : Refusal) → NotOfLoad why → (load : Workload) → Never (load_parts load) why
 unfolding load_parts
 never_parts why h load =
     never_bind (load_module load) _ why (never_module why h load)
     (λ first. never_bind (load_other load) _ why (never_other why h load)
     (λ second. not_made (first ∷ second ∷ []) why))
 
-pub never_load : (why : Refusal) → NotOfLoad why → (load : Load) → Never (load_image load) why
+pub never_load : (why : Refusal) → NotOfLoad why → (load : Workload) → Never (load_image load) why
 unfolding load_image
 never_load why h load =
     never_bind (load_parts load) _ why (never_parts why h load)

@@ -1,8 +1,10 @@
 -- What `mean` tells over the text of a run of sources.
-use Rattle.std.proofs.Common.{◌≡◌, ℕ, List, sym, ap, subst, ◌∙◌}
+use Rattle.std.proofs.Common.{◌≡◌, ℕ, List, ◌∷◌, refl, sym, ap, subst, ◌∙◌}
 use Rattle.std.specs.Prelude.{map, Result, Ok}
+use Rattle.outside_io.specs.FilesSeen.{FilesSeen}
 use Rattle.outside_io.specs.SinkSeen.{Adds}
-use Rattle.command_words.specs.declared.part.PartWord.{PartWord}
+use Rattle.command_words.specs.declared.command.Linked.{Linked}
+use Rattle.proc_language.specs.declared.module.ModuleFields.{ModuleFields}
 use Rattle.proc_program.specs.Lower.{part_of}
 use Rattle.source_events.specs.declared.Item.{Item}
 use Rattle.source_events.specs.declared.Told.{Told}
@@ -16,20 +18,19 @@ use Rattle.trace_tool.specs.Layout.{layout}
 use Rattle.source_starts.specs.RunMeans.{went_out, came_in}
 use Rattle.lcm_cli.specs.declared.status.Status.{Status}
 use Rattle.lcm_cli.specs.Answers.{Outside, meaning_status}
-use Rattle.lcm_cli.specs.Causes.{text_of_run}
-use Rattle.lcm_cli.specs.SourceRuns.{SourcesRun, TellsOfRun, MeanTellsRuns}
+use Rattle.lcm_cli.specs.Causes.{Started, text_of_run}
+use Rattle.lcm_cli.specs.SourceRuns.{TellsOfRun, MeanTellsRuns}
 
 same_items : (xs ys : List Item) → (let r : Result (List Item) FeedFault = Ok xs in r) ≡ Ok ys → xs ≡ ys
 same_items xs ys e = cc
 
-tells_of : (words : List PartWord) (stack steps : ℕ) (read : List (List ℕ)) (old : Outside) (status : Status)
-    (new : Outside) (run : SourcesRun words stack steps read old status new) (fuel : ℕ) (before : Outside)
-    (ended : Status) (after : Outside) (told : Told)
-    → told ≡ meaning (map part_of run.meant.modules) stack (came_in run.given.from.start steps) fuel
+tells_of : (modules : List ModuleFields) (l : Linked) (steps : ℕ) (old new : FilesSeen)
+    (from : Started l old new) (fuel : ℕ) (before : Outside) (ended : Status) (after : Outside) (told : Told)
+    → told ≡ meaning (map part_of modules) from.size (came_in from.start steps) fuel
     → ended ≡ meaning_status told.end
     → Adds before.sink (told_text told) after.sink
-    → TellsOfRun words stack steps read old status new run fuel before ended after
-tells_of words stack steps read old status new run fuel before ended after told is status_is adds =
+    → TellsOfRun modules l steps old new from fuel before ended after
+tells_of modules l steps old new from fuel before ended after told is status_is adds =
     record {
       told = told;
       told_is = is;
@@ -40,24 +41,24 @@ tells_of words stack steps read old status new run fuel before ended after told 
         ap (λ t. t.events) is ∙ ends.told fuel enough,
       );
       begins = λ begun enough.
-          subst (λ t. Prefix (went_out run.given.from.start steps) t.events) (sym is)
+          subst (λ t. Prefix (went_out from.start steps) t.events) (sym is)
           (begun.begins fuel enough);
     }
 
 pub mean_tells : MeanTellsRuns
-mean_tells words stack steps took old status new run m ms is sources fuel feed mean_read before ended after
-    mean same text =
-    let start = run.given.from.start in
+mean_tells m ms l steps old new from so sources stack fuel feed took before ended after mean size same text =
+    let start = from.start in
     let base : stack_base_of mean.modules ≡ (layout start).stack.base =
-    ap stack_base_of same ∙ run.meant.feed.base m ms is in
+    ap stack_base_of same ∙ so.feed.base m ms refl in
     let read : fed (layout start).stack.base (text_of_run start steps) ≡ Ok mean.items =
     subst (λ b. fed b (text_of_run start steps) ≡ Ok mean.items) base
     (subst (λ t. fed (stack_base_of mean.modules) t ≡ Ok mean.items) text mean.is_feed) in
     let items : mean.items ≡ came_in start steps =
-    same_items mean.items (came_in start steps) (sym read ∙ run.meant.feed.read) in
+    same_items mean.items (came_in start steps) (sym read ∙ so.feed.read) in
     let told : meaning (map part_of mean.modules) stack mean.items fuel
-    ≡ meaning (map part_of run.meant.modules) stack (came_in start steps) fuel =
+    ≡ meaning (map part_of (m ∷ ms)) from.size (came_in start steps) fuel =
     ap (λ ms. meaning (map part_of ms) stack mean.items fuel) same
-    ∙ ap (λ xs. meaning (map part_of run.meant.modules) stack xs fuel) items in
-    tells_of words stack steps took old status new run fuel before ended after
+    ∙ (ap (λ n. meaning (map part_of (m ∷ ms)) n mean.items fuel) size
+    ∙ ap (λ xs. meaning (map part_of (m ∷ ms)) from.size xs fuel) items) in
+    tells_of (m ∷ ms) l steps old new from fuel before ended after
     (meaning (map part_of mean.modules) stack mean.items fuel) told mean.status_is mean.written

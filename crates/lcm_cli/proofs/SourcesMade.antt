@@ -1,11 +1,11 @@
--- What a run of sources was given from, and what its sources mean.
-use Rattle.std.proofs.Common.{◌≡◌, ℕ, List, Option, Some, sym, ap, subst, ◌∙◌, inl, inr}
+-- What a run of sources was given from, or of what was made of them, and what the sources mean.
+use Rattle.std.proofs.Common.{◌≡◌, ℕ, List, Option, Some, sym, subst, inl, inr}
 use Rattle.outside_io.specs.FilesSeen.{FilesSeen}
 use Rattle.outside_io.specs.SinkSeen.{FailsToWrite}
-use Rattle.std.specs.Prelude.{map, Ok}
 use Rattle.command_words.specs.declared.part.PartWord.{PartWord}
 use Rattle.command_words.specs.declared.command.Command.{Command}
 use Rattle.command_words.specs.declared.command.Command.TheVariants.{Links}
+use Rattle.command_words.specs.declared.command.Linked.{Linked}
 use Rattle.command_words.specs.declared.command.Linked.TheVariants as what
 use Rattle.command_words.specs.declared.command.LinkDeed.TheVariants as link_deed
 use Rattle.component_linker.specs.Parts.{PartSeen}
@@ -15,23 +15,19 @@ use Rattle.audited_runs.specs.Audited.{RunsPass}
 use Rattle.command_words.specs.Fits.{Fits}
 use Rattle.trace_tool.specs.Runs.{written}
 use Rattle.proc_language.specs.declared.module.ModuleFields.{ModuleFields}
-use Rattle.proc_program.specs.Lower.{part_of}
 use Rattle.source_starts.specs.Sources.{AreSources}
 use Rattle.source_starts.specs.RunMeans.{RunsMean, StacksBegin}
 use Rattle.source_starts.specs.Shown.{SourcesShowNothingElse}
-use Rattle.source_events.specs.declared.Item.{Item}
 use Rattle.component_linker.specs.Standing.{placed}
 use Rattle.linked_modules.specs.Among.{LinkedModulesKeepRules}
 use Rattle.module_rules.specs.Rules.{stack_base_of}
 use Rattle.run_items.specs.Items.{TextsTellItems}
-use Rattle.trace_tool.specs.Feed.{items_of}
 use Rattle.trace_tool.specs.Layout.{layout}
 use Rattle.lcm_cli.specs.declared.status.Status.{Status}
-use Rattle.lcm_cli.specs.declared.status.Status.TheVariants.{WriteFault}
 use Rattle.lcm_cli.specs.Commands.{plan_in}
 use Rattle.lcm_cli.specs.Answers.{Outside, Answers, read_in}
-use Rattle.lcm_cli.specs.Causes.{IsRunStatus, Started, RunGiven}
-use Rattle.lcm_cli.specs.SourceRuns.{AllSources, IsFeed, SourcesMean, SourcesRun, SourcesCut}
+use Rattle.lcm_cli.specs.Causes.{Started, RunGiven}
+use Rattle.lcm_cli.specs.SourceRuns.{AllSources, IsFeed, ModulesMean, SourcesAre, CutOf, RunTold, ModulesTold}
 use Rattle.lcm_cli.specs.SourceRuns.{SourcesTold}
 use Rattle.lcm_cli.proofs.RunsMade.{StartLaws, runs, run_cut}
 use Rattle.lcm_cli.proofs.SourceWords.{SourceLaws, gathered}
@@ -60,59 +56,67 @@ pub record RunLaws : Type 0 where
   pub tells : TextsTellItems
   pub keep : LinkedModulesKeepRules
 
--- what the sources of a start mean, whose parts came
-sources_mean : RunLaws → (words : List PartWord) (stack steps : ℕ) (old new : FilesSeen) → AllSources words
-    → (from : Started (what.Parts words stack) old new) → SourcesMean words stack steps old new from
-sources_mean laws words stack steps old new sources from =
+-- what the modules of a start mean, whatever its parts came in
+modules_mean : RunLaws → (l : Linked) (steps : ℕ) (old new : FilesSeen) (from : Started l old new)
+    → ModulesMean l steps old new from
+modules_mean laws l steps old new from modules are = record {
+  means = laws.mean modules from.parts from.size from.start from.linked_start are steps;
+  shows = laws.show modules from.parts from.size from.start from.linked_start are;
+  feed = feed_of laws.begin laws.tells laws.keep modules from.parts from.size from.start steps
+      from.linked_start are;
+}
+
+-- of words that are sources these are the modules of their texts
+sources_are : RunLaws → (words : List PartWord) (stack steps : ℕ) → AllSources words
+    → (old new : FilesSeen) (from : Started (what.Parts words stack) old new)
+    → SourcesAre words stack steps old new from
+sources_are laws words stack steps sources old new from =
     let g = gathered laws.sources words 0 old new from.parts sources from.came.0 in
-    let is : IsStartOf from.parts stack from.start =
-    subst (λ n. IsStartOf from.parts n from.start) from.came.1 from.linked_start in
     record {
       modules = g.modules;
       came = g.came;
       sources = g.are;
-      means = laws.mean g.modules from.parts stack from.start is g.are steps;
-      shows = laws.show g.modules from.parts stack from.start is g.are;
-      feed = feed_of laws.begin laws.tells laws.keep g.modules from.parts stack from.start steps is
-          g.are;
+      mean = modules_mean laws (what.Parts words stack) steps old new from g.modules g.are;
     }
 
-sources_run : RunLaws → (asked : Option Command) → ((c : Command) → asked ≡ Some c → Fits c)
+-- what holds of every start is so of the one of a run, also where its text couldn't be written whole
+run_told : RunLaws → (asked : Option Command) → ((c : Command) → asked ≡ Some c → Fits c)
     → (old : Outside) (ended : Status) (new : Outside)
-    (a : Answers (plan_in asked) old ended new) (words : List PartWord) (stack steps : ℕ)
-    → asked ≡ Some (Links (what.Parts words stack) (link_deed.Run steps)) → AllSources words
-    → IsRunStatus ended
-    → SourcesRun words stack steps (read_in a) old ended new
-sources_run laws asked fits old ended new a words stack steps e sources r =
-    let given : RunGiven (what.Parts words stack) steps (read_in a) old ended new =
-    runs laws.starts laws.pass asked fits old ended new a (what.Parts words stack) steps e r in
-    record {
-      given = given;
-      meant = sources_mean laws words stack steps old.files new.files sources given.from;
-    }
+    (a : Answers (plan_in asked) old ended new) (l : Linked) (steps : ℕ)
+    (P : (old new : FilesSeen) → Started l old new → Type 0)
+    → asked ≡ Some (Links l (link_deed.Run steps))
+    → ((old new : FilesSeen) (from : Started l old new) → P old new from)
+    → RunTold l P steps (read_in a) old ended new
+run_told laws asked fits old ended new a l steps P e so = (
+  (λ r.
+      let given : RunGiven l steps (read_in a) old ended new =
+      runs laws.starts laws.pass asked fits old ended new a l steps e r in
+      (given, so old.files new.files given.from)),
+  (λ w.
+      elim (run_cut laws.starts asked old ended new a l steps e w)
+      as (λ _. CutOf l P steps (read_in a) old new) [
+        | inl r ↦ inl r
+        | inr c ↦ inr (
+          c.0,
+          c.1,
+          so old.files new.files c.0,
+          subst (λ t. FailsToWrite old.sink t new.sink) c.3 c.4,
+        )
+      ]),
+)
 
-sources_cut : RunLaws → (asked : Option Command) (old : Outside) (ended : Status) (new : Outside)
-    (a : Answers (plan_in asked) old ended new) (words : List PartWord) (stack steps : ℕ)
-    → asked ≡ Some (Links (what.Parts words stack) (link_deed.Run steps)) → AllSources words
-    → ended ≡ WriteFault → SourcesCut words stack steps (read_in a) old new
-sources_cut laws asked old ended new a words stack steps e sources w =
-    elim (run_cut laws.starts asked old ended new a (what.Parts words stack) steps e w)
-    as (λ _. SourcesCut words stack steps (read_in a) old new) [
-      | inl r ↦ inl r
-      | inr c ↦ inr (
-        c.0,
-        c.1,
-        sources_mean laws words stack steps old.files new.files sources c.0,
-        subst (λ t. FailsToWrite old.sink t new.sink) c.3 c.4,
-      )
-    ]
+pub modules_told : RunLaws → (asked : Option Command) → ((c : Command) → asked ≡ Some c → Fits c)
+    → (old : Outside) (ended : Status) (new : Outside)
+    (a : Answers (plan_in asked) old ended new) (l : Linked) (steps : ℕ)
+    → asked ≡ Some (Links l (link_deed.Run steps)) → ModulesTold l steps (read_in a) old ended new
+modules_told laws asked fits old ended new a l steps e =
+    run_told laws asked fits old ended new a l steps (ModulesMean l steps) e (modules_mean laws l steps)
 
 pub sources_told : RunLaws → (asked : Option Command) → ((c : Command) → asked ≡ Some c → Fits c)
     → (old : Outside) (ended : Status) (new : Outside)
     (a : Answers (plan_in asked) old ended new) (words : List PartWord) (stack steps : ℕ)
     → asked ≡ Some (Links (what.Parts words stack) (link_deed.Run steps)) → AllSources words
     → SourcesTold words stack steps (read_in a) old ended new
-sources_told laws asked fits old ended new a words stack steps e sources = (
-  sources_run laws asked fits old ended new a words stack steps e sources,
-  sources_cut laws asked old ended new a words stack steps e sources,
-)
+sources_told laws asked fits old ended new a words stack steps e sources =
+    run_told laws asked fits old ended new a (what.Parts words stack) steps (SourcesAre words stack steps) e
+    (sources_are laws words stack steps sources)

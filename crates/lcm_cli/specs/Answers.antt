@@ -16,8 +16,8 @@ use Rattle.trace_tool.specs.declared.run.RunEnd.TheVariants as run_end
 use Rattle.trace_tool.specs.Layout.{layout}
 use Rattle.trace_tool.specs.Runs.{run_text, end_of}
 use Rattle.trace_tool.specs.Traces.{trace_of, trace_text}
-use Rattle.source_events.specs.declared.End.{End}
-use Rattle.source_events.specs.declared.End.TheVariants as end
+use Rattle.source_events.specs.declared.MeaningEnd.{MeaningEnd}
+use Rattle.source_events.specs.declared.MeaningEnd.TheVariants as end
 use Rattle.source_events.specs.declared.Told.{Told}
 use Rattle.meaning_text.specs.Text.{told_text}
 use Rattle.meaning_tool.specs.Subjects.{told_of}
@@ -28,8 +28,8 @@ use Rattle.lcm_cli.specs.declared.status.Status.TheVariants.{WriteFault, NoMemor
 use Rattle.command_words.specs.declared.command.Command.{Command}
 use Rattle.file_plans.specs.declared.refusal.Refusal.{Refusal}
 use Rattle.file_plans.specs.declared.refusal.Refusal.TheVariants.{TooLong}
-use Rattle.lcm_cli.specs.declared.job.Job.{Job}
-use Rattle.lcm_cli.specs.declared.job.Job.TheVariants as job
+use Rattle.lcm_cli.specs.declared.ready.ReadyTask.{ReadyTask}
+use Rattle.lcm_cli.specs.declared.ready.ReadyTask.TheVariants as ready
 use Rattle.lcm_cli.specs.Refusals.{refusal_text, refusal_status}
 use Rattle.file_plans.specs.Plans.{Plan, Reads, Ends, Made, Comes}
 use Rattle.lcm_cli.specs.Bytes.{bytes_of}
@@ -81,7 +81,7 @@ abbrev pub ran_overlay : OverlaySeen → ℕ → Answer
 ran_overlay overlay steps = writes (end_status (trace_of steps overlay).end) (trace_text steps overlay)
 
 -- the status of a meaning, by how it ended
-abbrev pub meaning_status : End → Status
+abbrev pub meaning_status : MeaningEnd → Status
 meaning_status (end.Halt v) = Done
 meaning_status end.Fail = MachineFailed
 meaning_status end.Waiting = Done
@@ -220,21 +220,21 @@ abbrev pub WritesOrFails : SinkSeen → List ℕ → Status → Status → SinkS
 WritesOrFails old text status result new =
     ((result ≡ status) × Adds old text new) ⊎ ((result ≡ WriteFault) × FailsToWrite old text new)
 
--- the answer of a job
-abbrev pub job_answer : Job → Answer
-job_answer (job.Run start steps) = ran start steps Lines
-job_answer (job.Generate start load) = ran start load_steps (Totals load)
-job_answer (job.Trace start overlay steps) = ran_overlay overlay steps
-job_answer (job.Put out bytes) = puts out bytes
-job_answer (job.Write text) = writes Done text
-job_answer (job.Debug start script) = writes Done (debug_text start.state script)
-job_answer job.Say = says_ok
-job_answer (job.Tell meant) = writes (meaning_status meant.end) meant.text
+-- the answer of a ready task
+abbrev pub ready_answer : ReadyTask → Answer
+ready_answer (ready.Run start steps) = ran start steps Lines
+ready_answer (ready.Generate start load) = ran start load_steps (Totals load)
+ready_answer (ready.Trace start overlay steps) = ran_overlay overlay steps
+ready_answer (ready.Put out bytes) = puts out bytes
+ready_answer (ready.Write text) = writes Done text
+ready_answer (ready.Debug start script) = writes Done (debug_text start.state script)
+ready_answer ready.Say = says_ok
+ready_answer (ready.Tell meant) = writes (meaning_status meant.end) meant.text
 
--- the machine of a job made no step yet, and its overlay is that of its start
-abbrev pub IsReady : Job → Type 0
-IsReady (job.Run start steps) = (start.state.count ≡ 0) × (start.state.end ≡ None)
-IsReady (job.Generate start load) = (start.state.count ≡ 0) × (start.state.end ≡ None)
-IsReady (job.Debug start script) = (start.state.count ≡ 0) × (start.state.end ≡ None)
-IsReady (job.Trace start overlay steps) = IsOverlayOf start overlay
+-- the machine of a ready task made no step yet, and its overlay is that of its start
+abbrev pub IsReady : ReadyTask → Type 0
+IsReady (ready.Run start steps) = (start.state.count ≡ 0) × (start.state.end ≡ None)
+IsReady (ready.Generate start load) = (start.state.count ≡ 0) × (start.state.end ≡ None)
+IsReady (ready.Debug start script) = (start.state.count ≡ 0) × (start.state.end ≡ None)
+IsReady (ready.Trace start overlay steps) = IsOverlayOf start overlay
 IsReady _ = Unit {0}

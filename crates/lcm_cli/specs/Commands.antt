@@ -13,9 +13,9 @@ use Rattle.command_words.specs.declared.command.Command.TheVariants as asked
 use Rattle.component_file.specs.declared.component.ComponentFields.{ComponentFields}
 use Rattle.component_file.specs.Spelling.{spelling}
 use Rattle.component_file.specs.Reading.{decoded}
-use Rattle.debug_script.specs.declared.command.Command.{Command as Line}
+use Rattle.debug_script.specs.declared.command.DebugCommand.{DebugCommand as Line}
 use Rattle.disassembler.specs.Disassembled.{disassembled}
-use Rattle.generated_load.specs.declared.load.Load.{Load}
+use Rattle.generated_load.specs.declared.load.Workload.{Workload}
 use Rattle.generated_load.specs.Loads.{load_of, load_steps}
 use Rattle.image_loader.specs.Image.{ImageSeen, image_bytes}
 use Rattle.file_plans.specs.declared.refusal.Refusal.TheVariants as refusal
@@ -51,7 +51,7 @@ IsReadAgain (OfModule m) = IsParsedBack m → IsSourceOf (printed m) m
 -- what is told of a run: its lines and its end line; or, of a load, its totals
 pub data Telling : Type 0 where
   Lines : Telling
-  Totals : (load : Load) → Telling
+  Totals : (load : Workload) → Telling
 
 -- what is left to do once the files came: to run the start of an image, or its overlay, or
 -- to tell what its parts can reach; to debug it by a script; to put a file under a

@@ -1,6 +1,6 @@
 -- Debugging: what links, and the script of a file.
 use Rattle.std.specs.Prelude.{ℕ, List}
-use Rattle.debug_script.specs.declared.command.Command.{Command}
+use Rattle.debug_script.specs.declared.command.DebugCommand.{DebugCommand}
 use Rattle.debug_script.specs.declared.fault.ScriptFault.{ScriptFault}
 use Rattle.debug_script.specs.declared.fault.ScriptFault.TheVariants.{Line, NoMemory}
 use Rattle.debug_script.specs.Script.{scripted}
@@ -17,7 +17,7 @@ abbrev pub unscripted : ScriptFault → Refusal
 unscripted f = refusal.Script (script_line f)
 
 -- the script of a file, with the index that a refusal tells of it
-unfoldable pub script_at : List ℕ → ℕ → Plan (List Command)
+unfoldable pub script_at : List ℕ → ℕ → Plan (List DebugCommand)
 script_at name index = do
   text ← file name index
   unless unscripted (scripted text)

@@ -5,11 +5,11 @@ pub mod Loads
 pub mod Debugs
 pub mod Audits
 pub mod Commands
-pub mod Jobs
+pub mod ReadyTasks
 pub mod Bytes
 pub mod Answers
 pub mod Causes
 pub mod SourceRuns
-pub mod Erasures
+pub mod Roads
 pub mod SafeRuns
 pub mod Pieces

@@ -1,8 +1,9 @@
--- Runs of parts of which every trusted one is a source.
+-- Runs of parts of which every trusted one is a source, or was made of one.
 use Rattle.std.specs.Prelude.{◌≡◌, ◌⊎◌, ℕ, ◌≤◌, Bool, true, false, List, [], ◌∷◌, map, Ok, Err}
 use Rattle.outside_io.specs.FilesSeen.{FilesSeen}
 use Rattle.outside_io.specs.SinkSeen.{Adds, FailsToWrite}
 use Rattle.outside_io.specs.Whole.{GivesWhole as ComesWhole}
+use Rattle.command_words.specs.declared.command.Linked.{Linked}
 use Rattle.command_words.specs.declared.command.Linked.TheVariants as what
 use Rattle.command_words.specs.declared.command.LinkDeed.TheVariants as link_deed
 use Rattle.command_words.specs.declared.command.Command.TheVariants.{Links}
@@ -18,8 +19,7 @@ use Rattle.component_linker.specs.Parts.{PartSeen}
 use Rattle.component_linker.specs.Started.{StartSeen}
 use Rattle.module_rules.specs.Rules.{stack_base_of, ruled}
 use Rattle.run_feed.specs.Feed.{fed}
-use Rattle.source_events.specs.declared.End.{End}
-use Rattle.source_events.specs.declared.Item.{Item}
+use Rattle.source_events.specs.declared.MeaningEnd.{MeaningEnd}
 use Rattle.source_events.specs.declared.Told.{Told}
 use Rattle.source_starts.specs.Sources.{AreSources}
 use Rattle.source_laws.specs.Sources.{MeaningEnds, MeaningBegins}
@@ -71,70 +71,83 @@ pub record IsFeed (modules : List ModuleFields) (stack : ℕ) (start : StartSeen
   pub base : (m : ModuleFields) (others : List ModuleFields) → modules ≡ m ∷ others
       → stack_base_of modules ≡ (layout start).stack.base
 
--- the trusted parts that a run starts from are the components of the modules that the words' texts spell, in
--- their order; what its lines tell is what these modules mean, by the feed that its text is; and wherever
--- their code lets go of control, code outside is shown nothing else
-pub record SourcesMean (words : List PartWord) (stack steps : ℕ) (old new : FilesSeen)
+-- what is so of a run whose trusted parts are the components of these modules, in their order, whatever form
+-- its words have, or in an image: what its lines tell is what the modules mean, by the feed that its text is;
+-- and wherever their code lets go of control, code outside is shown nothing else
+pub record SourcesMean (modules : List ModuleFields) (l : Linked) (steps : ℕ) (old new : FilesSeen)
+    (from : Started l old new) : Type 0 where
+  pub means : RunMeans (map part_of modules) from.size from.start steps
+  pub shows : ShowsNothingElse modules from.parts from.size from.start
+  pub feed : IsFeed modules from.size from.start steps
+
+-- so it is of whatever modules the trusted parts of the run are
+abbrev pub ModulesMean : (l : Linked) → ℕ → (old new : FilesSeen) → Started l old new → Type 0
+ModulesMean l steps old new from =
+    (modules : List ModuleFields) → AreSources modules from.parts → SourcesMean modules l steps old new from
+
+-- where every trusted word is a source there are such modules: those that the words' texts spell, in their
+-- order
+pub record SourcesAre (words : List PartWord) (stack steps : ℕ) (old new : FilesSeen)
     (from : Started (what.Parts words stack) old new) : Type 0 where
   pub modules : List ModuleFields
   pub came : SourcesCame words old from.parts modules new
   pub sources : AreSources modules from.parts
-  pub means : RunMeans (map part_of modules) stack from.start steps
-  pub shows : ShowsNothingElse modules from.parts stack from.start
-  pub feed : IsFeed modules stack from.start steps
+  pub mean : SourcesMean modules (what.Parts words stack) steps old new from
 
--- a run whose trusted parts are sources: the plain run gave the status, the text and the machine, and its
--- lines are told by what the sources mean
-pub record SourcesRun (words : List PartWord) (stack steps : ℕ) (read : List (List ℕ)) (old : Outside)
-    (status : Status) (new : Outside) : Type 0 where
-  pub given : RunGiven (what.Parts words stack) steps read old status new
-  pub meant : SourcesMean words stack steps old.files new.files given.from
+-- a run: the plain run gave the status, the text and the machine; and such holds of its start
+abbrev pub RunOf : (l : Linked) → ((old new : FilesSeen) → Started l old new → Type 0) → ℕ → List (List ℕ)
+    → Outside → Status → Outside → Type 0
+RunOf l P steps read old status new =
+    (given : RunGiven l steps read old status new) × P old.files new.files given.from
 
--- the sink failed at the line of the refusal that was due, or at the text of such a run, whose lines, also
--- those that weren't written, are told by what the sources mean
-abbrev pub SourcesCut : List PartWord → ℕ → ℕ → List (List ℕ) → Outside → Outside → Type 0
-SourcesCut words stack steps read old new =
-    ((why : Refusal) × Comes (linked_in (what.Parts words stack)) old.files (Err why) new.files
-    × Makes (plan_of (Links (what.Parts words stack) (link_deed.Run steps))) read (Err why)
+-- the sink failed at the line of the refusal that was due, or at the text of such a run
+abbrev pub CutOf : (l : Linked) → ((old new : FilesSeen) → Started l old new → Type 0) → ℕ → List (List ℕ)
+    → Outside → Outside → Type 0
+CutOf l P steps read old new =
+    ((why : Refusal) × Comes (linked_in l) old.files (Err why) new.files
+    × Makes (plan_of (Links l (link_deed.Run steps))) read (Err why)
     × FailsToWrite old.sink (refusal_text why) new.sink)
-    ⊎ ((from : Started (what.Parts words stack) old.files new.files)
-    × IsMadeOf read (link_deed.Run steps) from × SourcesMean words stack steps old.files new.files from
-    × FailsToWrite old.sink (text_of_run from.start steps) new.sink)
+    ⊎ ((from : Started l old.files new.files) × IsMadeOf read (link_deed.Run steps) from
+    × P old.files new.files from × FailsToWrite old.sink (text_of_run from.start steps) new.sink)
 
--- what is promised of a run of sources, by its status
+-- what is promised of a run by its status: also of the lines that weren't written
+abbrev pub RunTold : (l : Linked) → ((old new : FilesSeen) → Started l old new → Type 0) → ℕ → List (List ℕ)
+    → Outside → Status → Outside → Type 0
+RunTold l P steps read old status new =
+    (IsRunStatus status → RunOf l P steps read old status new)
+    × (status ≡ WriteFault → CutOf l P steps read old new)
+
+-- of every run, and of one whose trusted words are sources
+abbrev pub ModulesTold : Linked → ℕ → List (List ℕ) → Outside → Status → Outside → Type 0
+ModulesTold l steps = RunTold l (ModulesMean l steps) steps
+
 abbrev pub SourcesTold : List PartWord → ℕ → ℕ → List (List ℕ) → Outside → Status → Outside → Type 0
-SourcesTold words stack steps read old status new =
-    (IsRunStatus status → SourcesRun words stack steps read old status new)
-    × (status ≡ WriteFault → SourcesCut words stack steps read old new)
+SourcesTold words stack steps = RunTold (what.Parts words stack) (SourcesAre words stack steps) steps
 
 -- what `mean` wrote and answered is of the very meaning that the run's lines are told by. With fuel enough it
 -- tells just the events that went out by those lines, wherever they are all of the meaning's; and it begins
 -- with them where they are a front of those
-pub record TellsOfRun (words : List PartWord) (stack steps : ℕ) (read : List (List ℕ)) (first : Outside)
-    (answered : Status) (last : Outside) (run : SourcesRun words stack steps read first answered last)
-    (fuel : ℕ) (old : Outside) (status : Status) (new : Outside) : Type 0 where
+pub record TellsOfRun (modules : List ModuleFields) (l : Linked) (steps : ℕ) (old new : FilesSeen)
+    (from : Started l old new) (fuel : ℕ) (before : Outside) (ended : Status) (after : Outside) : Type 0 where
   pub told : Told
-  pub told_is : told ≡ meaning (map part_of run.meant.modules) stack (came_in run.given.from.start steps) fuel
-  pub status_is : status ≡ meaning_status told.end
-  pub written : Adds old.sink (told_text told) new.sink
-  pub tells : (end : End)
-      (ends : MeaningEnds (map part_of run.meant.modules) stack (came_in run.given.from.start steps)
-      (went_out run.given.from.start steps) end)
-      → ends.enough ≤ fuel → (told.end ≡ end) × (told.events ≡ went_out run.given.from.start steps)
+  pub told_is : told ≡ meaning (map part_of modules) from.size (came_in from.start steps) fuel
+  pub status_is : ended ≡ meaning_status told.end
+  pub written : Adds before.sink (told_text told) after.sink
+  pub tells : (end : MeaningEnd)
+      (ends : MeaningEnds (map part_of modules) from.size (came_in from.start steps)
+      (went_out from.start steps) end)
+      → ends.enough ≤ fuel → (told.end ≡ end) × (told.events ≡ went_out from.start steps)
   pub begins :
-      (begun : MeaningBegins (map part_of run.meant.modules) stack (came_in run.given.from.start steps)
-      (went_out run.given.from.start steps))
-      → begun.enough ≤ fuel → Prefix (went_out run.given.from.start steps) told.events
+      (begun : MeaningBegins (map part_of modules) from.size (came_in from.start steps)
+      (went_out from.start steps))
+      → begun.enough ≤ fuel → Prefix (went_out from.start steps) told.events
 
 -- wherever `mean` is asked of the sources of a run, over the text of that run
 abbrev pub MeanTellsRuns : Type 0
 MeanTellsRuns =
-    (words : List PartWord) (stack steps : ℕ) (read : List (List ℕ)) (old : Outside) (status : Status)
-    (new : Outside) (run : SourcesRun words stack steps read old status new) (m : ModuleFields)
-    (others : List ModuleFields)
-    → run.meant.modules ≡ m ∷ others
-    → (sources : List PartWord) (fuel : ℕ) (feed : List ℕ) (mean_read : List (List ℕ))
-    (before : Outside) (ended : Status) (after : Outside)
-    (mean : MeaningGiven sources stack fuel feed mean_read before ended after)
-    → mean.modules ≡ run.meant.modules → mean.text ≡ text_of_run run.given.from.start steps
-    → TellsOfRun words stack steps read old status new run fuel before ended after
+    (m : ModuleFields) (others : List ModuleFields) (l : Linked) (steps : ℕ) (old new : FilesSeen)
+    (from : Started l old new) → SourcesMean (m ∷ others) l steps old new from
+    → (sources : List PartWord) (stack fuel : ℕ) (feed : List ℕ) (read : List (List ℕ)) (before : Outside)
+    (ended : Status) (after : Outside) (mean : MeaningGiven sources stack fuel feed read before ended after)
+    → stack ≡ from.size → mean.modules ≡ m ∷ others → mean.text ≡ text_of_run from.start steps
+    → TellsOfRun (m ∷ others) l steps old new from fuel before ended after

@@ -4,9 +4,9 @@ ghost use Rattle.debug_script.specs.Script.{scripted};
 ghost use Rattle.file_plans.specs.Plans.{Follows, Meets, unless};
 ghost use Rattle.lcm_cli.specs.Debugs.{unscripted, script_at};
 ghost use Rattle.lcm_cli.specs.Commands.{debug_plan};
-ghost use Rattle.lcm_cli.specs.Jobs.{FollowsTask};
+ghost use Rattle.lcm_cli.specs.ReadyTasks.{FollowsTask};
 
-use crate::job::Job;
+use crate::ready::ReadyTask;
 use crate::start::start;
 use command_words::{FileName, Linked};
 use component_linker::Start;
@@ -48,16 +48,16 @@ fn part_count(start: &Start) -> u32
 }
 
 /// Reads what is debugged, and then the script, and makes the start.
-pub(crate) fn debug_job<'a, F: Files>(
+pub(crate) fn ready_debug<'a, F: Files>(
     alloc: Global,
     files: &mut F,
     what: &Linked<'_>,
     name: &FileName<'_>,
-) -> Result<Job<'a>, Stop>
+) -> Result<ReadyTask<'a>, Stop>
     ensures { FollowsTask (debug_plan what.now name.now) (F.seen files.old) result (F.seen files.new) }
 {
     let start = start(alloc, files, what)?;
     let index = part_count(&start);
     let script = read_script(alloc, files, name, index)?;
-    Ok(Job::Debug(start, script))
+    Ok(ReadyTask::Debug(start, script))
 }

@@ -11,11 +11,15 @@ ghost use Rattle.lcm_cli.specs.Commands.{plan_in};
 ghost use Rattle.lcm_cli.specs.Answers.{Answer, IsWritten};
 ghost use Rattle.lcm_cli.specs.SourceRuns.{MeanTellsRuns};
 ghost use Rattle.lcm_cli.specs.SafeRuns.{SafeSinksHoldRuns};
-ghost use Rattle.lcm_cli.specs.Erasures.{TokensAreGone};
+ghost use Rattle.lcm_cli.specs.Roads.{RoadsAreOne};
 
 use alike_modules::laws::{alike_modules_mean_the_same, printed_modules_are_sources};
+use assembler::laws::what_is_spelled_keeps_the_limits;
 use authority_report::laws::reports_are_one;
+use disassembler::laws::text_is_read;
+use proc_program::laws::{calls_are_kept, programs_keep_limits};
 use proc_sources::laws::sources_are_modules;
+use proc_templates::laws::{components_keep_rules, names_differ};
 
 /// Parts together are refused for the first of the rules of linking that they break, in the first part and
 /// at the first place there, and for nothing else.
@@ -40,22 +44,31 @@ pub fn one_answer()
 /// `mean`, asked of the sources of a run over the text of that run, with the same size of stack, writes the
 /// text of the very meaning that the run's lines are told by, where it ends with 0, 1 or 2: with fuel enough
 /// it tells just the events that went out by that text, or, where trusted code was still running, begins with
-/// them. Neither the rules of a meaning nor the form of a feed refuse it (`SourcesRun`); the length of the
-/// text may.
+/// them. The run may be of the sources, of what was made of them, or of an image (`SourcesMean`). Neither the
+/// rules of a meaning nor the form of a feed refuse it; the length of the text may.
 pub fn mean_tells_runs()
     ensures { MeanTellsRuns }
 {}
 
-/// A source with tokens gives what its erasure gives: whatever `run`, `trace`, `link`, `reach`, `debug`,
-/// `mean`, `check`, `compile` and `dis` are asked of parts, the answer is the same where in place of such a
-/// part stands the text of its module without tokens, which is parsed and, as the part's own, not too long to
-/// be read: the text, the status, the file and the machine.
-pub fn tokens_are_gone()
-    ensures { TokensAreGone }
+/// All roads to a run are one. In place of a part that a command is asked of may stand, under any name, what
+/// gives the same component: the bytes that `compile` or `asm` puts of it, the text that `dis` writes of it,
+/// or, of a source with tokens, the text of its module without them; and in place of all of the parts the
+/// image that `link` puts of them. Any of them may be exchanged at once, over other files, and one after
+/// another, and back. Then whatever `run`, `trace`, `link`, `reach`, `debug`, `check`, `dis` and, of sources,
+/// `mean` are asked, the answer is the same: the text, the status, the file and the machine. Of what was put
+/// or written it is asked that it isn't too long to be read.
+pub fn roads_are_one()
+    ensures { RoadsAreOne }
 {
     sources_are_modules();
     alike_modules_mean_the_same();
     printed_modules_are_sources();
+    text_is_read();
+    what_is_spelled_keeps_the_limits();
+    programs_keep_limits();
+    calls_are_kept();
+    components_keep_rules();
+    names_differ();
 }
 
 /// Over an empty [`SafeSink`](outside_io::SafeSink) a `run` ends with WriteFault only where the text that is

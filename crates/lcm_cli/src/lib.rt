@@ -2,11 +2,11 @@
 #![tactic(auto)]
 
 mod debugging;
-mod job;
 pub mod laws;
 mod lines;
 mod load;
 mod part;
+mod ready;
 mod refusal_line;
 mod start;
 mod status;

@@ -4,14 +4,14 @@ ghost use Rattle.lcm_machine.specs.Run.{answer};
 ghost use Rattle.file_plans.specs.Plans.{Meets};
 ghost use Rattle.lcm_cli.specs.Loads.{load_module, load_other, load_parts, load_image};
 ghost use Rattle.lcm_cli.specs.Loads.{totals_line, totals_at};
-ghost use Rattle.lcm_cli.specs.Jobs.{MeetsStart};
+ghost use Rattle.lcm_cli.specs.ReadyTasks.{MeetsStart};
 
 use crate::part::{accept_at, compile_at};
 use crate::start::start_of;
 use cap_words::{Items, word_text};
 use component_linker::{Part, Start};
 use file_plans::Stop;
-use generated_load::{LOAD_STACK, Load, adder, module_text};
+use generated_load::{LOAD_STACK, Workload, adder, module_text};
 use itoa::Buffer;
 use lcm_isa::Reg;
 use lcm_machine::{LcmState, Step};
@@ -20,7 +20,7 @@ use std::alloc::Global;
 use trace_tool::{Counted, EndLine, end_line};
 
 // The trusted module.
-fn module_part(alloc: Global, load: Load) -> Result<Part, Stop>
+fn module_part(alloc: Global, load: Workload) -> Result<Part, Stop>
     ensures { Meets (load_module load) result }
 {
     let text = module_text(load);
@@ -29,7 +29,7 @@ fn module_part(alloc: Global, load: Load) -> Result<Part, Stop>
 }
 
 // The untrusted part.
-fn other_part(alloc: Global, load: Load) -> Result<Part, Stop>
+fn other_part(alloc: Global, load: Workload) -> Result<Part, Stop>
     ensures { Meets (load_other load) result }
 {
     let component = adder(alloc, load)?;
@@ -37,7 +37,7 @@ fn other_part(alloc: Global, load: Load) -> Result<Part, Stop>
 }
 
 // Both of them.
-fn parts_of(alloc: Global, load: Load) -> Result<Items<Part>, Stop>
+fn parts_of(alloc: Global, load: Workload) -> Result<Items<Part>, Stop>
     ensures are { Meets (load_parts load) result }
     ensures count { IfOk result (λ parts. length parts ≡ 2) }
 {
@@ -48,7 +48,7 @@ fn parts_of(alloc: Global, load: Load) -> Result<Items<Part>, Stop>
 }
 
 /// The start of a load's parts, which are linked as those of words are.
-pub(crate) fn load_start(alloc: Global, load: Load) -> Result<Start, Stop>
+pub(crate) fn load_start(alloc: Global, load: Workload) -> Result<Start, Stop>
     ensures { MeetsStart (load_image load) result }
 {
     let parts = parts_of(alloc, load)?;
@@ -56,7 +56,7 @@ pub(crate) fn load_start(alloc: Global, load: Load) -> Result<Start, Stop>
 }
 
 // The line of a run that halted.
-fn totals_line(load: Load, calls: u64, left: &LcmState) -> EndLine
+fn totals_line(load: Workload, calls: u64, left: &LcmState) -> EndLine
     ensures bytes { result.bytes ≡ totals_line load calls left.now }
     ensures some { 0 < length result.bytes }
 {
@@ -75,7 +75,7 @@ fn totals_line(load: Load, calls: u64, left: &LcmState) -> EndLine
 }
 
 /// What is told of a load's run: its totals where it halted, and else its end line.
-pub(crate) fn totals(load: Load, run: Counted, left: &LcmState) -> EndLine
+pub(crate) fn totals(load: Workload, run: Counted, left: &LcmState) -> EndLine
     requires { run.last ≡ answer left.now }
     ensures bytes { result.bytes ≡ totals_at run.last load run.calls left.now }
     ensures some { 0 < length result.bytes }

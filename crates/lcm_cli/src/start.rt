@@ -7,7 +7,7 @@ ghost use Rattle.file_plans.specs.Plans.{Meets, unless};
 ghost use Rattle.component_linker.specs.LinkedStarts.{IsStartOf};
 ghost use Rattle.lcm_cli.specs.Parts.{linked, loaded};
 ghost use Rattle.lcm_cli.specs.Commands.{linked_parts, linked_image, linked_in};
-ghost use Rattle.lcm_cli.specs.Jobs.{without, FollowsStart, FollowsImage, MeetsStart};
+ghost use Rattle.lcm_cli.specs.ReadyTasks.{without, FollowsStart, FollowsImage, MeetsStart};
 
 use crate::part::parts;
 use cap_words::Items;

@@ -8,22 +8,22 @@ ghost use Rattle.command_words.specs.declared.command.Linked.{Linked};
 ghost use Rattle.command_words.specs.declared.command.Linked.TheVariants as what;
 ghost use Rattle.command_words.specs.Action.{asked_in};
 ghost use Rattle.command_words.specs.Texts.{texts};
-ghost use Rattle.lcm_cli.specs.declared.job.Job.TheVariants as job;
+ghost use Rattle.lcm_cli.specs.declared.ready.ReadyTask.TheVariants as ready;
 ghost use Rattle.lcm_cli.specs.Commands.{plan_in, Totals};
 ghost use Rattle.trace_tool.specs.Runs.{end_of};
-ghost use Rattle.lcm_cli.specs.Jobs.{FollowsTask};
+ghost use Rattle.lcm_cli.specs.ReadyTasks.{FollowsTask};
 ghost use Rattle.overlay_machine.specs.Seen.{IsOverlayOf};
 ghost use Rattle.lcm_cli.specs.Answers.{ran, Answers, OfBytes, Gives, WritesOrFails, outside, end_status};
 ghost use Rattle.lcm_cli.specs.Answers.{meaning_status, refused};
-ghost use Rattle.lcm_cli.specs.Answers.{GivesOrNothing, job_answer, IsReady};
+ghost use Rattle.lcm_cli.specs.Answers.{GivesOrNothing, ready_answer, IsReady};
 ghost use Rattle.lcm_cli.specs.Causes.{Promised, IsRunStatus, RunGiven, TraceGiven, RunCut, TraceCut};
 ghost use Rattle.lcm_cli.specs.Causes.{StayAt, PutsWhole, MeaningGiven, LoadGiven, ReachGiven, DebugGiven};
 ghost use Rattle.lcm_cli.specs.Causes.{AuditTold};
-ghost use Rattle.lcm_cli.specs.SourceRuns.{AllSources, SourcesTold};
+ghost use Rattle.lcm_cli.specs.SourceRuns.{AllSources, SourcesTold, ModulesTold};
 
-use crate::job::{Job, job_of};
 use crate::lines::write_lines;
 use crate::load::totals;
+use crate::ready::{ReadyTask, ready_of};
 use crate::refusal_line::{refusal_line, refusal_status};
 use crate::status::Status;
 use audited_runs::laws::runs_pass;
@@ -36,7 +36,7 @@ use debug_script::Script;
 use debug_tool::laws::commands_remember;
 use debug_tool::{DebugFault, debug};
 use file_plans::{Refusal, Stop};
-use generated_load::{Load, load_steps};
+use generated_load::{Workload, load_steps};
 use lcm_machine::{LcmState, Step};
 use linked_modules::laws::linked_modules_keep_rules;
 use meaning_tool::Meaning;
@@ -45,7 +45,7 @@ use overlay_machine::Overlay;
 use overlay_machine::laws::a_start_has_one_overlay;
 use proc_sources::laws::sources_are_modules;
 use run_items::laws::texts_tell_items;
-use source_events::End;
+use source_events::MeaningEnd;
 use source_starts::laws::{runs_mean, sources_show_nothing_else, stacks_begin};
 use std::alloc::Global;
 use trace_tool::laws::{frames_are_secret, open_calls_are_kept, the_headline};
@@ -78,7 +78,7 @@ fn give_run<S: Sink>(start: Start, steps: Steps, out: &mut S, kept: &mut Option<
     requires fresh { start.state.count ≡ 0 }
     requires goes { start.state.end ≡ None }
     ensures { (files : _) → Gives (outside files (S.seen out.old) kept.old)
-        (job_answer (job.Run start steps)) result (outside files (S.seen out.new) kept.new) }
+        (ready_answer (ready.Run start steps)) result (outside files (S.seen out.new) kept.new) }
 {
     let mut start = start;
     match run_plain(&mut start, steps.number(), out) {
@@ -104,7 +104,7 @@ fn step_status(step: Step) -> Status
 // Runs a load, writes the totals of the run, and hands the machine over where they were written.
 fn give_load<S: Sink>(
     start: Start,
-    load: Load,
+    load: Workload,
     steps: u64,
     out: &mut S,
     kept: &mut Option<LcmState>,
@@ -131,7 +131,7 @@ fn give_load<S: Sink>(
 fn give_trace<S: Sink>(start: &Start, overlay: Overlay, steps: Steps, out: &mut S) -> Status
     requires { IsOverlayOf start.now overlay }
     ensures { (files : _) (kept : _) → Gives (outside files (S.seen out.old) kept)
-        (job_answer (job.Trace start.now overlay steps)) result (outside files (S.seen out.new) kept) }
+        (ready_answer (ready.Trace start.now overlay steps)) result (outside files (S.seen out.new) kept) }
 {
     let mut overlay = overlay;
     end_status(run_overlay(&mut overlay, start, steps.number(), out))
@@ -145,7 +145,7 @@ fn give_file<F: Files, S: Sink>(
     out: &mut S,
 ) -> Status
     ensures { (kept : _) → Gives (outside (F.seen files.old) (S.seen out.old) kept)
-        (job_answer (job.Put name.now bytes.now)) result
+        (ready_answer (ready.Put name.now bytes.now)) result
         (outside (F.seen files.new) (S.seen out.new) kept) }
 {
     match files.put(name.as_str(), bytes.as_slice()) {
@@ -164,13 +164,13 @@ fn give_text<S: Sink>(text: &Items<u8>, status: Status, out: &mut S) -> Status
     }
 }
 
-fn meaning_status(end: End) -> Status
+fn meaning_status(end: MeaningEnd) -> Status
     ensures { result ≡ meaning_status end }
 {
     match end {
-        End::Halt(_) | End::Waiting => Status::Done,
-        End::Fail => Status::MachineFailed,
-        End::OutOfFuel => Status::StepsUsed,
+        MeaningEnd::Halt(_) | MeaningEnd::Waiting => Status::Done,
+        MeaningEnd::Fail => Status::MachineFailed,
+        MeaningEnd::OutOfFuel => Status::StepsUsed,
     }
 }
 
@@ -186,7 +186,7 @@ fn give_debug<S: Sink>(alloc: Global, start: Start, script: &Script, out: &mut S
     requires fresh { start.state.count ≡ 0 }
     requires goes { start.state.end ≡ None }
     ensures { (files : _) (kept : _) → GivesOrNothing (outside files (S.seen out.old) kept)
-        (job_answer (job.Debug start script.now)) result (outside files (S.seen out.new) kept) }
+        (ready_answer (ready.Debug start script.now)) result (outside files (S.seen out.new) kept) }
 {
     match debug(alloc, start, script, out) {
         Ok(()) => Status::Done,
@@ -198,24 +198,24 @@ fn give_debug<S: Sink>(alloc: Global, start: Start, script: &Script, out: &mut S
 // Does what is left to do, and tells of it.
 fn give<F: Files, S: Sink>(
     alloc: Global,
-    job: Job<'_>,
+    ready: ReadyTask<'_>,
     files: &mut F,
     out: &mut S,
     kept: &mut Option<LcmState>,
 ) -> Status
-    requires { IsReady job }
-    ensures { GivesOrNothing (outside (F.seen files.old) (S.seen out.old) kept.old) (job_answer job.entry)
+    requires { IsReady ready }
+    ensures { GivesOrNothing (outside (F.seen files.old) (S.seen out.old) kept.old) (ready_answer ready.entry)
         result (outside (F.seen files.new) (S.seen out.new) kept.new) }
 {
-    match job {
-        Job::Run(start, steps) => give_run(start, steps, out, kept),
-        Job::Generate(start, load) => give_load(start, load, load_steps(), out, kept),
-        Job::Debug(start, script) => give_debug(alloc, start, &script, out),
-        Job::Trace(start, overlay, steps) => give_trace(&start, overlay, steps, out),
-        Job::Put(name, bytes) => give_file(&name, &bytes, files, out),
-        Job::Write(text) => give_text(&text, Status::Done, out),
-        Job::Tell(meant) => give_meaning(&meant, out),
-        Job::Say => tell(out, "ok\n", Status::Done),
+    match ready {
+        ReadyTask::Run(start, steps) => give_run(start, steps, out, kept),
+        ReadyTask::Generate(start, load) => give_load(start, load, load_steps(), out, kept),
+        ReadyTask::Debug(start, script) => give_debug(alloc, start, &script, out),
+        ReadyTask::Trace(start, overlay, steps) => give_trace(&start, overlay, steps, out),
+        ReadyTask::Put(name, bytes) => give_file(&name, &bytes, files, out),
+        ReadyTask::Write(text) => give_text(&text, Status::Done, out),
+        ReadyTask::Tell(meant) => give_meaning(&meant, out),
+        ReadyTask::Say => tell(out, "ok\n", Status::Done),
     }
 }
 
@@ -228,12 +228,16 @@ fn refuse<S: Sink>(why: Refusal, out: &mut S) -> Status
 }
 
 // Reads what the words ask for.
-fn job_in<'a, F: Files>(alloc: Global, words: &'a [String], files: &mut F) -> Result<Job<'a>, Stop>
+fn ready_in<'a, F: Files>(
+    alloc: Global,
+    words: &'a [String],
+    files: &mut F,
+) -> Result<ReadyTask<'a>, Stop>
     ensures { FollowsTask (plan_in (asked_in (texts words.now))) (F.seen files.old) result
         (F.seen files.new) }
 {
     match command_of(alloc, words) {
-        Ok(command) => job_of(alloc, files, command),
+        Ok(command) => ready_of(alloc, files, command),
         Err(WordsFault::Usage) => Err(Stop::Refused(Refusal::Usage)),
         Err(WordsFault::NoMemory) => Err(Stop::NoMemory),
     }
@@ -250,8 +254,8 @@ fn answer<F: Files, S: Sink>(
         (outside (F.seen files.old) (S.seen out.old) kept.old)
         result (outside (F.seen files.new) (S.seen out.new) kept.new) }
 {
-    match job_in(alloc, words, files) {
-        Ok(job) => give(alloc, job, files, out, kept),
+    match ready_in(alloc, words, files) {
+        Ok(ready) => give(alloc, ready, files, out, kept),
         Err(Stop::Refused(why)) => refuse(why, out),
         Err(Stop::NoMemory) => Status::NoMemory,
     }
@@ -316,6 +320,14 @@ pub fn stk_main<F: Files, S: Sink>(
         → asked_in (texts words.now.items)
         ≡ Some (Links (what.Parts words_of stack) (link_deed.Run steps))
         → AllSources words_of → OfBytes (SourcesTold words_of stack steps) (asked_in (texts words.now.items))
+        (outside (F.seen files.old) (S.seen out.old) kept.old)
+        result (outside (F.seen files.new) (S.seen out.new) kept.new) }
+
+    // The same of every run, of words of whatever form or of an image, and of whatever modules its trusted
+    // parts are the compiled components: they mean what its lines tell, and show nothing else.
+    ensures compiled { (l : Linked) (steps : ℕ)
+        → asked_in (texts words.now.items) ≡ Some (Links l (link_deed.Run steps))
+        → OfBytes (ModulesTold l steps) (asked_in (texts words.now.items))
         (outside (F.seen files.old) (S.seen out.old) kept.old)
         result (outside (F.seen files.new) (S.seen out.new) kept.new) }
 

@@ -4,7 +4,7 @@ ghost use Rattle.std.specs.Prelude.{Some, None, option_copied, map, false, ℕ};
 ghost use Rattle.lcm_machine.specs.Cells.{cell, set_cell, drop_cell, set_slot, cells_of, AreSlotsOf};
 ghost use Rattle.lcm_machine.specs.Spans.{in_spans, AreSpans, IsNear, StandsAt, slot, zero_part};
 
-use crate::parts::Part;
+use crate::parts::Slots;
 use cap_words::MachineWord;
 use std::alloc::{AllocError, Global};
 use std::marker::Model;
@@ -47,7 +47,7 @@ const NOWHERE: Near = Near {
 #[derive(Drop)]
 pub struct Cells<W> {
     spans: Vec<Span>,
-    parts: Vec<Part<W>>,
+    parts: Vec<Slots<W>>,
     // The span that was last fetched from.
     fetched: Near,
     // The span that was last loaded from or stored to.
@@ -309,13 +309,13 @@ impl<W> Cells<W> {
 }
 
 // The cells of each span: integer 0.
-fn zero_parts<W: MachineWord>(alloc: Global, spans: &[Span]) -> Result<Vec<Part<W>>, AllocError>
+fn zero_parts<W: MachineWord>(alloc: Global, spans: &[Span]) -> Result<Vec<Slots<W>>, AllocError>
     requires { AreSpans 0 spans.now }
     ensures { IfOk result (λ parts. parts.items ≡ map (zero_part W.plain) spans.now) }
 {
     let mut parts = Vec::with_capacity(alloc, spans.len())?;
     for span in spans {
-        parts.push(Part::zeros(alloc, (span.end - span.base) as usize + 1)?)?;
+        parts.push(Slots::zeros(alloc, (span.end - span.base) as usize + 1)?)?;
     }
     Ok(parts)
 }

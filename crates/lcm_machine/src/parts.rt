@@ -11,11 +11,11 @@ use std::mem;
 /// A slot for each address of a span, seen as their list: a cell's word, or none where the cell is
 /// out.
 #[derive(Drop)]
-pub struct Part<W> {
+pub struct Slots<W> {
     slots: Vec<Option<W>>,
 }
 
-impl<W> Model for Part<W> {
+impl<W> Model for Slots<W> {
     ghost use Rattle.std.specs.Prelude.{List, Option};
 
     ghost Value = { List (Option W) };
@@ -23,7 +23,7 @@ impl<W> Model for Part<W> {
     ghost view = { λ p. p.slots.items };
 }
 
-impl<W> Part<W> {
+impl<W> Slots<W> {
     /// The word of a slot, where it has one.
     #[inline(always)]
     pub fn get(&self, k: usize) -> Option<&W>
@@ -44,15 +44,15 @@ impl<W> Part<W> {
     }
 }
 
-impl<W: MachineWord> Part<W> {
+impl<W: MachineWord> Slots<W> {
     /// So many cells of integer 0.
-    pub fn zeros(alloc: Global, count: usize) -> Result<Part<W>, AllocError>
+    pub fn zeros(alloc: Global, count: usize) -> Result<Slots<W>, AllocError>
         ensures { IfOk result (λ part. part ≡ replicate count (Some (zero_word W.plain))) }
     {
         let mut slots = Vec::with_capacity(alloc, count)?;
         for _i in 0..count {
             slots.push(Some(W::from_word(Word::Int(0))))?;
         }
-        Ok(Part { slots })
+        Ok(Slots { slots })
     }
 }

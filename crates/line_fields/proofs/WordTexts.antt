@@ -28,7 +28,9 @@ use Rattle.cap_words.specs.WordReading.{as_word}
 use Rattle.line_fields.specs.declared.TheConstants.{LAST_NATURAL}
 use Rattle.line_fields.specs.Cuts.{cut, behind}
 use Rattle.line_fields.specs.Numbers.{are_digits, number_in, integer_in}
-use Rattle.line_fields.specs.Words.{HasText, perm_named, lin_named, range_in, cap_in, seals_behind}
+use Rattle.cap_words.specs.Text.{perm_named, lin_named}
+use Rattle.cap_words.proofs.Offers.{perm_again, lin_again}
+use Rattle.line_fields.specs.Words.{HasText, range_in, cap_in, seals_behind}
 use Rattle.line_fields.specs.Words.{content_behind}
 use Rattle.line_fields.specs.Words.{content_in, sealed_in, unsealed_or, word_behind, candidate_in}
 use Rattle.line_fields.specs.Words.{where_text, word_in}
@@ -62,23 +64,12 @@ range_again s rest h =
     let le : nat_le s.base s.end ≡ true = le-leb _ _ order in
     rw (one, base, two, end, three, cur, le) refl
 
-perm_again : (x : Perm) → perm_named (perm_name x) ≡ Some x
-perm_again No = refl
-perm_again ReadOnly = refl
-perm_again Rw = refl
-perm_again Rx = refl
-perm_again Rwx = refl
-
 perm_free : (x : Perm) → is_free 44 (perm_name x) ≡ true
 perm_free No = refl
 perm_free ReadOnly = refl
 perm_free Rw = refl
 perm_free Rx = refl
 perm_free Rwx = refl
-
-lin_again : (x : Lin) → lin_named (lin_name x) ≡ Some x
-lin_again Normal = refl
-lin_again Linear = refl
 
 lin_free : (x : Lin) → is_free 44 (lin_name x) ≡ true
 lin_free Normal = refl

@@ -6,8 +6,8 @@ use Rattle.source_events.specs.declared.FeedBack.{FeedBack}
 use Rattle.source_events.specs.declared.FeedBack.TheVariants as feed_back
 use Rattle.source_events.specs.declared.FeedPair.{FeedPair}
 use Rattle.source_events.specs.declared.FeedPair.TheVariants as feed_pair
-use Rattle.line_fields.specs.declared.forms.Back.{Back}
-use Rattle.line_fields.specs.declared.forms.Back.TheVariants as back
+use Rattle.line_fields.specs.declared.forms.WayBack.{WayBack}
+use Rattle.line_fields.specs.declared.forms.WayBack.TheVariants as back
 use Rattle.line_fields.specs.declared.forms.Handed.{Handed}
 use Rattle.line_fields.specs.declared.forms.Handed.TheVariants as handed
 use Rattle.line_fields.specs.Options.{◌>>=◌, where_true}
@@ -43,7 +43,7 @@ hop_back entry = feed_back.Hop entry.part entry.name
 abbrev pub pair_back : CallSeen → FeedBack
 pair_back call = feed_back.Pair call.part call.site call.base
 
-abbrev pub back_seen : Back → FeedBack
+abbrev pub back_seen : WayBack → FeedBack
 back_seen back.Out = feed_back.Out
 back_seen back.Bad = feed_back.Bad
 back_seen (back.Hop entry) = hop_back entry

@@ -1,19 +1,15 @@
 -- Words read of their texts: from the front as some word, which must then have this text.
-use Rattle.std.specs.Prelude.{ℕ, ℤ, ◌≤◌, nat_le, Bool, List, [], ◌∷◌, codes, find, Option, Some, None}
+use Rattle.std.specs.Prelude.{ℕ, ℤ, ◌≤◌, nat_le, Bool, List, codes, Option, Some, None}
 use Rattle.std.specs.Prelude.{option_map, is_some}
 use Rattle.std.specs.Str.{bytes_eq}
 use Rattle.cap_words.specs.declared.TheConstants.{LAST_PLACE}
-use Rattle.cap_words.specs.declared.Perm.{Perm}
-use Rattle.cap_words.specs.declared.Perm.TheVariants.{No, R as ReadOnly, Rw, Rx, Rwx}
-use Rattle.cap_words.specs.declared.Lin.{Lin}
-use Rattle.cap_words.specs.declared.Lin.TheVariants.{Normal, Linear}
 use Rattle.cap_words.specs.declared.CapFields.{CapFields}
 use Rattle.cap_words.specs.declared.SealFields.{SealFields}
 use Rattle.cap_words.specs.declared.Sealable.{Sealable}
 use Rattle.cap_words.specs.declared.Sealable.TheVariants.{Mem as MemIn, Seal as SealIn}
 use Rattle.cap_words.specs.declared.Word.{Word}
 use Rattle.cap_words.specs.declared.Word.TheVariants.{Int, Mem, Seal, Sealed}
-use Rattle.cap_words.specs.Text.{perm_name, lin_name, word_text_of}
+use Rattle.cap_words.specs.Text.{perm_named, lin_named, word_text_of}
 use Rattle.cap_words.specs.WordBytes.{ContentFits, WordFits}
 use Rattle.cap_words.specs.WordReading.{as_word}
 use Rattle.line_fields.specs.declared.TheConstants.{LAST_NATURAL}
@@ -27,16 +23,6 @@ HasText (Int n) = WordFits (Int n)
 HasText (Mem c) = WordFits (Mem c)
 HasText (Seal s) = WordFits (Seal s)
 HasText (Sealed seal content) = (seal ≤ LAST_NATURAL) × ContentFits content
-
--- the first that has the name
-abbrev pub named : {A : Type 0} → (A → List ℕ) → List A → List ℕ → Option A
-named name_of xs name = find (λ x. bytes_eq (name_of x) name) xs
-
-abbrev pub perm_named : List ℕ → Option Perm
-perm_named name = named perm_name (No ∷ ReadOnly ∷ Rw ∷ Rx ∷ Rwx ∷ []) name
-
-abbrev pub lin_named : List ℕ → Option Lin
-lin_named name = named lin_name (Normal ∷ Linear ∷ []) name
 
 abbrev pub in_order : ℕ → ℕ → ℤ → Option SealFields
 in_order base end at = where_true (nat_le base end) (record { base = base; end = end; cur = at })

@@ -11,7 +11,7 @@ use cap_words::is_name;
 
 /// What a return would do.
 #[derive(Debug, Drop)]
-pub enum Back<'a> {
+pub enum WayBack<'a> {
     /// It leaves trusted code.
     Out,
     /// It fails.
@@ -76,20 +76,20 @@ fn call_in(text: &[u8]) -> Option<CallPlace<'_>>
 /// What a return would do: `out`, `bad`, `hop:PART:EXPORT` or `pair:PART:SITE:BASE`. `None` exactly where the
 /// text is none of these.
 #[tactic(auto, unfolding(crate::specs::Forms::back_in))]
-pub fn back_in(text: &[u8]) -> Option<Back<'_>>
+pub fn back_in(text: &[u8]) -> Option<WayBack<'_>>
     ensures { option_map back_seen result ≡ back_in text.now }
 {
     if is_text("out", text) {
-        return Some(Back::Out);
+        return Some(WayBack::Out);
     }
     if is_text("bad", text) {
-        return Some(Back::Bad);
+        return Some(WayBack::Bad);
     }
     if let Some(entry) = behind(b"hop:", text) {
-        return Some(Back::Hop(entry_in(entry)?));
+        return Some(WayBack::Hop(entry_in(entry)?));
     }
     let call = behind(b"pair:", text)?;
-    Some(Back::Pair(call_in(call)?))
+    Some(WayBack::Pair(call_in(call)?))
 }
 
 /// What two argument registers are as a closure pair: `none`, `bad`, `out` or `hop:PART:EXPORT`. `None`

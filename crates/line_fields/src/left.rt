@@ -7,7 +7,7 @@ ghost use Rattle.line_fields.specs.Words.{is_word};
 ghost use Rattle.line_fields.specs.Forms.{back_seen, back_in, handed_seen, handed_in};
 ghost use Rattle.line_fields.specs.Fields.{fields, lines, field, meant, tested, is_none_left, GivesAs};
 
-use crate::forms::{self, Back, Handed, is_text};
+use crate::forms::{self, Handed, WayBack, is_text};
 use crate::marks::cut;
 use crate::number;
 use crate::word::is_word;
@@ -129,7 +129,7 @@ impl<'a> Parts<'a> {
 
     /// The next part, which tells what a return would do.
     #[tactic(auto, unfolding(crate::specs::Fields::meant))]
-    pub fn back(&mut self) -> Option<Back<'a>>
+    pub fn back(&mut self) -> Option<WayBack<'a>>
         ensures { GivesAs back_seen result self.new (meant back_in self.old) }
     {
         let field = self.part()?;

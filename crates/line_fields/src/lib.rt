@@ -14,7 +14,7 @@ mod number;
 mod word;
 
 pub use entry::{CallPlace, EntryName};
-pub use forms::{Back, Handed, back_in, handed_in, is_text};
+pub use forms::{Handed, WayBack, back_in, handed_in, is_text};
 pub use left::Parts;
 pub use marks::{behind, cut};
 pub use number::{integer_in, natural_in, number_in};

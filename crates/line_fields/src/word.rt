@@ -5,7 +5,7 @@
 ghost use Rattle.std.specs.Prelude.{◌≡◌, ◌≤◌, IfSome};
 ghost use Rattle.cap_words.specs.declared.TheConstants.{LAST_PLACE};
 ghost use Rattle.line_fields.specs.Numbers.{number_in};
-ghost use Rattle.line_fields.specs.Words.{perm_named, lin_named, range_in, cap_in, content_in, sealed_in};
+ghost use Rattle.line_fields.specs.Words.{range_in, cap_in, content_in, sealed_in};
 ghost use Rattle.line_fields.specs.Words.{candidate_in, word_in, is_word};
 
 use crate::marks::{behind, cut};
@@ -13,24 +13,6 @@ use crate::number::{integer_in, natural_in, number_in};
 use cap_words::{
     Cap, CapFields, LAST_PLACE, Lin, Perm, SealCap, SealFields, Sealable, Word, word_text,
 };
-
-fn perm_named(name: &[u8]) -> Option<Perm>
-    ensures { result ≡ perm_named name.now }
-{
-    [Perm::No, Perm::R, Perm::Rw, Perm::Rx, Perm::Rwx]
-        .iter()
-        .copied()
-        .find(|perm| perm.name().as_bytes() == name)
-}
-
-fn lin_named(name: &[u8]) -> Option<Lin>
-    ensures { result ≡ lin_named name.now }
-{
-    [Lin::Normal, Lin::Linear]
-        .iter()
-        .copied()
-        .find(|lin| lin.name().as_bytes() == name)
-}
 
 // An address or a seal.
 fn place_in(text: &[u8]) -> Option<u32>
@@ -67,9 +49,9 @@ fn cap_in(text: &[u8]) -> Option<Cap>
     ensures { result ≡ cap_in text.now }
 {
     let (perm, rest) = cut(text, b',')?;
-    let perm = perm_named(perm)?;
+    let perm = Perm::of_name(perm)?;
     let (lin, rest) = cut(rest, b',')?;
-    let lin = lin_named(lin)?;
+    let lin = Lin::of_name(lin)?;
     let range = range_in(rest)?;
     Some(Cap::of(CapFields {
         perm,

@@ -14,6 +14,7 @@ use Rattle.lcm_machine.specs.Cells.{cell, all_there}
 use Rattle.lcm_machine.specs.Row.{faces, row, plan_in}
 use Rattle.lcm_machine.specs.Runs.{run_of, code_cap}
 use Rattle.lcm_machine.proofs.Offers.{row_mapped, is_linear-face}
+use Rattle.call_sequence.specs.declared.TheConstants.{CALL_WORDS}
 use Rattle.call_sequence.specs.SequenceRuns.{stack_cap, at_xjmp}
 use Rattle.call_sequence.proofs.Offers.{call_jumps}
 use Rattle.trusted_border.specs.declared.layout.Layout.{Layout}
@@ -82,8 +83,8 @@ module _ (l : Layout) (i : ℕ) (o : OState) (t : State Word) (at_site : AtSite 
       t15 = at_xjmp (λ w. w) t site.base site.end site.at site.seal l.stack.base at_site.end b
 
       -- sixteen plain instructions are the `xjmp` from there
-      pub plain_row : run_of (λ w. w) (λ w. w) 16 t ≡ row (λ w. w) (λ w. w) (Xjmp C1 C2)
-          (Mem (code_cap site.base site.end (site.at + 16))) t15
+      pub plain_row : run_of (λ w. w) (λ w. w) CALL_WORDS t ≡ row (λ w. w) (λ w. w) (Xjmp C1 C2)
+          (Mem (code_cap site.base site.end (site.at + CALL_WORDS))) t15
       plain_row =
           let e = at_site.in_stack in
           let d = at_site.small_stack in
@@ -101,11 +102,11 @@ module _ (l : Layout) (i : ℕ) (o : OState) (t : State Word) (at_site : AtSite 
           (at_site.owned (b + 1) (omega arith) high)))
 
       pub call_agrees : is_plain o.maps.regs.c1 ≡ true → is_plain o.maps.regs.c2 ≡ true
-          → EndsAgree l (call_step l i o) (run_of (λ w. w) (λ w. w) 16 t)
+          → EndsAgree l (call_step l i o) (run_of (λ w. w) (λ w. w) CALL_WORDS t)
       call_agrees p1 p2 =
           let fs = new_frame i (b + 1) at_site.end o ∷ o.frames in
           let s' = at_call i site (stack_cap l.stack.base at_site.end (b + 1)) o in
-          let next = Mem (code_cap site.base site.end (site.at + 16)) in
+          let next = Mem (code_cap site.base site.end (site.at + CALL_WORDS)) in
           let mapped =
           called_flat l i o t site at_site.end b at_site.is_site at_site.owned low high m k at_site.known in
           let shows =

@@ -21,6 +21,7 @@ use Rattle.lcm_machine.specs.Row.{word_at}
 use Rattle.lcm_machine.specs.Runs.{code_cap}
 use Rattle.lcm_machine.specs.Mapped.{mapped_or, IsMapped, SameFaces}
 use Rattle.lcm_machine.proofs.Offers.{cell-set_other, cell-set_same, cell-without_in, cell-without_out}
+use Rattle.call_sequence.specs.declared.TheConstants.{CALL_WORDS}
 use Rattle.call_sequence.specs.SequenceRuns.{stack_cap, at_xjmp}
 use Rattle.trusted_border.specs.declared.layout.Layout.{Layout}
 use Rattle.trusted_border.specs.declared.layout.SiteCode.{SiteCode}
@@ -64,7 +65,7 @@ module _ (l : Layout) (i : ℕ) (o : OState) (t : State Word) (sc : SiteCode) (s
   kept : (r : Reg) → reg t.regs r ≡ now_flat (reg o.maps.regs r)
   kept r = m.regs r ∙ sym (old (R r) (reg o.maps.regs r) refl)
 
-  code_is : now_flat (RetCode i) ≡ Sealed sc.seal (MemIn (code_cap sc.base sc.end (sc.at + 16)))
+  code_is : now_flat (RetCode i) ≡ Sealed sc.seal (MemIn (code_cap sc.base sc.end (sc.at + CALL_WORDS)))
   unfolding flat
   code_is = ap flat_code is_site
 

@@ -20,6 +20,7 @@ use Rattle.lcm_machine.specs.Places.{reg}
 use Rattle.lcm_machine.specs.Row.{faces}
 use Rattle.lcm_machine.specs.Runs.{run_of, code_cap}
 use Rattle.lcm_machine.specs.Mapped.{SameFaces}
+use Rattle.call_sequence.specs.declared.TheConstants.{ENTRY_WORDS}
 use Rattle.call_sequence.specs.SequenceRuns.{is_stack_at}
 use Rattle.call_sequence.proofs.Offers.{entry_runs, entry_fails}
 use Rattle.trusted_border.specs.declared.layout.Layout.{Layout}
@@ -54,7 +55,7 @@ module _ (l : Layout) (a : ℕ) (o : OState) (t : State Word) (at_entry : AtEntr
     o' = record o {
       maps = record o.maps {
         regs = record o.maps.regs {
-          pc = Plain (Mem (code_cap at_entry.base at_entry.end (a + 20)));
+          pc = Plain (Mem (code_cap at_entry.base at_entry.end (a + ENTRY_WORDS)));
           stk = Plain (Mem (record c { addr = pos c.end }));
           t1 = zero_word Plain;
           t2 = zero_word Plain;
@@ -65,7 +66,7 @@ module _ (l : Layout) (a : ℕ) (o : OState) (t : State Word) (at_entry : AtEntr
     abbrev t' : State Word
     t' = record t {
       regs = record t.regs {
-        pc = Mem (code_cap at_entry.base at_entry.end (a + 20));
+        pc = Mem (code_cap at_entry.base at_entry.end (a + ENTRY_WORDS));
         stk = Mem (record c { addr = pos c.end });
         t1 = Int (pos 0);
         t2 = Int (pos 0);
@@ -122,7 +123,7 @@ module _ (l : Layout) (a : ℕ) (o : OState) (t : State Word) (at_entry : AtEntr
     unfolding entry_step need faces
     overlay_goes e = rw (at_entry.pc, e) refl
 
-    goes_on : own_stack l o.maps ≡ Some c → EndsAgree l (entry_step l a o) (run_of id id 20 t)
+    goes_on : own_stack l o.maps ≡ Some c → EndsAgree l (entry_step l a o) (run_of id id ENTRY_WORDS t)
     unfolding own_stack faces
     goes_on e =
         let f = face_of_own l (face_of (look o.maps.regs.stk)) c e in
@@ -137,7 +138,7 @@ module _ (l : Layout) (a : ℕ) (o : OState) (t : State Word) (at_entry : AtEntr
         pc_is (m.regs Stk ∙ flat-mem l o.frames _ c w) p.0 p.1 p.2 (omega (arith, order.0, base_is)) order.1)
         (record { regs = regs; cells = m.cells; spans = m.spans }) (places, k.1)
 
-  refuses : own_stack l o.maps ≡ None → EndsAgree l (entry_step l a o) (run_of id id 20 t)
+  refuses : own_stack l o.maps ≡ None → EndsAgree l (entry_step l a o) (run_of id id ENTRY_WORDS t)
   unfolding own_stack faces entry_step need
   refuses e =
       let face_is : face_of t.regs.stk ≡ face_of (look o.maps.regs.stk) =
@@ -151,9 +152,9 @@ module _ (l : Layout) (a : ℕ) (o : OState) (t : State Word) (at_entry : AtEntr
       at_entry.small_stack) tt)
 
   by_stack : (x : Option CapFields) → own_stack l o.maps ≡ x → EndsAgree l (entry_step l a o)
-      (run_of id id 20 t)
+      (run_of id id ENTRY_WORDS t)
   by_stack None e = refuses e
   by_stack (Some c) e = goes_on c e
 
-  pub entry_agrees : EndsAgree l (entry_step l a o) (run_of id id 20 t)
+  pub entry_agrees : EndsAgree l (entry_step l a o) (run_of id id ENTRY_WORDS t)
   entry_agrees = by_stack (own_stack l o.maps) refl

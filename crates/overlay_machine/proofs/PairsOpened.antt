@@ -10,6 +10,7 @@ use Rattle.cap_words.specs.Face.{opened_of}
 use Rattle.cap_words.specs.Linear.{lin_is}
 use Rattle.lcm_machine.specs.Runs.{code_cap}
 use Rattle.lcm_machine.specs.Refusals.{Refuses}
+use Rattle.call_sequence.specs.declared.TheConstants.{CALL_WORDS}
 use Rattle.call_sequence.specs.SequenceRuns.{stack_cap}
 use Rattle.trusted_border.specs.declared.layout.Layout.{Layout}
 use Rattle.trusted_border.specs.declared.layout.SiteCode.{SiteCode}
@@ -24,7 +25,7 @@ pub opened-code : (l : Layout) (fs : List OpenFrame) (j : ℕ) (o : Option SiteC
     → (opened_of (flat l fs (RetCode j)) ≡ None)
     ⊎ ((s : SiteCode) × (o ≡ Some s)
     × (opened_of (flat l fs (RetCode j))
-    ≡ Some (record { seal = s.seal; content = MemC (code_cap s.base s.end (s.at + 16)) })))
+    ≡ Some (record { seal = s.seal; content = MemC (code_cap s.base s.end (s.at + CALL_WORDS)) })))
 unfolding flat
 opened-code l fs j None e = inl (ap (λ x. opened_of (flat_code x)) e)
 opened-code l fs j (Some s) e = inr (s, refl, ap (λ x. opened_of (flat_code x)) e)
@@ -74,7 +75,7 @@ pub code_site : (l : Layout) (fs : List OpenFrame) (j : ℕ) → OneSite l (open
 code_site l fs j =
     elim (opened-code l fs j (site_code l j) refl) as (λ _. OneSite l (opened_of (flat l fs (RetCode j)))) [
       | inl h ↦ inl h
-      | inr h ↦ inr (j, h.0, code_cap (h.0).base (h.0).end ((h.0).at + 16), h.1, h.2)
+      | inr h ↦ inr (j, h.0, code_cap (h.0).base (h.0).end ((h.0).at + CALL_WORDS), h.1, h.2)
     ]
 
 pub data_site : (l : Layout) (fs : List OpenFrame) (n : ℕ) → OneSite l (opened_of (flat l fs (RetData n)))

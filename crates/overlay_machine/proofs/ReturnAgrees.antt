@@ -31,6 +31,7 @@ use Rattle.lcm_machine.specs.Refusals.{HasFailed, CannotJoin, Refuses}
 use Rattle.lcm_machine.proofs.Offers.{xjmp_goes, left, run_then, fetch_mapped, cases_reg, reg-set_same}
 use Rattle.lcm_machine.proofs.Offers.{reg-set_other, run_one, failed_more, then_failed, xjmp_fails}
 use Rattle.lcm_machine.proofs.Offers.{xjmp_runs_fails}
+use Rattle.call_sequence.specs.declared.TheConstants.{CALL_WORDS, RETURN_WORDS, SITE_WORDS}
 use Rattle.call_sequence.specs.SequenceRuns.{stack_cap, HasReturn}
 use Rattle.call_sequence.proofs.Offers.{return_runs, return_apart, return_off_base}
 use Rattle.trusted_border.specs.declared.layout.Layout.{Layout}
@@ -131,7 +132,7 @@ module _ (l : Layout) (r1 r2 : Reg) (o : OState) (t : State Word) (at_return : A
       (ap opened_of (m.regs r2) ∙ ey) h)
 
   more : HasFailed (run_of id id 1 t) → HasFailed (run_of id id 11 t)
-  more h = failed_more id id 1 10 t h
+  more h = failed_more id id 1 RETURN_WORDS t h
 
   plain_opened : (r : Reg) (w : Word) → reg o.maps.regs r ≡ Plain w
       → opened_of (fl (reg o.maps.regs r)) ≡ opened_of w
@@ -153,9 +154,9 @@ module _ (l : Layout) (r1 r2 : Reg) (o : OState) (t : State Word) (at_return : A
   -- the first word is the RetCode of a site
   module _ (i : ℕ) (e1 : x1 ≡ RetCode i) (s : SiteCode) (es : site_code l i ≡ Some s)
       (ex : opened_of (fl x1)
-      ≡ Some (record { seal = s.seal; content = MemC (code_cap s.base s.end (s.at + 16)) })) where
+      ≡ Some (record { seal = s.seal; content = MemC (code_cap s.base s.end (s.at + CALL_WORDS)) })) where
     abbrev code : CapFields
-    code = code_cap s.base s.end (s.at + 16)
+    code = code_cap s.base s.end (s.at + CALL_WORDS)
 
     pub plain_second : (w : Word) → x2 ≡ Plain w → HasFailed (run_of id id 1 t)
     plain_second w e = by_opened (opened_of w) refl
@@ -232,13 +233,13 @@ module _ (l : Layout) (r1 r2 : Reg) (o : OState) (t : State Word) (at_return : A
             refl refl refl (left id id t r2)
             ∙ ap (λ w. went (put (put (put t (R r2) w) (R Pc) (Mem code)) (R Dat) (Mem half))) half_is
 
-        pub code_is : HasReturn id s1.cells s.base s.end (s.at + 16) l.stack.base
-        code_is = HasReturn-flat l o t m k s.base s.end (s.at + 16) l.stack.base stands.back
+        pub code_is : HasReturn id s1.cells s.base s.end (s.at + CALL_WORDS) l.stack.base
+        code_is = HasReturn-flat l o t m k s.base s.end (s.at + CALL_WORDS) l.stack.base stands.back
 
         pub cannot_join : CannotJoin (face_of s1.regs.stk) (Memory half) → HasFailed (run_of id id 11 t)
         cannot_join h =
-            then_failed id id 1 10 t s1 jumps (failed_more id id 1 9 s1
-            (return_apart id id s1 s.base s.end (s.at + 16) l.stack.base code_is refl h))
+            then_failed id id 1 RETURN_WORDS t s1 jumps (failed_more id id 1 9 s1
+            (return_apart id id s1 s.base s.end (s.at + CALL_WORDS) l.stack.base code_is refl h))
 
         -- stk stands as it is where it isn't the register of the data half
         pub stk_kept : (c : CapFields) → own_stack l o.maps ≡ Some c → s1.regs.stk ≡ Mem c
@@ -288,9 +289,10 @@ module _ (l : Layout) (r1 r2 : Reg) (o : OState) (t : State Word) (at_return : A
             let kept : Mem c ≡ Mem d = sym e ∙ stk_kept d ed in
             let same : c ≡ d = cc in
             ne (ap (λ x. x.base) same ∙ (own_parts l d (own_true l o.maps d ed)).2)))
-            (then_failed id id 1 10 t s1 jumps
+            (then_failed id id 1 RETURN_WORDS t s1 jumps
             (failed_more id id 7 3 s1
-            (rw (return_off_base id id (λ x. refl) s1 s.base s.end (s.at + 16) l.stack.base c half code_is
+            (rw (return_off_base id id (λ x. refl) s1 s.base s.end (s.at + CALL_WORDS) l.stack.base c half
+            code_is
             refl e refl (same_lin_true (lin_is c.lin) q.1) refl p.0 (eqb-true (c.end + 1) g.base p.1)
             small at_return.small_base ne) tt)))
 
@@ -330,13 +332,13 @@ module _ (l : Layout) (r1 r2 : Reg) (o : OState) (t : State Word) (at_return : A
             ∙ ap (λ x. mapped_or (flat l (g ∷ fs)) x (beside l (g ∷ fs) g.base))
             (sound.gone g.base (omega arith) sound.order)
             ∙ beside_first fs sound.first sound.rest sound.words in
-            let twenty : s.at + 16 + 10 ≡ s.at + 26 = omega arith in
+            let twenty : s.at + CALL_WORDS + RETURN_WORDS ≡ s.at + SITE_WORDS = omega arith in
             let above = sound.above in
             let order = sound.order in
             let within = sound.in_stack in
             let small = at_return.small_stack in
             let ran =
-            return_runs id id (λ x. refl) s1 s.base s.end (s.at + 16)
+            return_runs id id (λ x. refl) s1 s.base s.end (s.at + CALL_WORDS)
             l.stack.base c.end g.base g.end c.addr sound.first code_is
             refl (e ∙ ap Mem c_is) refl joint (omega (arith, above)) order (omega (arith, within, small))
             (stands.apart g.base (omega (arith, above)) (omega (arith, order, within)))
@@ -353,7 +355,7 @@ module _ (l : Layout) (r1 r2 : Reg) (o : OState) (t : State Word) (at_return : A
             (both_go l _ _ _ _
             (overlay_goes c fs en joint own
             ∙ ap (λ x. goes (state_resumed s x g fs (put o.maps (R r2) (zero_word Plain)) o1)) c_is)
-            (run_then id id 1 10 t s1 _ jumps ran ∙ ap (λ a. went (record t {
+            (run_then id id 1 RETURN_WORDS t s1 _ jumps ran ∙ ap (λ a. went (record t {
               regs = record (set_reg t.regs r2 (Int (pos 0))) {
                 pc = Mem (code_cap s.base s.end a);
                 stk = Mem (stack_cap l.stack.base g.end g.base);
@@ -415,7 +417,7 @@ module _ (l : Layout) (r1 r2 : Reg) (o : OState) (t : State Word) (at_return : A
 
   pub code_some : (i : ℕ) (s : SiteCode) → x1 ≡ RetCode i → site_code l i ≡ Some s
       → opened_of (fl x1)
-      ≡ Some (record { seal = s.seal; content = MemC (code_cap s.base s.end (s.at + 16)) })
+      ≡ Some (record { seal = s.seal; content = MemC (code_cap s.base s.end (s.at + CALL_WORDS)) })
   unfolding flat
   code_some i s e q = ap (λ x. opened_of (fl x)) e ∙ ap (λ x. opened_of (flat_code x)) q
 

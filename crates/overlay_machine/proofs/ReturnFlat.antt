@@ -22,6 +22,7 @@ use Rattle.lcm_machine.specs.Row.{word_at, put}
 use Rattle.lcm_machine.specs.Runs.{code_cap}
 use Rattle.lcm_machine.specs.Mapped.{mapped_or, SameFaces}
 use Rattle.lcm_machine.proofs.Offers.{cases_reg, reg-set_same, reg-set_other, cell-set_other, cell-set_same}
+use Rattle.call_sequence.specs.declared.TheConstants.{SITE_WORDS}
 use Rattle.call_sequence.specs.SequenceRuns.{stack_cap}
 use Rattle.trusted_border.specs.declared.layout.Layout.{Layout}
 use Rattle.trusted_border.specs.declared.layout.SiteCode.{SiteCode}
@@ -56,7 +57,7 @@ module _ (l : Layout) (s : State OWord) (f : OpenFrame) (fs : List OpenFrame) (n
   abbrev t' : State Word
   t' = record t {
     regs = record (set_reg t.regs r2 (Int (pos 0))) {
-      pc = Mem (code_cap sc.base sc.end (sc.at + 26));
+      pc = Mem (code_cap sc.base sc.end (sc.at + SITE_WORDS));
       stk = Mem (stack_cap l.stack.base f.end f.base);
       dat = sound.first;
       t1 = Int (pos 0);

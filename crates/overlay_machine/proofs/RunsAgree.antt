@@ -1,4 +1,5 @@
 -- The run of the overlay and the plain one agree, from one step on.
+use Rattle.call_sequence.specs.declared.TheConstants.{CALL_WORDS}
 use Rattle.std.proofs.Common.{◌≡◌, ◌⊎◌, inl, inr, ℕ, zero, suc, ◌+◌, ◌-◌, ◌<◌, ◌≤◌, ℤ, Bool, true, false}
 use Rattle.std.proofs.Common.{List, [], ◌∷◌, Some, None, refl, ap, sym, subst, ◌∙◌, arith}
 use Rattle.std.specs.Prelude.{Option, if◌then◌else◌}
@@ -55,7 +56,8 @@ weight_if true n m h g = h
 weight_if false n m h g = g
 
 weight_case : (s : State OWord) (c : Case) → 1 ≤ weight_by s c
-weight_case s (Call i) = weight_if (is_ret_code s.regs.c1) 17 16 (omega arith) (omega arith)
+weight_case s (Call i) = weight_if (is_ret_code s.regs.c1) (CALL_WORDS + 1) CALL_WORDS (omega arith)
+    (omega arith)
 weight_case s (Entry a) = omega arith
 weight_case s (Back r1 r2) = weight_if (is_ret_code (reg s.regs r1)) 11 1 (omega arith) (omega arith)
 weight_case s Other = omega arith

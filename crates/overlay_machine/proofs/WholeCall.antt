@@ -24,6 +24,7 @@ use Rattle.lcm_machine.specs.Runs.{run_of, code_cap}
 use Rattle.lcm_machine.specs.Refusals.{HasFailed, CannotJoin, Refuses}
 use Rattle.lcm_machine.proofs.Offers.{xjmp_goes, left, failed_more, then_failed, xjmp_fails, xjmp_runs_fails}
 use Rattle.lcm_machine.proofs.Offers.{opened-memory}
+use Rattle.call_sequence.specs.declared.TheConstants.{CALL_WORDS}
 use Rattle.call_sequence.specs.SequenceRuns.{stack_cap, HasCall}
 use Rattle.call_sequence.proofs.Offers.{call_at_base, call_outside, return_apart, HasReturn-set}
 use Rattle.trusted_border.specs.declared.layout.Layout.{Layout}
@@ -47,9 +48,9 @@ abbrev id : Word → Word
 id w = w
 
 -- what fails within sixteen fails within a call's weight
-within : (t : State Word) (n m : ℕ) (b : Bool) → n + m ≡ 16 → HasFailed (run_of id id n t)
-    → HasFailed (run_of id id (if b then 17 else 16) t)
-within t n m true e h = let f : n + (m + 1) ≡ 17 =
+within : (t : State Word) (n m : ℕ) (b : Bool) → n + m ≡ CALL_WORDS → HasFailed (run_of id id n t)
+    → HasFailed (run_of id id (if b then CALL_WORDS + 1 else CALL_WORDS) t)
+within t n m true e h = let f : n + (m + 1) ≡ (CALL_WORDS + 1) =
     omega (arith, e) in rw (← f) (failed_more id id n (m + 1) t h)
 within t n m false e h = rw (← e) (failed_more id id n m t h)
 
@@ -123,15 +124,15 @@ module _ (l : Layout) (i : ℕ) (o : OState) (t : State Word) (at_site : AtSite 
           ) refl
 
       abbrev next : Word
-      next = Mem (code_cap its.base its.end (its.at + 16))
+      next = Mem (code_cap its.base its.end (its.at + CALL_WORDS))
 
-      row_fails : HasFailed (row id id (Xjmp C1 C2) next s15) → HasFailed (run_of id id 16 t)
+      row_fails : HasFailed (row id id (Xjmp C1 C2) next s15) → HasFailed (run_of id id CALL_WORDS t)
       row_fails h = rw (plain_row l i o t at_site m k b cursor low high) h
 
       -- `xjmp` refuses the two words
       refuses : (x y : Option Opened) → opened_of (flat l o.frames x1) ≡ x
           → opened_of (flat l o.frames x2) ≡ y
-          → Refuses x y → HasFailed (run_of id id 16 t)
+          → Refuses x y → HasFailed (run_of id id CALL_WORDS t)
       refuses x y ex ey h =
           row_fails
           (xjmp_fails id id C1 C2 next s15 x y (ap opened_of (m.regs C1) ∙ ex) (ap opened_of (m.regs C2) ∙ ey)
@@ -142,12 +143,12 @@ module _ (l : Layout) (i : ℕ) (o : OState) (t : State Word) (at_site : AtSite 
       plain_opened w e = ap (λ x. opened_of (flat l o.frames x)) e
 
       foreign_fails : (w : Word) → x1 ≡ Plain w → OneSite l (opened_of (flat l o.frames x2))
-          → HasFailed (run_of id id 16 t)
+          → HasFailed (run_of id id CALL_WORDS t)
       foreign_fails w e1 h =
           refuses (opened_of w) _ (plain_opened w e1)
           refl (foreign_refuses l w (opened_of w) _ (at_site.foreign w e1) refl h)
 
-      data_fails : (n : ℕ) → x1 ≡ RetData n → HasFailed (run_of id id 16 t)
+      data_fails : (n : ℕ) → x1 ≡ RetData n → HasFailed (run_of id id CALL_WORDS t)
       data_fails n e =
           refuses _ _ refl refl
           (data_refuses l (opened_of (flat l o.frames x1))
@@ -157,7 +158,7 @@ module _ (l : Layout) (i : ℕ) (o : OState) (t : State Word) (at_site : AtSite 
       abbrev joint : SiteCode → Content → State Word
       joint s x =
           put (put (put s15 (R C2) (left_of id id s15.regs.c2)) (R Pc)
-          (Mem (code_cap s.base s.end (s.at + 16)))) (R Dat) (unsealed x)
+          (Mem (code_cap s.base s.end (s.at + CALL_WORDS)))) (R Dat) (unsealed x)
 
       cannot : (s : SiteCode) (x : Content)
           → opened_of (flat l o.frames x2) ≡ Some (record { seal = s.seal; content = x })
@@ -173,54 +174,55 @@ module _ (l : Layout) (i : ℕ) (o : OState) (t : State Word) (at_site : AtSite 
           → HasFailed (run_of id id 1 (joint s x))
       splice_refused s j x es e =
           let r = at_site.sites j s es in
-          let f = HasReturn-flat l o t m k s.base s.end (s.at + 16) l.stack.base r.back in
+          let f = HasReturn-flat l o t m k s.base s.end (s.at + CALL_WORDS) l.stack.base r.back in
           let h = at_site.in_stack in
-          return_apart id id (joint s x) s.base s.end (s.at + 16)
+          return_apart id id (joint s x) s.base s.end (s.at + CALL_WORDS)
           l.stack.base
-          (HasReturn-set id t.cells s.base s.end (s.at + 16) l.stack.base (b + 1)
+          (HasReturn-set id t.cells s.base s.end (s.at + CALL_WORDS) l.stack.base (b + 1)
           t.regs.dat (r.apart (b + 1) (omega arith) (omega (arith, high, h))) f) refl (cannot s x e)
 
       joins : (s : SiteCode) (x : Content)
           → opened_of (flat l o.frames x1)
-          ≡ Some (record { seal = s.seal; content = MemC (code_cap s.base s.end (s.at + 16)) })
+          ≡ Some (record { seal = s.seal; content = MemC (code_cap s.base s.end (s.at + CALL_WORDS)) })
           → opened_of (flat l o.frames x2) ≡ Some (record { seal = s.seal; content = x }) → runs_in x ≡ false
-          → run_of id id 16 t ≡ went (joint s x)
+          → run_of id id CALL_WORDS t ≡ went (joint s x)
       joins s x e1 e2 h =
           plain_row l i o t at_site m k b cursor low high
           ∙ xjmp_goes id id C1 C2 next s15 (put s15 (R C2) (left_of id id s15.regs.c2))
-          s.seal (code_cap s.base s.end (s.at + 16)) x (ap opened_of (m.regs C1) ∙ e1)
+          s.seal (code_cap s.base s.end (s.at + CALL_WORDS)) x (ap opened_of (m.regs C1) ∙ e1)
           (ap opened_of (m.regs C2) ∙ e2) refl refl h (left id id s15 C2)
 
       code_same : (s : SiteCode) (j : ℕ) (x : Content) (r : Bool) → site_code l j ≡ Some s
           → opened_of (flat l o.frames x1)
-          ≡ Some (record { seal = s.seal; content = MemC (code_cap s.base s.end (s.at + 16)) })
+          ≡ Some (record { seal = s.seal; content = MemC (code_cap s.base s.end (s.at + CALL_WORDS)) })
           → opened_of (flat l o.frames x2) ≡ Some (record { seal = s.seal; content = x }) → runs_in x ≡ r
-          → HasFailed (run_of id id 17 t)
+          → HasFailed (run_of id id (CALL_WORDS + 1) t)
       code_same s j x true es e1 e2 h =
-          failed_more id id 16 1 t
+          failed_more id id CALL_WORDS 1 t
           (row_fails
-          (xjmp_runs_fails id id C1 C2 next s15 _ _ (code_cap s.base s.end (s.at + 16))
+          (xjmp_runs_fails id id C1 C2 next s15 _ _ (code_cap s.base s.end (s.at + CALL_WORDS))
           (ap opened_of (m.regs C1) ∙ e1) (ap opened_of (m.regs C2) ∙ e2) refl refl refl refl h))
       code_same s j x false es e1 e2 h =
-          then_failed id id 16 1 t (joint s x) (joins s x e1 e2 h) (splice_refused s j x es e2)
+          then_failed id id CALL_WORDS 1 t (joint s x) (joins s x e1 e2 h) (splice_refused s j x es e2)
 
       code_second : (s : SiteCode) (j : ℕ) (y : Option Opened) → site_code l j ≡ Some s
           → opened_of (flat l o.frames x1)
-          ≡ Some (record { seal = s.seal; content = MemC (code_cap s.base s.end (s.at + 16)) })
-          → opened_of (flat l o.frames x2) ≡ y → HasFailed (run_of id id 17 t)
-      code_second s j None es e1 e2 = failed_more id id 16 1 t (refuses _ None e1 e2 tt)
+          ≡ Some (record { seal = s.seal; content = MemC (code_cap s.base s.end (s.at + CALL_WORDS)) })
+          → opened_of (flat l o.frames x2) ≡ y → HasFailed (run_of id id (CALL_WORDS + 1) t)
+      code_second s j None es e1 e2 = failed_more id id CALL_WORDS 1 t (refuses _ None e1 e2 tt)
       code_second s j (Some y) es e1 e2 =
-          elim (cases_eq s.seal y.seal) as (λ _. HasFailed (run_of id id 17 t)) [
+          elim (cases_eq s.seal y.seal) as (λ _. HasFailed (run_of id id (CALL_WORDS + 1) t)) [
             | inl same ↦
                 code_same s j y.content (runs_in y.content)
                 es e1 (e2 ∙ ap (λ n. Some (record { seal = n; content = y.content })) (sym same)) refl
-            | inr ne ↦ failed_more id id 16 1 t (refuses _ (Some y) e1 e2 (inl ne))
+            | inr ne ↦ failed_more id id CALL_WORDS 1 t (refuses _ (Some y) e1 e2 (inl ne))
           ]
 
-      code_fails : (j : ℕ) → x1 ≡ RetCode j → HasFailed (run_of id id 17 t)
+      code_fails : (j : ℕ) → x1 ≡ RetCode j → HasFailed (run_of id id (CALL_WORDS + 1) t)
       code_fails j e =
-          elim (opened-code l o.frames j (site_code l j) refl) as (λ _. HasFailed (run_of id id 17 t)) [
-            | inl h ↦ failed_more id id 16 1 t (refuses None _ (rw e h) refl tt)
+          elim (opened-code l o.frames j (site_code l j) refl) as
+          (λ _. HasFailed (run_of id id (CALL_WORDS + 1) t)) [
+            | inl h ↦ failed_more id id CALL_WORDS 1 t (refuses None _ (rw e h) refl tt)
             | inr h ↦ code_second h.0 j _ h.1 (rw e h.2) refl
           ]
 
@@ -256,7 +258,7 @@ module _ (l : Layout) (i : ℕ) (o : OState) (t : State Word) (at_site : AtSite 
             (let out : covers (stack (pos a)) (pos a) ≡ false =
             and_right (nat_le l.stack.base a) (nat_le a at_site.end) (lt-leb a at_site.end past) in
             both_fail l _ _ (off (pos a) e (and_right (int_lt (pos l.stack.base) (pos a)) _ out))
-            (within t 1 15 (is_ret_code o.maps.regs.c1) refl (outside (pos a) e out)))
+            (within t 1 (CALL_WORDS - 1) (is_ret_code o.maps.regs.c1) refl (outside (pos a) e out)))
         | inr le ↦
             elim (cases_lt l.stack.base a)
             as (λ _. EndsAgree l (call_step l i o) (run_of id id (weight_by o.maps (Call i)) t)) [
@@ -273,7 +275,7 @@ module _ (l : Layout) (i : ℕ) (o : OState) (t : State Word) (at_site : AtSite 
                         within t 8 8 (is_ret_code o.maps.regs.c1)
                         refl (lowest (e ∙ ap pos same) (omega arith))
                     | inr ne ↦
-                        within t 1 15 (is_ret_code o.maps.regs.c1)
+                        within t 1 (CALL_WORDS - 1) (is_ret_code o.maps.regs.c1)
                         refl (outside (pos a)
                         e (and_left (nat_le l.stack.base a) (nat_le a at_site.end)
                         (lt-leb l.stack.base a (omega arith))))
@@ -286,7 +288,7 @@ module _ (l : Layout) (i : ℕ) (o : OState) (t : State Word) (at_site : AtSite 
   by_address (pos a) e = at_address a e
   by_address (negsuc a) e =
       both_fail l _ _ (off (negsuc a) e refl)
-      (within t 1 15 (is_ret_code o.maps.regs.c1) refl (outside (negsuc a) e refl))
+      (within t 1 (CALL_WORDS - 1) (is_ret_code o.maps.regs.c1) refl (outside (negsuc a) e refl))
 
   -- a call is one overlay step, and as many plain ones as it weighs
   pub whole_call : EndsAgree l (call_step l i o) (run_of id id (weight_by o.maps (Call i)) t)

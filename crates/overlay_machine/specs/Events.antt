@@ -19,8 +19,8 @@ use Rattle.overlay_machine.specs.declared.words.OWord.{OWord}
 use Rattle.overlay_machine.specs.declared.cases.Case.{Case}
 use Rattle.overlay_machine.specs.declared.cases.Case.TheVariants.{Call, Entry, Back as BackCase, Other}
 use Rattle.overlay_machine.specs.declared.frames.Frame.{Frame}
-use Rattle.overlay_machine.specs.declared.notes.Note.{Note}
-use Rattle.overlay_machine.specs.declared.notes.Note.TheVariants.{Nothing, Calls, Returns, Jumps}
+use Rattle.overlay_machine.specs.declared.notes.StepNote.{StepNote}
+use Rattle.overlay_machine.specs.declared.notes.StepNote.TheVariants.{Nothing, Calls, Returns, Jumps}
 use Rattle.overlay_machine.specs.Words.{look}
 use Rattle.overlay_machine.specs.State.{OpenFrame, OState}
 use Rattle.overlay_machine.specs.Step.{case_of}
@@ -29,7 +29,7 @@ use Rattle.overlay_machine.specs.Flat.{flat}
 -- ---- what is noted before a step
 
 -- a call, unless its `xjmp` is under a return seal
-abbrev pub note_call : Option ℕ → Note
+abbrev pub note_call : Option ℕ → StepNote
 note_call None = Calls
 note_call (Some i) = Nothing
 
@@ -45,7 +45,7 @@ abbrev pub head_of : OpenFrame → Frame
 head_of f = record { call = f.call; site = f.site; base = f.base; end = f.end }
 
 -- a return ends the newest call
-abbrev pub note_return : Bool → List OpenFrame → Note
+abbrev pub note_return : Bool → List OpenFrame → StepNote
 note_return trusted [] = Nothing
 note_return trusted (f ∷ fs) = Returns trusted (head_of f)
 
@@ -55,11 +55,11 @@ jump_seal s (some (Xjmp r1 r2) next) = option_map (λ k. k.seal) (opens look s r
 jump_seal s _ = None
 
 -- an `xjmp` outside a call, by the trusted part in which it stands, if one
-abbrev pub note_jump : Option ℕ → Option ℕ → Note
+abbrev pub note_jump : Option ℕ → Option ℕ → StepNote
 note_jump from None = Nothing
 note_jump from (Some seal) = Jumps from seal
 
-abbrev pub note_by : Layout → OState → Case → Note
+abbrev pub note_by : Layout → OState → Case → StepNote
 note_by l o (Call i) = note_call (site_opened l (opens look o.maps C1))
 note_by l o (Entry a) = Nothing
 note_by l o (BackCase r1 r2) = note_return (is_some (owner_now l o)) o.frames
@@ -87,7 +87,7 @@ abbrev pub jumped : Layout → OState → Option ℕ → ℕ → Option Event
 jumped l o None seal = option_and_then (entered_event l o) (closure_owner l seal)
 jumped l o (Some part) seal = if is_some (owner_now l o) then None else Some (Left part)
 
-abbrev pub event_after : Layout → Note → OState → Option Event
+abbrev pub event_after : Layout → StepNote → OState → Option Event
 event_after l Nothing o = None
 event_after l Calls o = called_event (is_some (owner_now l o)) o.frames
 event_after l (Returns trusted f) o = Some (Returned trusted f.site f.base f.end)

@@ -192,7 +192,7 @@ step_by l Other o = other_step o
 unfoldable pub overlay_step : Layout → OState → Ending
 overlay_step l o = step_by l (case_of l o.maps) o
 
--- ---- how many plain instructions the next step stands for
+-- ---- how many plain instructions the next step stands for: how long the simulation stutters
 
 abbrev pub weight_by : State OWord → Case → ℕ
 weight_by s (Call i) = if is_ret_code s.regs.c1 then CALL_WORDS + 1 else CALL_WORDS

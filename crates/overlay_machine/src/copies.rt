@@ -10,7 +10,7 @@ ghost use Rattle.overlay_machine.specs.Copies.{plain_regs, copied, AreCopiedTo};
 
 use crate::words::OWord;
 use cap_words::{Items, LAST_PLACE, SealRange};
-use component_linker::{Call, Entry, Owner, Start};
+use component_linker::{CalledEntry, Entry, Owner, Start};
 use lcm_isa::Reg;
 use lcm_machine::state::State;
 use lcm_machine::{LcmState, Place, Span};
@@ -36,12 +36,12 @@ fn copy_entries(alloc: Global, entries: &[Entry]) -> Result<Items<Entry>, AllocE
     Ok(Items::of(copies))
 }
 
-fn copy_calls(alloc: Global, calls: &[Call]) -> Result<Items<Call>, AllocError>
+fn copy_calls(alloc: Global, calls: &[CalledEntry]) -> Result<Items<CalledEntry>, AllocError>
     ensures { IfOk result (λ c. c ≡ calls.now) }
 {
     let mut copies = Vec::new(alloc);
     for call in calls {
-        copies.push(Call {
+        copies.push(CalledEntry {
             part: copy_name(alloc, call.part.as_slice())?,
             name: copy_name(alloc, call.name.as_slice())?,
             at: call.at,

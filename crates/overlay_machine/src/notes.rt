@@ -27,7 +27,7 @@ use trusted_border::{Back, Event, Layout};
 
 /// What is noted of a state before a step.
 #[derive(Clone, Copy)]
-pub enum Note {
+pub enum StepNote {
     /// Nothing is told of the step.
     Nothing,
     /// It is a call, and its `xjmp` is under no return seal.
@@ -114,46 +114,46 @@ impl Machine {
     }
 
     // A call, unless its `xjmp` is under a return seal.
-    fn note_call(&self, layout: &Layout) -> Note
+    fn note_call(&self, layout: &Layout) -> StepNote
         ensures { result ≡ note_call (site_opened layout.now (opens look self.now.maps C1)) }
     {
         match self.maps.opened(Reg::C1) {
-            None => Note::Calls,
+            None => StepNote::Calls,
             Some(code) => {
                 match site_of_seal(layout, code.seal) {
-                    None => Note::Calls,
-                    Some(_) => Note::Nothing,
+                    None => StepNote::Calls,
+                    Some(_) => StepNote::Nothing,
                 }
             }
         }
     }
 
     // An `xjmp` outside a call.
-    fn note_jump(&self, layout: &Layout) -> Note
+    fn note_jump(&self, layout: &Layout) -> StepNote
         ensures { result ≡ note_by layout.now (overlay_of self.now) Case.Other }
     {
         let Some(seal) = jump_seal(&self.maps) else {
-            return Note::Nothing;
+            return StepNote::Nothing;
         };
         let from = match self.owner_now(layout) {
             Some(owner) => Some(owner.part),
             None => None,
         };
-        Note::Jumps { from, seal }
+        StepNote::Jumps { from, seal }
     }
 
     /// What is noted before a step of this case.
-    pub(crate) fn note(&self, layout: &Layout, case: Case) -> Note
+    pub(crate) fn note(&self, layout: &Layout, case: Case) -> StepNote
         ensures { result ≡ note_by layout.now (overlay_of self.now) case }
     {
         match case {
             Case::Call(_) => self.note_call(layout),
-            Case::Entry(_) => Note::Nothing,
+            Case::Entry(_) => StepNote::Nothing,
             Case::Back(_, _) => {
                 let trusted = self.owner_now(layout).is_some();
                 match self.newest() {
-                    Some(frame) => Note::Returns { trusted, frame },
-                    None => Note::Nothing,
+                    Some(frame) => StepNote::Returns { trusted, frame },
+                    None => StepNote::Nothing,
                 }
             }
             Case::Other => self.note_jump(layout),
@@ -211,14 +211,19 @@ impl Machine {
     }
 
     /// The event after a step of which this was noted. The registers are those to ask the table in.
-    pub(crate) fn event(&self, regs: &mut State<Word>, layout: &Layout, note: Note) -> Option<Event>
+    pub(crate) fn event(
+        &self,
+        regs: &mut State<Word>,
+        layout: &Layout,
+        note: StepNote,
+    ) -> Option<Event>
         requires { FitsRegion layout.now self.now }
         ensures { result ≡ event_after layout.now note (overlay_of self.now) }
     {
         match note {
-            Note::Nothing => None,
-            Note::Calls => self.called(self.owner_now(layout).is_some()),
-            Note::Returns { trusted, frame } => {
+            StepNote::Nothing => None,
+            StepNote::Calls => self.called(self.owner_now(layout).is_some()),
+            StepNote::Returns { trusted, frame } => {
                 Some(Event::Returned {
                     trusted,
                     site: frame.site,
@@ -226,7 +231,7 @@ impl Machine {
                     end: frame.end,
                 })
             }
-            Note::Jumps { from, seal } => self.jumped(regs, layout, from, seal),
+            StepNote::Jumps { from, seal } => self.jumped(regs, layout, from, seal),
         }
     }
 }

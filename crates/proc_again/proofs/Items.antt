@@ -10,7 +10,7 @@ use Rattle.proc_grammar.specs.PlainTrees.{plain_trees}
 use Rattle.cap_words.specs.declared.TheConstants.{LAST_PLACE}
 use Rattle.proc_language.specs.declared.TheConstants.{MOST_ITEMS, MOST_LOCALS, MOST_REGISTERS}
 use Rattle.proc_language.specs.declared.tree.Name.{Name}
-use Rattle.proc_language.specs.declared.module.Import.{Import}
+use Rattle.proc_language.specs.declared.module.ModuleImport.{ModuleImport}
 use Rattle.proc_language.specs.declared.module.Global.{Global}
 use Rattle.proc_language.specs.declared.module.Param.{Param}
 use Rattle.proc_language.specs.declared.module.Proc.{Proc}
@@ -22,7 +22,7 @@ use Rattle.proc_language.specs.Limits.{params_registers}
 use Rattle.proc_language.specs.StmtView.{block_of}
 use Rattle.proc_language.specs.Unplaced.{unplaced_name, unplaced_stmt, unplaced_block, unplaced_import}
 use Rattle.proc_language.specs.Unplaced.{unplaced_global, unplaced_param, unplaced_proc}
-use Rattle.proc_grammar.specs.declared.header.Header.{Header}
+use Rattle.proc_grammar.specs.declared.header.ModuleHeader.{ModuleHeader}
 use Rattle.proc_grammar.specs.Lexemes.{dot, slash, comma, semicolon, square, end_square, assign, dash, round}
 use Rattle.proc_grammar.specs.Lexemes.{end_round, curly, end_curly}
 use Rattle.phrases.specs.Phrase.{many}
@@ -72,7 +72,7 @@ items_again = items_by_again one_more (λ n. n) (λ n x. refl)
 
 -- ---- imports
 
-pub import_again : (i : Import) → ImportFits i → (count : ℕ) → count < MOST_ITEMS
+pub import_again : (i : ModuleImport) → ImportFits i → (count : ℕ) → count < MOST_ITEMS
     → Again (import_item [] true count) (import_pieces i) (λ x. unplaced_import x ≡ unplaced_import i)
 unfolding import_item
 import_again i fits count few =
@@ -297,7 +297,7 @@ count_fits : (first n : ℕ) → SealsFit first n → is_return_count first n �
 count_fits first n h = grind (arith, nat_tests)
 
 -- the header is the same but for its places
-pub record SameHeader (m : ModuleFields) (h : Header) : Type 0 where
+pub record SameHeader (m : ModuleFields) (h : ModuleHeader) : Type 0 where
   pub name : unplaced_name h.name ≡ unplaced_name m.name
   pub code : h.code ≡ m.code
   pub data_base : h.data_base ≡ m.data_base

@@ -3,13 +3,13 @@ use Rattle.std.proofs.Common.{◌≡◌, ◌≤◌, true, List, [], ◌∷◌, r
 use Rattle.std.proofs.lemmas.List.{append-nil}
 use Rattle.proc_grammar.specs.PlainTrees.{plain_trees}
 use Rattle.proc_language.specs.declared.TheConstants.{MOST_ITEMS}
-use Rattle.proc_language.specs.declared.module.Import.{Import}
+use Rattle.proc_language.specs.declared.module.ModuleImport.{ModuleImport}
 use Rattle.proc_language.specs.declared.module.Global.{Global}
 use Rattle.proc_language.specs.declared.module.Proc.{Proc}
 use Rattle.proc_language.specs.declared.module.ModuleFields.{ModuleFields}
 use Rattle.proc_language.specs.Limits.{Each, ImportFits, IsModule}
 use Rattle.proc_language.specs.Unplaced.{unplaced_import, unplaced_global, unplaced_proc, unplaced, IsAlike}
-use Rattle.proc_grammar.specs.declared.header.Header.{Header}
+use Rattle.proc_grammar.specs.declared.header.ModuleHeader.{ModuleHeader}
 use Rattle.phrases.specs.Phrase.{◌>>=◌, only, many}
 use Rattle.proc_grammar.specs.Grammar.{import_item, global_item, proc_item, a_module, one_more, room_in_body}
 use Rattle.proc_print.specs.Printed.{import_pieces, global_pieces, proc_pieces, module_pieces}
@@ -18,7 +18,8 @@ use Rattle.proc_again.proofs.Steps.{step, done, at}
 use Rattle.proc_again.proofs.Items.{items_again, import_again, InitialFits, global_again, ProcAgain}
 use Rattle.proc_again.proofs.Items.{a_proc_again, SameHeader, header_again}
 
-alike_module : (m : ModuleFields) (h : Header) (is : List Import) (gs : List Global) (ps : List Proc)
+alike_module : (m : ModuleFields) (h : ModuleHeader) (is : List ModuleImport) (gs : List Global)
+    (ps : List Proc)
     → SameHeader m h
     → map unplaced_import is ≡ map unplaced_import m.imports
     → map unplaced_global gs ≡ map unplaced_global m.globals
@@ -39,7 +40,8 @@ alike_module m h is gs ps same a b c = λ i. record {
   procs = c i;
 }
 
-procs_again : (m : ModuleFields) (h : Header) (is : List Import) (gs : List Global) → SameHeader m h
+procs_again : (m : ModuleFields) (h : ModuleHeader) (is : List ModuleImport) (gs : List Global)
+    → SameHeader m h
     → map unplaced_import is ≡ map unplaced_import m.imports
     → map unplaced_global gs ≡ map unplaced_global m.globals
     → (procs : List Proc) → m.procs ≡ procs → 1 ≤ length procs → length procs ≤ MOST_ITEMS

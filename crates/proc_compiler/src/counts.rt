@@ -14,7 +14,7 @@ ghost use Rattle.proc_templates.specs.Compiled.{pair_count, size_of_proc, code_w
 use call_sequence::SITE_WORDS;
 use component_file::MOST_WORDS;
 use proc_language::Op;
-use proc_program::{Arg, Exp, ExpKind, Handle, Part, Procedure, Step, StepKind};
+use proc_program::{ArgExp, Exp, ExpKind, Handle, Procedure, Program, Statement, StatementKind};
 
 fn spend(left: u32, words: u32) -> Option<u32>
     ensures some { IfSome result (λ n. n + words ≡ left) }
@@ -47,13 +47,13 @@ fn op_words(op: Op) -> u32
 }
 
 // The registers of arguments that are left.
-fn unused(args: &[Arg], left: u32) -> u32
+fn unused(args: &[ArgExp], left: u32) -> u32
     ensures { result ≡ left - arg_registers (args_of args.now) }
 {
     match args.split_first() {
         None => left,
-        Some((Arg::Value(_), rest)) => unused(rest, left.saturating_sub(1)),
-        Some((Arg::Pass(_), rest)) => unused(rest, left.saturating_sub(2)),
+        Some((ArgExp::Value(_), rest)) => unused(rest, left.saturating_sub(1)),
+        Some((ArgExp::Pass(_), rest)) => unused(rest, left.saturating_sub(2)),
     }
 }
 
@@ -84,49 +84,49 @@ fn expr_words(e: &Exp, left: u32) -> Option<u32>
 }
 
 #[cycle(expr_words)]
-fn args_words(args: &[Arg], left: u32) -> Option<u32>
+fn args_words(args: &[ArgExp], left: u32) -> Option<u32>
     ensures some { IfSome result (λ n. n + args_words (args_of args.now) ≡ left) }
     ensures none { IfNone result (left < args_words (args_of args.now)) }
 {
     match args.split_first() {
         None => Some(left),
-        Some((Arg::Value(e), rest)) => {
+        Some((ArgExp::Value(e), rest)) => {
             let left = expr_words(e, left)?;
             args_words(rest, spend(left, 6)?)
         }
-        Some((Arg::Pass(handle), rest)) => args_words(rest, spend(left, pair_words(*handle))?),
+        Some((ArgExp::Pass(handle), rest)) => args_words(rest, spend(left, pair_words(*handle))?),
     }
 }
 
 // A statement's words.
 #[cycle(step_words)]
-fn step_words(s: &Step, left: u32) -> Option<u32>
+fn step_words(s: &Statement, left: u32) -> Option<u32>
     ensures some { IfSome result (λ n. n + step_words s.now ≡ left) }
     ensures none { IfNone result (left < step_words s.now) }
 {
     match &s.kind {
-        StepKind::Set(_, e) => spend(expr_words(e, left)?, 3),
-        StepKind::SetAt(_, index, e) => {
+        StatementKind::Set(_, e) => spend(expr_words(e, left)?, 3),
+        StatementKind::SetAt(_, index, e) => {
             let left = expr_words(index, left)?;
             spend(expr_words(e, left)?, 21)
         }
-        StepKind::Do(e) => expr_words(e, left),
-        StepKind::If(c, body, other) => {
+        StatementKind::Do(e) => expr_words(e, left),
+        StatementKind::If(c, body, other) => {
             let left = expr_words(c, left)?;
             let left = block_words(body.as_slice(), left)?;
             spend(block_words(other.as_slice(), left)?, 9)
         }
-        StepKind::While(c, body) => {
+        StatementKind::While(c, body) => {
             let left = expr_words(c, left)?;
             spend(block_words(body.as_slice(), left)?, 9)
         }
-        StepKind::Return(e) => spend(expr_words(e, left)?, 4),
-        StepKind::Halt(e) => spend(expr_words(e, left)?, 2),
+        StatementKind::Return(e) => spend(expr_words(e, left)?, 4),
+        StatementKind::Halt(e) => spend(expr_words(e, left)?, 2),
     }
 }
 
 #[cycle(step_words)]
-fn block_words(steps: &[Step], left: u32) -> Option<u32>
+fn block_words(steps: &[Statement], left: u32) -> Option<u32>
     ensures some { IfSome result (λ n. n + block_words (block_of steps.now) ≡ left) }
     ensures none { IfNone result (left < block_words (block_of steps.now)) }
 {
@@ -186,7 +186,7 @@ pub(crate) fn size_of_proc(p: &Procedure) -> u32
 
 // The words that are left by the code of a module.
 #[tactic(auto, unfolding(proc_templates::specs::Compiled::code_words))]
-fn code_left(m: &Part) -> Option<u32>
+fn code_left(m: &Program) -> Option<u32>
     ensures some { IfSome result (λ n. n + code_words m.now ≡ MOST_WORDS) }
     ensures none { IfNone result (MOST_WORDS < code_words m.now) }
 {
@@ -198,14 +198,14 @@ fn code_left(m: &Part) -> Option<u32>
 }
 
 /// Whether the code of a module hasn't too many words.
-pub(crate) fn code_fits(m: &Part) -> bool
+pub(crate) fn code_fits(m: &Program) -> bool
     ensures { result ≡ nat_le (code_words m.now) MOST_WORDS }
 {
     code_left(m).is_some()
 }
 
 /// The words of the data that pairs take up.
-pub(crate) fn pair_count(m: &Part) -> u32
+pub(crate) fn pair_count(m: &Program) -> u32
     requires { IsPart m.now }
     ensures { result ≡ pair_count m.now }
 {
@@ -214,7 +214,7 @@ pub(crate) fn pair_count(m: &Part) -> u32
 
 /// Whether the data of a module hasn't too many words.
 #[tactic(auto, unfolding(proc_templates::specs::Compiled::data_count))]
-pub(crate) fn data_fits(m: &Part) -> bool
+pub(crate) fn data_fits(m: &Program) -> bool
     requires { IsPart m.now }
     ensures { result ≡ nat_le (data_count m.now) MOST_WORDS }
 {
@@ -241,48 +241,48 @@ fn expr_calls(e: &Exp, left: u32) -> Option<u32>
 }
 
 #[cycle(expr_calls)]
-fn args_calls(args: &[Arg], left: u32) -> Option<u32>
+fn args_calls(args: &[ArgExp], left: u32) -> Option<u32>
     ensures some { IfSome result (λ n. n + args_calls (args_of args.now) ≡ left) }
     ensures none { IfNone result (left < args_calls (args_of args.now)) }
 {
     match args.split_first() {
         None => Some(left),
-        Some((Arg::Value(e), rest)) => {
+        Some((ArgExp::Value(e), rest)) => {
             let left = expr_calls(e, left)?;
             args_calls(rest, left)
         }
-        Some((Arg::Pass(_), rest)) => args_calls(rest, left),
+        Some((ArgExp::Pass(_), rest)) => args_calls(rest, left),
     }
 }
 
 #[cycle(step_calls)]
-fn step_calls(s: &Step, left: u32) -> Option<u32>
+fn step_calls(s: &Statement, left: u32) -> Option<u32>
     ensures some { IfSome result (λ n. n + step_calls s.now ≡ left) }
     ensures none { IfNone result (left < step_calls s.now) }
 {
     match &s.kind {
-        StepKind::Set(_, e) => expr_calls(e, left),
-        StepKind::SetAt(_, index, e) => {
+        StatementKind::Set(_, e) => expr_calls(e, left),
+        StatementKind::SetAt(_, index, e) => {
             let left = expr_calls(index, left)?;
             expr_calls(e, left)
         }
-        StepKind::Do(e) => expr_calls(e, left),
-        StepKind::If(c, body, other) => {
+        StatementKind::Do(e) => expr_calls(e, left),
+        StatementKind::If(c, body, other) => {
             let left = expr_calls(c, left)?;
             let left = block_calls(body.as_slice(), left)?;
             block_calls(other.as_slice(), left)
         }
-        StepKind::While(c, body) => {
+        StatementKind::While(c, body) => {
             let left = expr_calls(c, left)?;
             block_calls(body.as_slice(), left)
         }
-        StepKind::Return(e) => expr_calls(e, left),
-        StepKind::Halt(e) => expr_calls(e, left),
+        StatementKind::Return(e) => expr_calls(e, left),
+        StatementKind::Halt(e) => expr_calls(e, left),
     }
 }
 
 #[cycle(step_calls)]
-fn block_calls(steps: &[Step], left: u32) -> Option<u32>
+fn block_calls(steps: &[Statement], left: u32) -> Option<u32>
     ensures some { IfSome result (λ n. n + block_calls (block_of steps.now) ≡ left) }
     ensures none { IfNone result (left < block_calls (block_of steps.now)) }
 {
@@ -305,14 +305,14 @@ fn procs_calls(procs: &[Procedure], left: u32) -> Option<u32>
 }
 
 /// Whether there is a return seal for each call.
-pub(crate) fn seals_suffice(m: &Part) -> bool
+pub(crate) fn seals_suffice(m: &Program) -> bool
     ensures { result ≡ nat_le (part_calls m.now) m.now.header.return_count }
 {
     procs_calls(m.procs.as_slice(), m.header.return_count).is_some()
 }
 
 /// Whether nothing is called.
-pub(crate) fn is_without_calls(m: &Part) -> bool
+pub(crate) fn is_without_calls(m: &Program) -> bool
     ensures { result ≡ (part_calls m.now == 0) }
 {
     procs_calls(m.procs.as_slice(), 0).is_some()

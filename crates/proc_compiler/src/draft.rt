@@ -21,7 +21,7 @@ use cap_words::Word;
 use lcm_isa::{Instr, Operand, Reg, encode};
 use proc_language::Op;
 use proc_program::Handle;
-use proc_templates::Frame;
+use proc_templates::FrameShape;
 use seal_space::{SealLot, SealRange, SealToken};
 use std::alloc::{AllocError, Global};
 use std::marker::Model;
@@ -151,7 +151,12 @@ impl Draft {
 
     /// An instruction at a slot of a frame.
     #[tactic(auto, using(crate::proofs::Written::items))]
-    pub(crate) fn at_slot(&mut self, f: Frame, slot: u32, instr: Instr) -> Result<(), AllocError>
+    pub(crate) fn at_slot(
+        &mut self,
+        f: FrameShape,
+        slot: u32,
+        instr: Instr,
+    ) -> Result<(), AllocError>
         requires words_fit { f.words ≤ LAST_PLACE }
         requires slot_fits { slot ≤ LAST_PLACE }
         ensures written { OnOk result (self.new ≡ with_items (at_slot f slot instr) self.old) }
@@ -565,7 +570,7 @@ impl Draft {
     #[tactic(auto, using(crate::proofs::Written::items))]
     pub(crate) fn load_pair(
         &mut self,
-        f: Frame,
+        f: FrameShape,
         handle: Handle,
         r: Reg,
         q: Reg,

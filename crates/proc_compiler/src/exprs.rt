@@ -15,13 +15,13 @@ ghost use Rattle.proc_compiler.specs.Drafts.{with_items};
 use crate::draft::Draft;
 use lcm_isa::{Instr, Operand, Reg};
 use proc_language::{MOST_REGISTERS, Op};
-use proc_program::{Arg, Exp, ExpKind, Handle, Place, Row};
-use proc_templates::Frame;
+use proc_program::{ArgExp, Array, Exp, ExpKind, Handle, Location};
+use proc_templates::FrameShape;
 use std::alloc::AllocError;
 
 // A variable's value comes into g0.
 #[tactic(auto, using(crate::proofs::Written::items))]
-fn load_var(draft: &mut Draft, f: Frame, x: Place) -> Result<(), AllocError>
+fn load_var(draft: &mut Draft, f: FrameShape, x: Location) -> Result<(), AllocError>
     requires frame { f.words ≤ MOST_WORDS }
     requires fits { PlaceBound f x }
     ensures written { OnOk result (draft.new ≡ with_items (load_var f x) draft.old) }
@@ -30,15 +30,15 @@ fn load_var(draft: &mut Draft, f: Frame, x: Place) -> Result<(), AllocError>
     ensures kept { OnOk result (draft.new.seals ≡ draft.old.seals) }
 {
     match x {
-        Place::Local(i) => draft.at_slot(f, i + 2, Instr::Load(Reg::G0, Reg::Stk)),
-        Place::Global(o) => draft.at_glob(f.pairs + o, Instr::Load(Reg::G0, Reg::Dat)),
+        Location::Local(i) => draft.at_slot(f, i + 2, Instr::Load(Reg::G0, Reg::Stk)),
+        Location::Global(o) => draft.at_glob(f.pairs + o, Instr::Load(Reg::G0, Reg::Dat)),
     }
 }
 
 /// An expression: its value comes into g0, and `slot` is the first slot that is free.
 #[cycle(expr)]
 #[tactic(auto, using(crate::proofs::Written::called))]
-pub(crate) fn expr(draft: &mut Draft, f: Frame, e: &Exp, slot: u32) -> Result<(), AllocError>
+pub(crate) fn expr(draft: &mut Draft, f: FrameShape, e: &Exp, slot: u32) -> Result<(), AllocError>
     requires frame { f.words ≤ MOST_WORDS }
     requires fits { ExpBound f e.now }
     requires room { slot + exp_words e.now ≤ LAST_PLACE }
@@ -63,7 +63,7 @@ pub(crate) fn expr(draft: &mut Draft, f: Frame, e: &Exp, slot: u32) -> Result<()
 #[tactic(auto, using(crate::proofs::Written::items))]
 fn operation(
     draft: &mut Draft,
-    f: Frame,
+    f: FrameShape,
     op: Op,
     left: &Exp,
     right: &Exp,
@@ -93,7 +93,13 @@ fn operation(
 // An element of an array: its value comes into g0.
 #[cycle(expr)]
 #[tactic(auto, using(crate::proofs::Written::items))]
-fn element(draft: &mut Draft, f: Frame, row: Row, index: &Exp, slot: u32) -> Result<(), AllocError>
+fn element(
+    draft: &mut Draft,
+    f: FrameShape,
+    row: Array,
+    index: &Exp,
+    slot: u32,
+) -> Result<(), AllocError>
     requires frame { f.words ≤ MOST_WORDS }
     requires row_fits { RowBound f row }
     requires fits { ExpBound f index.now }
@@ -117,7 +123,13 @@ fn element(draft: &mut Draft, f: Frame, row: Row, index: &Exp, slot: u32) -> Res
 // A call: its value comes into g0.
 #[cycle(expr)]
 #[tactic(auto, using(crate::proofs::Written::items))]
-fn call(draft: &mut Draft, f: Frame, h: Handle, args: &[Arg], slot: u32) -> Result<(), AllocError>
+fn call(
+    draft: &mut Draft,
+    f: FrameShape,
+    h: Handle,
+    args: &[ArgExp],
+    slot: u32,
+) -> Result<(), AllocError>
     requires frame { f.words ≤ MOST_WORDS }
     requires handle_fits { HandleBound f h }
     requires fits { ArgsBound f (args_of args.now) }
@@ -141,7 +153,13 @@ fn call(draft: &mut Draft, f: Frame, h: Handle, args: &[Arg], slot: u32) -> Resu
 // The values of arguments, each in its slot; the first of them is handed over in this register.
 #[cycle(expr)]
 #[tactic(auto, using(crate::proofs::Written::items))]
-fn values(draft: &mut Draft, f: Frame, args: &[Arg], slot: u32, from: u32) -> Result<(), AllocError>
+fn values(
+    draft: &mut Draft,
+    f: FrameShape,
+    args: &[ArgExp],
+    slot: u32,
+    from: u32,
+) -> Result<(), AllocError>
     requires frame { f.words ≤ MOST_WORDS }
     requires fits { ArgsBound f (args_of args.now) }
     requires few { from + arg_registers (args_of args.now) ≤ MOST_REGISTERS }
@@ -157,12 +175,12 @@ fn values(draft: &mut Draft, f: Frame, args: &[Arg], slot: u32, from: u32) -> Re
 {
     match args.split_first() {
         None => Ok(()),
-        Some((Arg::Value(e), rest)) => {
+        Some((ArgExp::Value(e), rest)) => {
             expr(draft, f, e, slot + from)?;
             draft.at_slot(f, slot + from, Instr::Store(Reg::Stk, Reg::G0))?;
             values(draft, f, rest, slot, from + 1)
         }
-        Some((Arg::Pass(_), rest)) => values(draft, f, rest, slot, from + 2),
+        Some((ArgExp::Pass(_), rest)) => values(draft, f, rest, slot, from + 2),
     }
 }
 
@@ -179,20 +197,26 @@ pub(crate) fn argument(index: u32) -> Reg
 }
 
 /// How many registers arguments take.
-pub(crate) fn arg_registers(args: &[Arg]) -> u32
+pub(crate) fn arg_registers(args: &[ArgExp]) -> u32
     requires { arg_registers (args_of args.now) ≤ MOST_REGISTERS }
     ensures { result ≡ arg_registers (args_of args.now) }
 {
     match args.split_first() {
         None => 0,
-        Some((Arg::Value(_), rest)) => arg_registers(rest) + 1,
-        Some((Arg::Pass(_), rest)) => arg_registers(rest) + 2,
+        Some((ArgExp::Value(_), rest)) => arg_registers(rest) + 1,
+        Some((ArgExp::Pass(_), rest)) => arg_registers(rest) + 2,
     }
 }
 
 // Arguments come into their registers.
 #[tactic(auto, using(crate::proofs::Written::items))]
-fn loads(draft: &mut Draft, f: Frame, args: &[Arg], slot: u32, from: u32) -> Result<(), AllocError>
+fn loads(
+    draft: &mut Draft,
+    f: FrameShape,
+    args: &[ArgExp],
+    slot: u32,
+    from: u32,
+) -> Result<(), AllocError>
     requires frame { f.words ≤ MOST_WORDS }
     requires fits { ArgsBound f (args_of args.now) }
     requires few { from + arg_registers (args_of args.now) ≤ MOST_REGISTERS }
@@ -205,11 +229,11 @@ fn loads(draft: &mut Draft, f: Frame, args: &[Arg], slot: u32, from: u32) -> Res
 {
     match args.split_first() {
         None => Ok(()),
-        Some((Arg::Value(_), rest)) => {
+        Some((ArgExp::Value(_), rest)) => {
             draft.at_slot(f, slot + from, Instr::Load(argument(from), Reg::Stk))?;
             loads(draft, f, rest, slot, from + 1)
         }
-        Some((Arg::Pass(h), rest)) => {
+        Some((ArgExp::Pass(h), rest)) => {
             draft.load_pair(f, *h, argument(from), argument(from + 1))?;
             loads(draft, f, rest, slot, from + 2)
         }
@@ -233,9 +257,9 @@ fn unused(draft: &mut Draft, count: u32) -> Result<(), AllocError>
 #[tactic(auto, using(crate::proofs::Written::items))]
 fn call_with(
     draft: &mut Draft,
-    f: Frame,
+    f: FrameShape,
     h: Handle,
-    args: &[Arg],
+    args: &[ArgExp],
     slot: u32,
 ) -> Result<(), AllocError>
     requires frame { f.words ≤ MOST_WORDS }

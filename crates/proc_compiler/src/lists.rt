@@ -46,7 +46,7 @@ pub(crate) fn push_words(words: &mut Vec<Word>, numbers: &[i64]) -> Result<(), A
 pub(crate) fn push_imports(
     alloc: Global,
     list: &mut Vec<Import>,
-    imports: &[proc_program::Import],
+    imports: &[proc_program::ProgramImport],
     slot: u32,
 ) -> Result<(), AllocError>
     requires { slot + 2 * length imports.now < 2 ^ 32 }

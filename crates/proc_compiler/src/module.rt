@@ -28,19 +28,19 @@ use crate::routine::{proc_at, registers_of};
 use cap_words::{Items, SealCap, SealRange, Word};
 use component_file::{Area, Component, ComponentFields, Export, Import};
 use proc_language::Module;
-use proc_program::{Part, Procedure, lowered};
-use proc_templates::Frame;
+use proc_program::{Procedure, Program, lowered};
+use proc_templates::FrameShape;
 use std::alloc::{AllocError, Global};
 
 // The frame of a procedure.
 #[tactic(auto, unfolding(proc_templates::specs::Compiled::frame_of))]
-fn frame_of(m: &Part, p: &Procedure) -> Frame
+fn frame_of(m: &Program, p: &Procedure) -> FrameShape
     requires limits { IsPart m.now }
     requires fits { ProcedureFits (scope_of m.now) p.now }
     ensures { result ≡ frame_of m.now p.now }
 {
     let imports = m.imports.as_slice().len() as u32;
-    Frame {
+    FrameShape {
         words: p.need,
         temps: 2 + registers_of(p.callbacks.as_slice()) + p.locals,
         imports,
@@ -50,7 +50,7 @@ fn frame_of(m: &Part, p: &Procedure) -> Frame
 
 // A procedure. Its epilogue stands behind all but the last `2w + 13` of its words.
 #[tactic(auto, using(crate::proofs::Modules::frame_words, crate::proofs::Modules::body_bound, crate::proofs::Modules::temps_le))]
-fn proc_in(draft: &mut Draft, m: &Part, p: &Procedure) -> Result<(), AllocError>
+fn proc_in(draft: &mut Draft, m: &Program, p: &Procedure) -> Result<(), AllocError>
     requires limits { IsPart m.now }
     requires data_fits { data_count m.now ≤ MOST_WORDS }
     requires fits { ProcedureFits (scope_of m.now) p.now }
@@ -69,7 +69,7 @@ fn proc_in(draft: &mut Draft, m: &Part, p: &Procedure) -> Result<(), AllocError>
 }
 
 // Procedures, one after the other.
-fn procs_in(draft: &mut Draft, m: &Part, procs: &[Procedure]) -> Result<(), AllocError>
+fn procs_in(draft: &mut Draft, m: &Program, procs: &[Procedure]) -> Result<(), AllocError>
     requires limits { IsPart m.now }
     requires data_fits { data_count m.now ≤ MOST_WORDS }
     requires fits { Each (ProcedureFits (scope_of m.now)) procs.now }
@@ -88,7 +88,7 @@ fn procs_in(draft: &mut Draft, m: &Part, procs: &[Procedure]) -> Result<(), Allo
 }
 
 // The word behind the `fail`: the seal capability over the return seals, where there are calls.
-fn literal_of(m: &Part) -> Word
+fn literal_of(m: &Program) -> Word
     requires limits { IsPart m.now }
     requires seals { part_calls m.now ≤ m.now.header.return_count }
     ensures { result ≡ literal_of m.now }
@@ -103,7 +103,7 @@ fn literal_of(m: &Part) -> Word
 
 // The code of a module, with the offsets of calls and labels.
 #[tactic(auto, unfolding(proc_templates::specs::Compiled::laid_of, proc_templates::specs::Compiled::code_words))]
-fn code_of(alloc: Global, m: &Part) -> Result<Draft, AllocError>
+fn code_of(alloc: Global, m: &Program) -> Result<Draft, AllocError>
     requires limits { IsPart m.now }
     requires code { code_words m.now ≤ MOST_WORDS }
     requires data { data_count m.now ≤ MOST_WORDS }
@@ -123,7 +123,7 @@ fn code_of(alloc: Global, m: &Part) -> Result<Draft, AllocError>
 }
 
 #[tactic(auto, unfolding(proc_templates::specs::Compiled::first_data))]
-fn data_of(alloc: Global, m: &Part) -> Result<Vec<Word>, AllocError>
+fn data_of(alloc: Global, m: &Program) -> Result<Vec<Word>, AllocError>
     requires { IsPart m.now }
     ensures { IfOk result (λ words. words.items ≡ first_data m.now) }
 {
@@ -134,7 +134,7 @@ fn data_of(alloc: Global, m: &Part) -> Result<Vec<Word>, AllocError>
 }
 
 #[tactic(auto, unfolding(proc_templates::specs::Compiled::imports_of))]
-fn imports_of(alloc: Global, m: &Part) -> Result<Vec<Import>, AllocError>
+fn imports_of(alloc: Global, m: &Program) -> Result<Vec<Import>, AllocError>
     requires { IsPart m.now }
     ensures { IfOk result (λ list. list.items ≡ imports_of m.now) }
 {
@@ -147,20 +147,20 @@ fn imports_of(alloc: Global, m: &Part) -> Result<Vec<Import>, AllocError>
 }
 
 #[tactic(auto, unfolding(proc_templates::specs::Compiled::exports_of, proc_templates::specs::Compiled::code_words))]
-fn exports_of(alloc: Global, m: &Part) -> Result<Vec<Export>, AllocError>
+fn exports_of(alloc: Global, m: &Program) -> Result<Vec<Export>, AllocError>
     requires { code_words m.now ≤ MOST_WORDS }
     ensures { IfOk result (λ list. list.items ≡ exports_of m.now) }
 {
     exports_from(alloc, m.procs.as_slice(), 2)
 }
 
-fn literal_at_of(m: &Part) -> Option<u32>
+fn literal_at_of(m: &Program) -> Option<u32>
     ensures { result ≡ literal_at_of m.now }
 {
     if is_without_calls(m) { None } else { Some(1) }
 }
 
-fn seals_of(m: &Part) -> SealRange
+fn seals_of(m: &Program) -> SealRange
     requires { IsPart m.now }
     ensures { result ≡ record { base = seal_base m.now.header; count = m.now.header.return_count } }
 {
@@ -175,7 +175,7 @@ fn seals_of(m: &Part) -> SealRange
 
 // The fields of a program's component.
 #[tactic(auto, unfolding(proc_templates::specs::Compiled::component_of))]
-fn fields_of(alloc: Global, m: &Part) -> Result<ComponentFields, AllocError>
+fn fields_of(alloc: Global, m: &Program) -> Result<ComponentFields, AllocError>
     requires limits { IsPart m.now }
     requires code { code_words m.now ≤ MOST_WORDS }
     requires data { data_count m.now ≤ MOST_WORDS }
@@ -211,7 +211,7 @@ fn fields_of(alloc: Global, m: &Part) -> Result<ComponentFields, AllocError>
 
 // The component of these fields.
 #[tactic(auto, using(crate::proofs::Modules::flow_of, crate::proofs::Modules::own_of))]
-fn made(fields: ComponentFields, m: &Part) -> Component
+fn made(fields: ComponentFields, m: &Program) -> Component
     requires is { fields ≡ component_of m.now }
     requires fits { FitsComponent m.now }
     requires named { NamesDiffer m.now.procs }
@@ -225,7 +225,7 @@ fn made(fields: ComponentFields, m: &Part) -> Component
 
 // The component of a program.
 #[tactic(auto, using(crate::proofs::Modules::fits_of))]
-fn component_of(alloc: Global, m: &Part) -> Result<Component, CompileFault>
+fn component_of(alloc: Global, m: &Program) -> Result<Component, CompileFault>
     requires limits { IsPart m.now }
     requires named { NamesDiffer m.now.procs }
     ensures is { IfOk result (λ c. c ≡ component_of m.now) }

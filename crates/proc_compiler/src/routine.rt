@@ -18,7 +18,7 @@ use crate::stmts::block;
 use lcm_isa::{Instr, Operand, Reg};
 use proc_language::MOST_REGISTERS;
 use proc_program::Procedure;
-use proc_templates::Frame;
+use proc_templates::FrameShape;
 use std::alloc::AllocError;
 
 // How many registers a parameter takes.
@@ -105,7 +105,7 @@ fn prologue(draft: &mut Draft, params: u32, words: u32) -> Result<(), AllocError
 
 /// A procedure with its frame.
 #[tactic(auto, using(crate::proofs::Written::items))]
-pub(crate) fn proc_at(draft: &mut Draft, f: Frame, p: &Procedure) -> Result<(), AllocError>
+pub(crate) fn proc_at(draft: &mut Draft, f: FrameShape, p: &Procedure) -> Result<(), AllocError>
     requires frame { f.words ≤ MOST_WORDS }
     requires few { registers_of p.now.callbacks ≤ MOST_REGISTERS }
     requires slots { 2 + registers_of p.now.callbacks ≤ f.words }

@@ -13,13 +13,13 @@ ghost use Rattle.proc_compiler.specs.Drafts.{with_items};
 use crate::draft::Draft;
 use crate::exprs::expr;
 use lcm_isa::{Instr, Operand, Reg};
-use proc_program::{Exp, Place, Row, Step, StepKind};
-use proc_templates::Frame;
+use proc_program::{Array, Exp, Location, Statement, StatementKind};
+use proc_templates::FrameShape;
 use std::alloc::AllocError;
 
 // g0 goes into a variable.
 #[tactic(auto, using(crate::proofs::Written::items))]
-fn store_var(draft: &mut Draft, f: Frame, x: Place) -> Result<(), AllocError>
+fn store_var(draft: &mut Draft, f: FrameShape, x: Location) -> Result<(), AllocError>
     requires frame { f.words ≤ MOST_WORDS }
     requires fits { PlaceBound f x }
     ensures written { OnOk result (draft.new ≡ with_items (store_var f x) draft.old) }
@@ -28,15 +28,15 @@ fn store_var(draft: &mut Draft, f: Frame, x: Place) -> Result<(), AllocError>
     ensures kept { OnOk result (draft.new.seals ≡ draft.old.seals) }
 {
     match x {
-        Place::Local(i) => draft.at_slot(f, i + 2, Instr::Store(Reg::Stk, Reg::G0)),
-        Place::Global(o) => draft.at_glob(f.pairs + o, Instr::Store(Reg::Dat, Reg::G0)),
+        Location::Local(i) => draft.at_slot(f, i + 2, Instr::Store(Reg::Stk, Reg::G0)),
+        Location::Global(o) => draft.at_glob(f.pairs + o, Instr::Store(Reg::Dat, Reg::G0)),
     }
 }
 
 // A statement.
 #[cycle(step)]
 #[tactic(auto, using(crate::proofs::Written::items))]
-fn step(draft: &mut Draft, f: Frame, s: &Step) -> Result<(), AllocError>
+fn step(draft: &mut Draft, f: FrameShape, s: &Statement) -> Result<(), AllocError>
     requires frame { f.words ≤ MOST_WORDS }
     requires fits { StepBound f s.now }
     requires room { f.temps + step_words s.now ≤ LAST_PLACE }
@@ -48,20 +48,20 @@ fn step(draft: &mut Draft, f: Frame, s: &Step) -> Result<(), AllocError>
     ensures kept { OnOk result (draft.new.seals ≡ draft.old.seals) }
 {
     match &s.kind {
-        StepKind::Set(x, e) => {
+        StatementKind::Set(x, e) => {
             expr(draft, f, e, f.temps)?;
             store_var(draft, f, *x)
         }
-        StepKind::SetAt(row, index, e) => sets_at(draft, f, *row, index, e),
-        StepKind::Do(e) => expr(draft, f, e, f.temps),
-        StepKind::If(c, body, other) => branch(draft, f, c, body.as_slice(), other.as_slice()),
-        StepKind::While(c, body) => repeat(draft, f, c, body.as_slice()),
-        StepKind::Return(e) => {
+        StatementKind::SetAt(row, index, e) => sets_at(draft, f, *row, index, e),
+        StatementKind::Do(e) => expr(draft, f, e, f.temps),
+        StatementKind::If(c, body, other) => branch(draft, f, c, body.as_slice(), other.as_slice()),
+        StatementKind::While(c, body) => repeat(draft, f, c, body.as_slice()),
+        StatementKind::Return(e) => {
             expr(draft, f, e, f.temps)?;
             draft.put(Instr::Move(Reg::A0, Operand::R(Reg::G0)))?;
             draft.finish()
         }
-        StepKind::Halt(e) => {
+        StatementKind::Halt(e) => {
             expr(draft, f, e, f.temps)?;
             draft.put(Instr::Move(Reg::A0, Operand::R(Reg::G0)))?;
             draft.put(Instr::Halt)
@@ -71,7 +71,13 @@ fn step(draft: &mut Draft, f: Frame, s: &Step) -> Result<(), AllocError>
 
 // An element of an array is set.
 #[tactic(auto, using(crate::proofs::Written::items))]
-fn sets_at(draft: &mut Draft, f: Frame, row: Row, index: &Exp, e: &Exp) -> Result<(), AllocError>
+fn sets_at(
+    draft: &mut Draft,
+    f: FrameShape,
+    row: Array,
+    index: &Exp,
+    e: &Exp,
+) -> Result<(), AllocError>
     requires frame { f.words ≤ MOST_WORDS }
     requires row_fits { RowBound f row }
     requires index_fits { ExpBound f index.now }
@@ -103,10 +109,10 @@ fn sets_at(draft: &mut Draft, f: Frame, row: Row, index: &Exp, e: &Exp) -> Resul
 #[cycle(step)]
 fn branch(
     draft: &mut Draft,
-    f: Frame,
+    f: FrameShape,
     c: &Exp,
-    body: &[Step],
-    other: &[Step],
+    body: &[Statement],
+    other: &[Statement],
 ) -> Result<(), AllocError>
     requires frame { f.words ≤ MOST_WORDS }
     requires fits { StepBound f (If c.now (block_of body.now) (block_of other.now)) }
@@ -140,7 +146,7 @@ fn branch(
 
 // A block as long as the condition holds.
 #[cycle(step)]
-fn repeat(draft: &mut Draft, f: Frame, c: &Exp, body: &[Step]) -> Result<(), AllocError>
+fn repeat(draft: &mut Draft, f: FrameShape, c: &Exp, body: &[Statement]) -> Result<(), AllocError>
     requires frame { f.words ≤ MOST_WORDS }
     requires fits { StepBound f (While c.now (block_of body.now)) }
     requires room { f.temps + step_words (While c.now (block_of body.now)) ≤ LAST_PLACE }
@@ -169,7 +175,7 @@ fn repeat(draft: &mut Draft, f: Frame, c: &Exp, body: &[Step]) -> Result<(), All
 /// Statements, one after the other.
 #[cycle(step)]
 #[tactic(auto, using(crate::proofs::Written::items))]
-pub(crate) fn block(draft: &mut Draft, f: Frame, steps: &[Step]) -> Result<(), AllocError>
+pub(crate) fn block(draft: &mut Draft, f: FrameShape, steps: &[Statement]) -> Result<(), AllocError>
     requires frame { f.words ≤ MOST_WORDS }
     requires fits { BlockBound f (block_of steps.now) }
     requires room { f.temps + block_words (block_of steps.now) ≤ LAST_PLACE }

@@ -1,12 +1,9 @@
 -- How the faults of a source print.
-use Rattle.std.specs.Prelude.{ℕ, ◌++◌, List, codes, decimal}
+use Rattle.std.specs.Prelude.{ℕ, List, codes}
+use Rattle.cap_words.specs.FaultText.{at_byte}
 use Rattle.text_scan.specs.FaultText.{scan_fault_text}
 use Rattle.proc_grammar.specs.declared.fault.ParseFault.{ParseFault}
 use Rattle.proc_grammar.specs.declared.fault.ParseFault.TheVariants.{Scan, Expected, Range, TooMany, NoMemory}
-
--- what is wrong at a byte
-abbrev at_byte : ℕ → List ℕ → List ℕ
-at_byte at what = codes "byte " ++ decimal at ++ what
 
 abbrev pub parse_fault_text : ParseFault → List ℕ
 parse_fault_text (Scan fault) = scan_fault_text fault

@@ -8,11 +8,11 @@ use Rattle.proc_language.specs.declared.TheConstants.{LONGEST_ARRAY, LARGEST_LIT
 use Rattle.proc_language.specs.declared.TheConstants.{MOST_BRACKETS, MOST_TOKENS}
 use Rattle.proc_language.specs.declared.tree.Name.{Name}
 use Rattle.proc_language.specs.declared.tree.Op.{Op}
-use Rattle.proc_language.specs.declared.module.Import.{Import}
+use Rattle.proc_language.specs.declared.module.ModuleImport.{ModuleImport}
 use Rattle.proc_language.specs.declared.module.Global.{Global}
 use Rattle.phrases.specs.Phrase as phrases
 use Rattle.phrases.specs.Phrase.{◌>>=◌, only, one, ◌or◌, where_true, nothing, many}
-use Rattle.proc_grammar.specs.declared.header.Header.{Header}
+use Rattle.proc_grammar.specs.declared.header.ModuleHeader.{ModuleHeader}
 use Rattle.proc_grammar.specs.declared.taken.Taken as taken
 use Rattle.proc_grammar.specs.Makes.{Makes, TokenMakes}
 use Rattle.proc_grammar.specs.Lexemes.{Lexeme, word, words_of, a_name, a_number, sign}
@@ -151,7 +151,7 @@ module _ (words : List (List ℕ)) (limits : Bool) where
     _ ← where_true (kept limits (is_short x))
     only x
 
-  unfoldable pub import_item : ℕ → Phrase Import
+  unfoldable pub import_item : ℕ → Phrase ModuleImport
   import_item count = do
     at ← one (word (codes "import"))
     _ ← within limits count MOST_ITEMS
@@ -173,7 +173,7 @@ module _ (words : List (List ℕ)) (limits : Bool) where
     _ ← one (sign semicolon)
     only (record { at = at; name = x; length = len; initial = initial })
 
-  unfoldable pub header : Phrase Header
+  unfoldable pub header : Phrase ModuleHeader
   header = do
     at ← one (word (codes "module"))
     x ← name

@@ -8,11 +8,11 @@ use Rattle.proc_language.specs.declared.TheConstants.{MOST_ITEMS, MOST_REGISTERS
 use Rattle.proc_language.specs.declared.TheConstants.{MOST_TOKENS}
 use Rattle.proc_language.specs.declared.tree.Name.{Name}
 use Rattle.proc_language.specs.declared.tree.Op.{Op}
-use Rattle.proc_language.specs.declared.module.Import.{Import}
+use Rattle.proc_language.specs.declared.module.ModuleImport.{ModuleImport}
 use Rattle.proc_language.specs.declared.module.Global.{Global}
 use Rattle.readers.specs.Readers.{◌>>=◌, done, holds}
 use Rattle.phrases.specs.Reading.{case_next}
-use Rattle.proc_grammar.specs.declared.header.Header.{Header}
+use Rattle.proc_grammar.specs.declared.header.ModuleHeader.{ModuleHeader}
 use Rattle.proc_grammar.specs.Makes.{Makes, TokenMakes}
 use Rattle.proc_grammar.specs.Lexemes.{Lexeme, Numeral, word, words_of, a_name, a_number, sign, a_start}
 use Rattle.proc_grammar.specs.Lexemes.{a_local, a_proc}
@@ -84,7 +84,7 @@ module _ (words : List (List ℕ)) (limits : Bool) where
     x ← one (a_name words)
     proper_name x
 
-  unfoldable pub next_import : ℕ → Reader Import
+  unfoldable pub next_import : ℕ → Reader ModuleImport
   next_import count = do
     at ← one (word (codes "import"))
     _ ← within limits count MOST_ITEMS at
@@ -106,7 +106,7 @@ module _ (words : List (List ℕ)) (limits : Bool) where
     _ ← one (sign semicolon)
     done (record { at = at; name = x; length = len; initial = initial })
 
-  unfoldable pub next_header : Reader Header
+  unfoldable pub next_header : Reader ModuleHeader
   next_header = do
     at ← one (word (codes "module"))
     x ← next_name

@@ -3,9 +3,9 @@ ghost use Rattle.std.specs.Prelude.{◌≡◌, IfOk, IfSome, option_map, is_some
 ghost use Rattle.proc_grammar.specs.Makes.{Makes};
 ghost use Rattle.proc_grammar.specs.Lexemes.{taken, words_of};
 
-use crate::header::Header;
+use crate::header::ModuleHeader;
 use cap_words::Items;
-use proc_language::{Global, Import, Name, Op};
+use proc_language::{Global, ModuleImport, Name, Op};
 use std::alloc::{AllocError, Global as Heap};
 
 /// A language of this grammar: its trees, and what they are made of. A first place is that of the first
@@ -202,8 +202,8 @@ pub trait Language {
 
     /// A module.
     fn module_of(
-        header: Header,
-        imports: Items<Import>,
+        header: ModuleHeader,
+        imports: Items<ModuleImport>,
         globals: Items<Global>,
         procs: Items<Self::Proc>,
     ) -> Self::Module

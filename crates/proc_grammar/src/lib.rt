@@ -9,7 +9,7 @@ mod plain;
 mod taken;
 
 pub use fault::ParseFault;
-pub use header::Header;
+pub use header::ModuleHeader;
 pub use language::Language;
 pub use plain::Plain;
 pub use taken::Taken;

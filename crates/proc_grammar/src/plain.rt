@@ -2,11 +2,12 @@
 ghost use Rattle.std.specs.Prelude.{◌≡◌};
 ghost use Rattle.proc_grammar.specs.PlainTrees.{plain_trees};
 
-use crate::header::Header;
+use crate::header::ModuleHeader;
 use crate::language::Language;
 use cap_words::Items;
 use proc_language::{
-    Arg, Call, Expr, ExprKind, Global, Import, ModuleFields, Name, Op, Param, Proc, Stmt, StmtKind,
+    Arg, Call, Expr, ExprKind, Global, ModuleFields, ModuleImport, Name, Op, Param, Proc, Stmt,
+    StmtKind,
 };
 use std::alloc::{AllocError, Global as Heap};
 
@@ -244,8 +245,8 @@ impl Language for Plain {
     }
 
     fn module_of(
-        header: Header,
-        imports: Items<Import>,
+        header: ModuleHeader,
+        imports: Items<ModuleImport>,
         globals: Items<Global>,
         procs: Items<Proc>,
     ) -> ModuleFields

@@ -7,7 +7,7 @@ use std::marker::Model;
 
 /// What another part exports under a name, to be called.
 #[derive(Debug, Drop)]
-pub struct Import {
+pub struct ModuleImport {
     /// The place of `import`.
     pub at: u32,
     /// The name of the part.
@@ -79,7 +79,7 @@ pub struct ModuleFields {
     /// Whether the part may be placed elsewhere.
     pub movable: bool,
     /// What it wants to call.
-    pub imports: Items<Import>,
+    pub imports: Items<ModuleImport>,
     /// Its variables and arrays.
     pub globals: Items<Global>,
     /// Its procedures.

@@ -2,12 +2,12 @@
 -- list has to be of good form.
 use Rattle.std.specs.Prelude.{ℕ, ◌+◌, ◌*◌, ◌<◌, ◌≤◌, length, ℤ, pos, List, [], ◌∷◌, ◌++◌, reverse}
 use Rattle.std.specs.Prelude.{Option, Some, None, if◌then◌else◌}
-use Rattle.source_events.specs.declared.End.TheVariants.{Halt as Halted}
-use Rattle.proc_program.specs.declared.program.Call.{Call}
+use Rattle.source_events.specs.declared.MeaningEnd.TheVariants.{Halt as Halted}
+use Rattle.proc_program.specs.declared.program.CallExp.{CallExp}
 use Rattle.proc_program.specs.Program.{Exp, Args, Block}
 use Rattle.proc_program.specs.View.{args_of}
 use Rattle.proc_program.specs.StepView.{block_of}
-use Rattle.proc_semantics.specs.declared.value.Frame.{Frame}
+use Rattle.proc_semantics.specs.declared.value.Activation.{Activation}
 use Rattle.proc_semantics.specs.declared.value.Value as values
 use Rattle.proc_semantics.specs.declared.value.Value.TheVariants.{Num}
 use Rattle.proc_semantics.specs.Told.{Comp, ends, fails, ticks, emit, take_item}
@@ -29,18 +29,19 @@ use Rattle.proc_meaning.specs.declared.work.Ahead.TheVariants.{Free, Ticked, Sai
 
 module _ (world : World) where
   -- a call with these arguments evaluated and those not
-  abbrev pub call_with : Frame → List values.Value → Call → List values.Value → Args → Then → Store → Comp
+  abbrev pub call_with : Activation → List values.Value → CallExp → List values.Value → Args → Then → Store
+      → Comp
   call_with f env c vs xs k st =
       args world (whole world) f env xs
       (λ ys. call world (whole world) f c.site (pair_of world f.home env c.handle) (vs ++ ys) k) st
 
   -- a condition has a value: of an `if`, and of a loop
-  abbrev pub chosen : ℤ → Block → Block → Frame → Then → Next → Next
+  abbrev pub chosen : ℤ → Block → Block → Activation → Then → Next → Next
   chosen v a b f back k env st =
       (if is_zero v then block world (whole world) f b back k env
       else block world (whole world) f a back k env) st
 
-  abbrev pub tested : ℤ → Exp → Block → Frame → Then → Next → Next
+  abbrev pub tested : ℤ → Exp → Block → Activation → Then → Next → Next
   tested v c b f back k env st =
       (if is_zero v then k env
       else block world (whole world) f b back ((whole world).turn f c b back k) env) st
@@ -49,7 +50,7 @@ module _ (world : World) where
 
   abbrev mutual
     -- what is done with a value
-    pub with_value : List Work → Frame → List values.Value → Then
+    pub with_value : List Work → Activation → List values.Value → Then
     with_value (Index a ∷ ws) f env v st =
         element a v (λ o. with_value ws f env (global_word st f.home o) st)
     with_value (Right o e ∷ ws) f env v st =
@@ -73,7 +74,7 @@ module _ (world : World) where
     with_value _ f env v st = fails
 
     -- what is done behind a statement
-    pub after : List Work → Frame → Next
+    pub after : List Work → Activation → Next
     after (Rest b ∷ ws) f env st =
         block world (whole world) f (block_of b.now) (back ws f) (after ws f) env st
     after (Turn c b ∷ ws) f env st =
@@ -87,7 +88,7 @@ module _ (world : World) where
     after _ f env st = fails
 
     -- what a return does
-    pub back : List Work → Frame → Then
+    pub back : List Work → Activation → Then
     back (Rest b ∷ ws) f v st = back ws f v st
     back (Turn c b ∷ ws) f v st = back ws f v st
     back (Ends Start ∷ ws) f v st = finish world f.need (λ v st. fails) v st

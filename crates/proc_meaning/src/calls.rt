@@ -10,13 +10,17 @@ use crate::names::pair_of;
 use crate::places::{Run, out_args, registers};
 use crate::work::{Ahead, Now, Whence, Work};
 use cap_words::Items;
-use proc_program::{Arg, Call, Part};
-use proc_semantics::{Frame, Pair, Value};
-use source_events::{End, OutEvent};
+use proc_program::{ArgExp, CallExp, Program};
+use proc_semantics::{Activation, Pair, Value};
+use source_events::{MeaningEnd, OutEvent};
 use std::alloc::{AllocError, Global};
 
 /// The name of a module, as an event has it.
-pub(crate) fn part_name(alloc: Global, world: &[Part], home: usize) -> Result<Items<u8>, AllocError>
+pub(crate) fn part_name(
+    alloc: Global,
+    world: &[Program],
+    home: usize,
+) -> Result<Items<u8>, AllocError>
     ensures { IfOk result (λ n. n ≡ part_name_of world.now home) }
 {
     let mut name = Vec::new(alloc);
@@ -27,7 +31,7 @@ pub(crate) fn part_name(alloc: Global, world: &[Part], home: usize) -> Result<It
 }
 
 /// The words of the stack that a call gives away, where there are enough.
-fn given_of(frame: Frame) -> Option<u32>
+fn given_of(frame: Activation) -> Option<u32>
     ensures { result ≡ given_of frame }
 {
     if u64::from(frame.left) < u64::from(frame.need) + 2 {
@@ -39,8 +43,8 @@ fn given_of(frame: Frame) -> Option<u32>
 /// A call whose arguments are evaluated.
 fn call<'a>(
     alloc: Global,
-    world: &'a [Part],
-    to: &'a Call,
+    world: &'a [Program],
+    to: &'a CallExp,
     values: Vec<Value>,
     work: &mut Vec<Work<'a>>,
     run: &mut Run,
@@ -53,10 +57,10 @@ fn call<'a>(
     ensures less { IfOk result (λ a. IsLess a work.new.items (2 * length work.old.items + 3)) }
 {
     let Some(given) = given_of(run.frame) else {
-        return Ok(Ahead::Stop(End::Fail));
+        return Ok(Ahead::Stop(MeaningEnd::Fail));
     };
     match pair_of(world, run, to.handle) {
-        Pair::Bad => Ok(Ahead::Stop(End::Fail)),
+        Pair::Bad => Ok(Ahead::Stop(MeaningEnd::Fail)),
         Pair::Outside => {
             let name = part_name(alloc, world, run.frame.home)?;
             let event = OutEvent::CallOut(name, to.site, out_args(&values));
@@ -74,10 +78,10 @@ fn call<'a>(
 /// The arguments of a call are evaluated: `values` are, `given` aren't.
 pub(crate) fn arguments<'a>(
     alloc: Global,
-    world: &'a [Part],
-    to: &'a Call,
+    world: &'a [Program],
+    to: &'a CallExp,
     mut values: Vec<Value>,
-    given: &'a [Arg],
+    given: &'a [ArgExp],
     work: &mut Vec<Work<'a>>,
     run: &mut Run,
 ) -> Result<Ahead<'a>, AllocError>
@@ -91,11 +95,11 @@ pub(crate) fn arguments<'a>(
         return call(alloc, world, to, values, work, run);
     };
     match first {
-        Arg::Value(e) => {
+        ArgExp::Value(e) => {
             work.push(Work::Arg(to, values, rest))?;
             Ok(Ahead::Free(Now::Eval(e)))
         }
-        Arg::Pass(handle) => {
+        ArgExp::Pass(handle) => {
             values.push(Value::Closure(pair_of(world, run, *handle)))?;
             values.push(Value::Other)?;
             Ok(Ahead::Ticked(1, Now::Args(to, values, rest)))

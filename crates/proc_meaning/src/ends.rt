@@ -10,9 +10,9 @@ ghost use Rattle.proc_meaning.specs.Rest.{back, ended, ahead_of, IsLess};
 use crate::names::{proc_at, taken};
 use crate::places::Run;
 use crate::work::{Ahead, Now, Whence, Work};
-use proc_program::Part;
-use proc_semantics::{Frame, Register, Target, Value};
-use source_events::End;
+use proc_program::Program;
+use proc_semantics::{Activation, Register, Target, Value};
+use source_events::MeaningEnd;
 use std::alloc::{AllocError, Global};
 
 /// Locals that begin at 0, behind what parameters took.
@@ -50,7 +50,7 @@ pub(crate) fn sum(a: u32, b: u32) -> u64
 /// A procedure begins.
 pub(crate) fn begin<'a>(
     alloc: Global,
-    world: &'a [Part],
+    world: &'a [Program],
     target: Target,
     left: Option<u32>,
     registers: &[Register],
@@ -65,7 +65,7 @@ pub(crate) fn begin<'a>(
     ensures less { IfOk result (λ a. IsLess a work.new.items (2 * length work.old.items)) }
 {
     let Some(proc) = proc_at(world, target) else {
-        return Ok(Ahead::Stop(End::Fail));
+        return Ok(Ahead::Stop(MeaningEnd::Fail));
     };
     let ticks = sum(proc.need, 1);
     let Some(words) = enough(proc.need, left) else {
@@ -76,7 +76,7 @@ pub(crate) fn begin<'a>(
     };
     let places = add_locals(env, proc.locals)?;
     *run = Run {
-        frame: Frame {
+        frame: Activation {
             home: target.home,
             left: words,
             need: proc.need,
@@ -118,7 +118,7 @@ fn back_of<'a>(w: Work<'a>, v: i64, run: &mut Run) -> Ahead<'a>
         Work::Rest(_) => Ahead::Free(Now::Back(v)),
         Work::Turn(_, _) => Ahead::Free(Now::Back(v)),
         Work::Ends(whence) => end_run(whence, v, run),
-        _ => Ahead::Stop(End::Fail),
+        _ => Ahead::Stop(MeaningEnd::Fail),
     }
 }
 
@@ -131,6 +131,6 @@ pub(crate) fn give_back<'a>(v: i64, work: &mut Vec<Work<'a>>, run: &mut Run) -> 
 {
     match work.pop() {
         Some(w) => back_of(w, v, run),
-        None => Ahead::Stop(End::Fail),
+        None => Ahead::Stop(MeaningEnd::Fail),
     }
 }

@@ -8,24 +8,24 @@ ghost use Rattle.proc_meaning.specs.Rest.{with_value, ahead_of, IsLess};
 use crate::places::{Run, Words, number_in, value_at, word_at};
 use crate::work::{Ahead, Now, Work};
 use proc_language::Op;
-use proc_program::{Exp, ExpKind, Part, Place, Row};
+use proc_program::{Array, Exp, ExpKind, Location, Program};
 use proc_semantics::Value;
 use std::alloc::{AllocError, Global};
 
 /// What a variable holds.
-fn variable(run: &Run, store: &[Words], place: Place) -> i64
+fn variable(run: &Run, store: &[Words], place: Location) -> i64
     ensures { result ≡ variable run.now.frame.home run.now.env.items store.now place }
 {
     match place {
-        Place::Local(i) => number_in(value_at(&run.env, i as usize, Value::Other)),
-        Place::Global(o) => word_at(store, run.frame.home, o as usize),
+        Location::Local(i) => number_in(value_at(&run.env, i as usize, Value::Other)),
+        Location::Global(o) => word_at(store, run.frame.home, o as usize),
     }
 }
 
 /// An expression is evaluated.
 pub(crate) fn eval<'a>(
     alloc: Global,
-    world: &'a [Part],
+    world: &'a [Program],
     e: &'a Exp,
     work: &mut Vec<Work<'a>>,
     run: &Run,
@@ -68,7 +68,7 @@ pub(crate) fn result_of(op: Op, x: i64, y: i64) -> Option<i64>
 }
 
 /// The place of an element, where the index is in the array.
-pub(crate) fn element_at(row: Row, index: i64) -> Option<usize>
+pub(crate) fn element_at(row: Array, index: i64) -> Option<usize>
     ensures { result ≡ element_at row index }
 {
     if index < 0 {

@@ -12,15 +12,15 @@ use crate::ends::sum;
 use crate::names::{found, registers_fed};
 use crate::places::{Run, registers};
 use crate::work::{Ahead, Now, Whence, Work};
-use proc_program::Part;
+use proc_program::Program;
 use proc_semantics::Value;
-use source_events::{End, FeedBack, Item, OutArg, OutEvent};
+use source_events::{FeedBack, Item, MeaningEnd, OutArg, OutEvent};
 use std::alloc::{AllocError, Global};
 
 // ---- the newest call that waits
 
 /// The name of a module, to read.
-fn part_text<'a>(world: &'a [Part], home: usize) -> &'a [u8]
+fn part_text<'a>(world: &'a [Program], home: usize) -> &'a [u8]
     ensures { result.now ≡ part_name_of world.now home }
 {
     match world.get(home) {
@@ -30,7 +30,7 @@ fn part_text<'a>(world: &'a [Part], home: usize) -> &'a [u8]
 }
 
 /// Where the frame begins of a call that gave these words away.
-fn base_of(world: &[Part], home: usize, given: u32) -> u64
+fn base_of(world: &[Program], home: usize, given: u32) -> u64
     ensures { result ≡ home_stack world.now home + given }
 {
     match world.get(home) {
@@ -58,7 +58,7 @@ struct Asked<'a> {
 }
 
 /// Whether a call is the one that is meant.
-fn is_for(world: &[Part], home: usize, site: u32, given: u32, asked: &Asked<'_>) -> bool
+fn is_for(world: &[Program], home: usize, site: u32, given: u32, asked: &Asked<'_>) -> bool
     ensures { result ≡ (bytes_eq asked.now.part.now (part_name_of world.now home) && (asked.now.site == site)
         && (asked.now.base == home_stack world.now home + given) && is_given asked.now.left given) }
 {
@@ -70,7 +70,7 @@ fn is_for(world: &[Part], home: usize, site: u32, given: u32, asked: &Asked<'_>)
 
 /// A value comes to an entry of the list, where that is a call that waits, and the one that is meant.
 fn resume_at<'a>(
-    world: &'a [Part],
+    world: &'a [Program],
     w: Work<'a>,
     asked: &Asked<'_>,
     value: Option<i64>,
@@ -85,21 +85,21 @@ fn resume_at<'a>(
     match w {
         Work::Waits(caller, site, given) => {
             let Some(value) = value else {
-                return Ahead::Stop(End::Fail);
+                return Ahead::Stop(MeaningEnd::Fail);
             };
             if is_for(world, caller.frame.home, site, given, asked) {
                 *run = caller;
                 return Ahead::Free(Now::Value(value));
             }
-            Ahead::Stop(End::Fail)
+            Ahead::Stop(MeaningEnd::Fail)
         }
-        _ => Ahead::Stop(End::Fail),
+        _ => Ahead::Stop(MeaningEnd::Fail),
     }
 }
 
 /// A value comes to the newest call that waits, where that is the one that is meant.
 fn resume<'a>(
-    world: &'a [Part],
+    world: &'a [Program],
     asked: &Asked<'_>,
     value: Option<i64>,
     work: &mut Vec<Work<'a>>,
@@ -113,7 +113,7 @@ fn resume<'a>(
 {
     match work.pop() {
         Some(w) => resume_at(world, w, asked, value, run),
-        None => Ahead::Stop(End::Fail),
+        None => Ahead::Stop(MeaningEnd::Fail),
     }
 }
 
@@ -122,7 +122,7 @@ fn resume<'a>(
 /// A procedure that was entered has ended with a value.
 pub(crate) fn leave<'a>(
     alloc: Global,
-    world: &'a [Part],
+    world: &'a [Program],
     home: usize,
     left: Option<u32>,
     way: &'a FeedBack,
@@ -141,10 +141,10 @@ pub(crate) fn leave<'a>(
             let event = OutEvent::LeaveOut(part_name(alloc, world, home)?, OutArg::Int(value));
             Ok(Ahead::Said(event, Now::Wait))
         }
-        FeedBack::Bad => Ok(Ahead::Stop(End::Fail)),
+        FeedBack::Bad => Ok(Ahead::Stop(MeaningEnd::Fail)),
         FeedBack::Hop(part, name) => {
             let Some(target) = found(world, part.as_slice(), name.as_slice()) else {
-                return Ok(Ahead::Stop(End::Fail));
+                return Ok(Ahead::Stop(MeaningEnd::Fail));
             };
             let registers = registers(alloc, &[Value::Num(value)])?;
             let whence = Whence::Entered(home, left, way);
@@ -152,7 +152,7 @@ pub(crate) fn leave<'a>(
         }
         FeedBack::Pair(part, site, base) => {
             let Some(left) = left else {
-                return Ok(Ahead::Stop(End::Fail));
+                return Ok(Ahead::Stop(MeaningEnd::Fail));
             };
             let asked = Asked {
                 part: part.as_slice(),
@@ -168,7 +168,7 @@ pub(crate) fn leave<'a>(
 /// An item of the feed.
 pub(crate) fn take<'a>(
     alloc: Global,
-    world: &'a [Part],
+    world: &'a [Program],
     item: &'a Item,
     work: &mut Vec<Work<'a>>,
     run: &mut Run,
@@ -188,7 +188,7 @@ pub(crate) fn take<'a>(
             back,
         } => {
             let Some(target) = found(world, part.as_slice(), name.as_slice()) else {
-                return Ok(Ahead::Stop(End::Fail));
+                return Ok(Ahead::Stop(MeaningEnd::Fail));
             };
             let registers = registers_fed(alloc, world, args, pairs)?;
             let whence = Whence::Entered(target.home, *left, back);

@@ -5,11 +5,11 @@ ghost use Rattle.proc_semantics.specs.Meaning.{meaning};
 
 use crate::telling::meaning_of_parts;
 use proc_language::Module;
-use proc_program::{Part, lowered};
+use proc_program::{Program, lowered};
 use source_events::{Item, Told};
 use std::alloc::{AllocError, Global};
 
-fn all_lowered(alloc: Global, modules: &[Module]) -> Result<Vec<Part>, AllocError>
+fn all_lowered(alloc: Global, modules: &[Module]) -> Result<Vec<Program>, AllocError>
     ensures { IfOk result (λ world. world.items ≡ map part_of modules.now) }
 {
     let mut world = Vec::new(alloc);

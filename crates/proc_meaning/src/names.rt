@@ -7,7 +7,7 @@ ghost use Rattle.proc_semantics.specs.Values.{registers_fed, first_of, rest_of, 
 ghost use Rattle.proc_semantics.specs.Values.{pair_of};
 
 use crate::places::{Run, pair_in, value_at};
-use proc_program::{Handle, Import, Part, Procedure};
+use proc_program::{Handle, Procedure, Program, ProgramImport};
 use proc_semantics::{Pair, Register, Target, Value};
 use source_events::FeedPair;
 use std::alloc::{AllocError, Global};
@@ -21,19 +21,19 @@ fn is_shared(name: &[u8], proc: &Procedure) -> bool
     proc.shared && name == proc.name.as_slice()
 }
 
-fn is_named(part: &[u8], owner: &Part) -> bool
+fn is_named(part: &[u8], owner: &Program) -> bool
     ensures { result ≡ is_named part.now owner.now }
 {
     part == owner.name.as_slice()
 }
 
-fn named(world: &[Part], part: &[u8]) -> Option<usize>
+fn named(world: &[Program], part: &[u8]) -> Option<usize>
     ensures { result ≡ position (is_named part.now) world.now }
 {
     world.iter().position(|owner| is_named(part, owner))
 }
 
-fn shared_place(owner: &Part, name: &[u8]) -> Option<usize>
+fn shared_place(owner: &Program, name: &[u8]) -> Option<usize>
     ensures { result ≡ position (is_shared name.now) owner.now.procs }
 {
     owner
@@ -43,7 +43,7 @@ fn shared_place(owner: &Part, name: &[u8]) -> Option<usize>
         .position(|proc| is_shared(name, proc))
 }
 
-fn shared_in(world: &[Part], home: usize, name: &[u8]) -> Option<Target>
+fn shared_in(world: &[Program], home: usize, name: &[u8]) -> Option<Target>
     ensures { result ≡ shared_in home name.now (home_part world.now home) }
 {
     match world.get(home) {
@@ -57,7 +57,7 @@ fn shared_in(world: &[Part], home: usize, name: &[u8]) -> Option<Target>
 
 /// The shared procedure of a part, by its name.
 #[tactic(auto, unfolding(proc_semantics::specs::Values::found))]
-pub(crate) fn found(world: &[Part], part: &[u8], name: &[u8]) -> Option<Target>
+pub(crate) fn found(world: &[Program], part: &[u8], name: &[u8]) -> Option<Target>
     ensures { result ≡ found world.now part.now name.now }
 {
     match named(world, part) {
@@ -66,13 +66,13 @@ pub(crate) fn found(world: &[Part], part: &[u8], name: &[u8]) -> Option<Target>
     }
 }
 
-fn has_main(owner: &Part) -> bool
+fn has_main(owner: &Program) -> bool
     ensures { result ≡ has_main owner.now }
 {
     shared_place(owner, MAIN.as_bytes()).is_some()
 }
 
-fn first_main(world: &[Part]) -> Option<usize>
+fn first_main(world: &[Program]) -> Option<usize>
     ensures { result ≡ position has_main world.now }
 {
     world.iter().position(|owner| has_main(owner))
@@ -80,7 +80,7 @@ fn first_main(world: &[Part]) -> Option<usize>
 
 /// The first shared main.
 #[tactic(auto, unfolding(proc_semantics::specs::Values::main_target))]
-pub(crate) fn main_of(world: &[Part]) -> Option<Target>
+pub(crate) fn main_of(world: &[Program]) -> Option<Target>
     ensures { result ≡ main_target world.now }
 {
     match first_main(world) {
@@ -90,7 +90,7 @@ pub(crate) fn main_of(world: &[Part]) -> Option<Target>
 }
 
 /// A procedure of the modules.
-pub(crate) fn proc_at<'a>(world: &'a [Part], target: Target) -> Option<&'a Procedure>
+pub(crate) fn proc_at<'a>(world: &'a [Program], target: Target) -> Option<&'a Procedure>
     ensures { option_copied result ≡ proc_at world.now target }
 {
     match world.get(target.home) {
@@ -108,7 +108,7 @@ fn pair_found(target: Option<Target>) -> Pair
     }
 }
 
-fn pair_fed(world: &[Part], pair: &FeedPair) -> Option<Pair>
+fn pair_fed(world: &[Program], pair: &FeedPair) -> Option<Pair>
     ensures { result ≡ pair_fed world.now pair.now }
 {
     match pair {
@@ -123,7 +123,12 @@ fn pair_fed(world: &[Part], pair: &FeedPair) -> Option<Pair>
     }
 }
 
-fn register_fed(world: &[Part], numbers: &[Option<i64>], pairs: &[FeedPair], i: usize) -> Register
+fn register_fed(
+    world: &[Program],
+    numbers: &[Option<i64>],
+    pairs: &[FeedPair],
+    i: usize,
+) -> Register
     ensures { result ≡ register_fed world.now numbers.now pairs.now i }
 {
     Register {
@@ -141,7 +146,7 @@ fn register_fed(world: &[Part], numbers: &[Option<i64>], pairs: &[FeedPair], i: 
 /// The registers that an item of the feed tells of.
 pub(crate) fn registers_fed(
     alloc: Global,
-    world: &[Part],
+    world: &[Program],
     numbers: &[Option<i64>],
     pairs: &[FeedPair],
 ) -> Result<Vec<Register>, AllocError>
@@ -210,7 +215,7 @@ pub(crate) fn taken(
     }
 }
 
-fn import_in<'a>(world: &'a [Part], home: usize, k: u32) -> Option<&'a Import>
+fn import_in<'a>(world: &'a [Program], home: usize, k: u32) -> Option<&'a ProgramImport>
     ensures { option_copied result ≡ import_in (home_part world.now home) k }
 {
     match world.get(home) {
@@ -220,7 +225,7 @@ fn import_in<'a>(world: &'a [Part], home: usize, k: u32) -> Option<&'a Import>
 }
 
 #[tactic(auto, unfolding(proc_semantics::specs::Values::linked))]
-fn linked(world: &[Part], import: Option<&Import>) -> Pair
+fn linked(world: &[Program], import: Option<&ProgramImport>) -> Pair
     ensures { result ≡ linked world.now (option_copied import.entry) }
 {
     match import {
@@ -233,7 +238,7 @@ fn linked(world: &[Part], import: Option<&Import>) -> Pair
 }
 
 /// The pair that a handle stands for.
-pub(crate) fn pair_of(world: &[Part], run: &Run, handle: Handle) -> Pair
+pub(crate) fn pair_of(world: &[Program], run: &Run, handle: Handle) -> Pair
     ensures { result ≡ pair_of world.now run.now.frame.home run.now.env.items handle }
 {
     match handle {

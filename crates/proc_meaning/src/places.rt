@@ -3,7 +3,7 @@ ghost use Rattle.std.specs.Prelude.{◌≡◌, ℤ, pos, List, [], IfOk, map, sl
 ghost use Rattle.proc_semantics.specs.Values.{global_word, set_word, number_in, pair_in};
 ghost use Rattle.proc_semantics.specs.Values.{register_of, value_arg, out_at, value_args};
 
-use proc_semantics::{Frame, Pair, Register, Value};
+use proc_semantics::{Activation, Pair, Register, Value};
 use source_events::OutArg;
 use std::alloc::{AllocError, Global};
 use std::marker::Model;
@@ -13,7 +13,7 @@ use std::mem;
 #[derive(Drop)]
 pub(crate) struct Run {
     /// What stays.
-    pub(crate) frame: Frame,
+    pub(crate) frame: Activation,
     /// Its parameters and locals.
     pub(crate) env: Vec<Value>,
 }
@@ -21,7 +21,7 @@ pub(crate) struct Run {
 impl Run {
     /// What stands where no procedure runs.
     pub(crate) fn none(alloc: Global) -> Run {
-        let frame = Frame {
+        let frame = Activation {
             home: 0,
             left: 0,
             need: 0,

@@ -13,13 +13,13 @@ use crate::ends::end_run;
 use crate::exprs::{element_at, result_of};
 use crate::places::{Run, Words, set_word, word_at};
 use crate::work::{Ahead, Now, Work};
-use proc_program::{Exp, Place, Step, StepKind};
+use proc_program::{Exp, Location, Statement, StatementKind};
 use proc_semantics::Value;
-use source_events::End;
+use source_events::MeaningEnd;
 use std::alloc::AllocError;
 
 /// A statement begins.
-fn begin_step<'a>(s: &'a Step, work: &mut Vec<Work<'a>>) -> Result<Now<'a>, AllocError>
+fn begin_step<'a>(s: &'a Statement, work: &mut Vec<Work<'a>>) -> Result<Now<'a>, AllocError>
     ensures same { IfOk result (λ n. (world : World) (r : Run) (st : Store) →
         stmt world (whole world) r.frame s.now (back world (reverse work.old.items) r.frame)
         (after world (reverse work.old.items) r.frame) r.env.items st
@@ -27,31 +27,31 @@ fn begin_step<'a>(s: &'a Step, work: &mut Vec<Work<'a>>) -> Result<Now<'a>, Allo
     ensures less { IfOk result (λ n. size_of n work.new.items ≡ 2 * length work.old.items + 2) }
 {
     match &s.kind {
-        StepKind::Set(place, e) => {
+        StatementKind::Set(place, e) => {
             work.push(Work::SetTo(*place))?;
             Ok(Now::Eval(e))
         }
-        StepKind::SetAt(row, index, e) => {
+        StatementKind::SetAt(row, index, e) => {
             work.push(Work::SetIndex(*row, e))?;
             Ok(Now::Eval(index))
         }
-        StepKind::Do(e) => {
+        StatementKind::Do(e) => {
             work.push(Work::Forget)?;
             Ok(Now::Eval(e))
         }
-        StepKind::If(c, a, b) => {
+        StatementKind::If(c, a, b) => {
             work.push(Work::Choose(a.as_slice(), b.as_slice()))?;
             Ok(Now::Eval(c))
         }
-        StepKind::While(c, b) => {
+        StatementKind::While(c, b) => {
             work.push(Work::Test(c, b.as_slice()))?;
             Ok(Now::Eval(c))
         }
-        StepKind::Return(e) => {
+        StatementKind::Return(e) => {
             work.push(Work::Return)?;
             Ok(Now::Eval(e))
         }
-        StepKind::Halt(e) => {
+        StatementKind::Halt(e) => {
             work.push(Work::Halt)?;
             Ok(Now::Eval(e))
         }
@@ -59,27 +59,27 @@ fn begin_step<'a>(s: &'a Step, work: &mut Vec<Work<'a>>) -> Result<Now<'a>, Allo
 }
 
 /// A variable is set.
-fn assign(run: &mut Run, store: &mut Vec<Words>, place: Place, value: i64)
+fn assign(run: &mut Run, store: &mut Vec<Words>, place: Location, value: i64)
     ensures same { (k : Next) →
         assigned run.old.frame.home place value k run.old.env.items store.old.items
         ≡ k run.new.env.items store.new.items }
     ensures keeps { run.new.frame ≡ run.old.frame }
 {
     match place {
-        Place::Local(i) => {
+        Location::Local(i) => {
             if let Some(local) = run.env.get_mut(i as usize) {
                 *local = Value::Num(value);
             }
         }
-        Place::Global(o) => set_word(store, run.frame.home, o as usize, value),
+        Location::Global(o) => set_word(store, run.frame.home, o as usize, value),
     }
 }
 
 /// The condition of an `if` has a value: one of its blocks follows.
 fn choose<'a>(
     v: i64,
-    a: &'a [Step],
-    b: &'a [Step],
+    a: &'a [Statement],
+    b: &'a [Statement],
     work: &mut Vec<Work<'a>>,
 ) -> Result<Ahead<'a>, AllocError>
     ensures same { IfOk result (λ h. (world : World) (r : Run) (st : Store) →
@@ -101,7 +101,7 @@ fn choose<'a>(
 fn test<'a>(
     v: i64,
     c: &'a Exp,
-    b: &'a [Step],
+    b: &'a [Statement],
     work: &mut Vec<Work<'a>>,
 ) -> Result<Ahead<'a>, AllocError>
     ensures same { IfOk result (λ h. (world : World) (r : Run) (st : Store) →
@@ -135,7 +135,7 @@ fn give_to<'a>(
     match w {
         Work::Index(row) => match element_at(row, v) {
             Some(o) => Ok(Ahead::Free(Now::Value(word_at(store, run.frame.home, o)))),
-            None => Ok(Ahead::Stop(End::Fail)),
+            None => Ok(Ahead::Stop(MeaningEnd::Fail)),
         },
         Work::Right(op, e) => {
             work.push(Work::Operate(op, v))?;
@@ -143,7 +143,7 @@ fn give_to<'a>(
         }
         Work::Operate(op, x) => match result_of(op, x, v) {
             Some(result) => Ok(Ahead::Free(Now::Value(result))),
-            None => Ok(Ahead::Stop(End::Fail)),
+            None => Ok(Ahead::Stop(MeaningEnd::Fail)),
         },
         Work::Arg(to, mut values, rest) => {
             values.push(Value::Num(v))?;
@@ -162,14 +162,14 @@ fn give_to<'a>(
                 set_word(store, run.frame.home, o, v);
                 Ok(Ahead::Free(Now::Next))
             }
-            None => Ok(Ahead::Stop(End::Fail)),
+            None => Ok(Ahead::Stop(MeaningEnd::Fail)),
         },
         Work::Forget => Ok(Ahead::Free(Now::Next)),
         Work::Choose(a, b) => choose(v, a, b, work),
         Work::Test(c, b) => test(v, c, b, work),
         Work::Return => Ok(Ahead::Free(Now::Back(v))),
-        Work::Halt => Ok(Ahead::Stop(End::Halt(v))),
-        _ => Ok(Ahead::Stop(End::Fail)),
+        Work::Halt => Ok(Ahead::Stop(MeaningEnd::Halt(v))),
+        _ => Ok(Ahead::Stop(MeaningEnd::Fail)),
     }
 }
 
@@ -187,7 +187,7 @@ pub(crate) fn give<'a>(
 {
     match work.pop() {
         Some(w) => give_to(w, v, work, run, store),
-        None => Ok(Ahead::Stop(End::Fail)),
+        None => Ok(Ahead::Stop(MeaningEnd::Fail)),
     }
 }
 
@@ -215,7 +215,7 @@ fn next_of<'a>(
             Ok(Ahead::Ticked(1, Now::Eval(c)))
         }
         Work::Ends(whence) => Ok(end_run(whence, 0, run)),
-        _ => Ok(Ahead::Stop(End::Fail)),
+        _ => Ok(Ahead::Stop(MeaningEnd::Fail)),
     }
 }
 
@@ -228,6 +228,6 @@ pub(crate) fn next<'a>(work: &mut Vec<Work<'a>>, run: &mut Run) -> Result<Ahead<
 {
     match work.pop() {
         Some(w) => next_of(w, work, run),
-        None => Ok(Ahead::Stop(End::Fail)),
+        None => Ok(Ahead::Stop(MeaningEnd::Fail)),
     }
 }

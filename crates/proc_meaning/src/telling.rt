@@ -11,12 +11,12 @@ use crate::places::{Run, Words};
 use crate::turns::turn;
 use crate::work::{Ahead, Now, Whence, Work};
 use cap_words::Items;
-use proc_program::Part;
-use source_events::{End, Item, OutEvent, Told};
+use proc_program::Program;
+use source_events::{Item, MeaningEnd, OutEvent, Told};
 use std::alloc::{AllocError, Global};
 
 /// What the words of the globals are at first.
-fn first_words(alloc: Global, world: &[Part]) -> Result<Vec<Words>, AllocError>
+fn first_words(alloc: Global, world: &[Program]) -> Result<Vec<Words>, AllocError>
     ensures { IfOk result (λ s. s.items ≡ map (λ u. u.globals) world.now) }
 {
     let mut store = Vec::new(alloc);
@@ -27,7 +27,7 @@ fn first_words(alloc: Global, world: &[Part]) -> Result<Vec<Words>, AllocError>
 }
 
 /// What is done first.
-fn first<'a>(alloc: Global, world: &[Part], stack: u32) -> Now<'a>
+fn first<'a>(alloc: Global, world: &[Program], stack: u32) -> Now<'a>
     ensures { (r : Run) (st : Store) →
         start world.now (whole world.now) stack (main_target world.now) st ≡ now_of world.now result [] r st }
 {
@@ -37,7 +37,7 @@ fn first<'a>(alloc: Global, world: &[Part], stack: u32) -> Now<'a>
     }
 }
 
-fn told(events: Vec<OutEvent>, end: End, ticks: u64) -> Told
+fn told(events: Vec<OutEvent>, end: MeaningEnd, ticks: u64) -> Told
     ensures { result ≡ record { events = events.items; end = end; ticks = ticks } }
 {
     Told {
@@ -52,7 +52,7 @@ fn told(events: Vec<OutEvent>, end: End, ticks: u64) -> Told
 /// the fuel. Memory grows with events and with the depth of calls, not with ticks.
 pub fn meaning_of_parts(
     alloc: Global,
-    world: &[Part],
+    world: &[Program],
     stack: u32,
     feed: &[Item],
     fuel: u64,
@@ -71,7 +71,7 @@ pub fn meaning_of_parts(
             Ahead::Free(next) => now = next,
             Ahead::Ticked(ticks, next) => {
                 if left < ticks {
-                    return Ok(told(events, End::OutOfFuel, fuel));
+                    return Ok(told(events, MeaningEnd::OutOfFuel, fuel));
                 }
                 left -= ticks;
                 now = next;
@@ -81,7 +81,7 @@ pub fn meaning_of_parts(
                 now = next;
             }
             Ahead::Asks => match coming.split_first() {
-                None => return Ok(told(events, End::Waiting, fuel - left)),
+                None => return Ok(told(events, MeaningEnd::Waiting, fuel - left)),
                 Some((item, rest)) => {
                     coming = rest;
                     now = Now::Take(item);

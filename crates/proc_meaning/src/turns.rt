@@ -9,14 +9,14 @@ use crate::feed::{leave, take};
 use crate::places::{Run, Words};
 use crate::steps::{give, next};
 use crate::work::{Ahead, Now, Work};
-use proc_program::Part;
-use source_events::End;
+use proc_program::Program;
+use source_events::MeaningEnd;
 use std::alloc::{AllocError, Global};
 
 /// One turn.
 pub(crate) fn turn<'a>(
     alloc: Global,
-    world: &'a [Part],
+    world: &'a [Program],
     now: Now<'a>,
     work: &mut Vec<Work<'a>>,
     run: &mut Run,
@@ -39,6 +39,6 @@ pub(crate) fn turn<'a>(
         }
         Now::Wait => Ok(Ahead::Asks),
         Now::Take(item) => take(alloc, world, item, work, run),
-        Now::Fail => Ok(Ahead::Stop(End::Fail)),
+        Now::Fail => Ok(Ahead::Stop(MeaningEnd::Fail)),
     }
 }

@@ -1,41 +1,41 @@
 //! What a meaning still has to do.
 use crate::places::Run;
 use proc_language::Op;
-use proc_program::{Arg, Call, Exp, Place, Row, Step};
+use proc_program::{ArgExp, Array, CallExp, Exp, Location, Statement};
 use proc_semantics::{Register, Target, Value};
-use source_events::{End, FeedBack, Item, OutEvent};
+use source_events::{FeedBack, Item, MeaningEnd, OutEvent};
 
 /// What is to be done with a value, behind a statement, or at the end of a procedure.
 #[derive(Drop)]
 pub(crate) enum Work<'a> {
     /// The value is an index.
-    Index(Row),
+    Index(Array),
     /// The value is the left operand.
     Right(Op, &'a Exp),
     /// The value is the right operand.
     Operate(Op, i64),
     /// The value is an argument of a call, behind these and before those.
-    Arg(&'a Call, Vec<Value>, &'a [Arg]),
+    Arg(&'a CallExp, Vec<Value>, &'a [ArgExp]),
     /// A variable is set.
-    SetTo(Place),
+    SetTo(Location),
     /// The value is the index of an element that is set.
-    SetIndex(Row, &'a Exp),
+    SetIndex(Array, &'a Exp),
     /// An element is set.
-    SetElement(Row, i64),
+    SetElement(Array, i64),
     /// The value isn't used.
     Forget,
     /// The value is the condition of an `if`.
-    Choose(&'a [Step], &'a [Step]),
+    Choose(&'a [Statement], &'a [Statement]),
     /// The value is the condition of a loop.
-    Test(&'a Exp, &'a [Step]),
+    Test(&'a Exp, &'a [Statement]),
     /// The value is a procedure's.
     Return,
     /// The value is the program's.
     Halt,
     /// Further statements.
-    Rest(&'a [Step]),
+    Rest(&'a [Statement]),
     /// A further turn of a loop.
-    Turn(&'a Exp, &'a [Step]),
+    Turn(&'a Exp, &'a [Statement]),
     /// The procedure ends.
     Ends(Whence<'a>),
     /// A call waits here, with its number, and the words that it gave away.
@@ -59,7 +59,7 @@ pub(crate) enum Now<'a> {
     /// An expression is evaluated.
     Eval(&'a Exp),
     /// The arguments of a call are evaluated: these are, those aren't.
-    Args(&'a Call, Vec<Value>, &'a [Arg]),
+    Args(&'a CallExp, Vec<Value>, &'a [ArgExp]),
     /// There is a value.
     Value(i64),
     /// A statement is done.
@@ -90,5 +90,5 @@ pub(crate) enum Ahead<'a> {
     /// With the next item of the feed.
     Asks,
     /// Nothing.
-    Stop(End),
+    Stop(MeaningEnd),
 }

@@ -1,11 +1,8 @@
 -- How the faults of names print.
-use Rattle.std.specs.Prelude.{ℕ, ◌++◌, List, codes, decimal}
+use Rattle.std.specs.Prelude.{ℕ, List, codes}
+use Rattle.cap_words.specs.FaultText.{at_byte}
 use Rattle.proc_names.specs.declared.fault.NameFault.{NameFault}
 use Rattle.proc_names.specs.declared.fault.NameFault.TheVariants.{Unknown, Twice, Arity, WrongKind}
-
--- what is wrong at a byte
-abbrev at_byte : ℕ → List ℕ → List ℕ
-at_byte at what = codes "byte " ++ decimal at ++ what
 
 abbrev pub name_fault_text : NameFault → List ℕ
 name_fault_text (Unknown at) = at_byte at (codes ": there is nothing of this name")

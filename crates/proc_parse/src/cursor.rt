@@ -19,13 +19,13 @@ use text_scan::{Token, TokenKind};
 /// What is left of the tokens. A contract sees each with its place and bytes, and the place of the
 /// text's end.
 #[derive(Debug, Drop)]
-pub struct Cursor<'a, 'b> {
+pub struct TokenCursor<'a, 'b> {
     text: &'a [u8],
     rest: &'b [Token],
     end: u32,
 }
 
-impl<'a, 'b> Model for Cursor<'a, 'b> {
+impl<'a, 'b> Model for TokenCursor<'a, 'b> {
     ghost use Rattle.std.specs.Prelude.{map};
     ghost use Rattle.proc_grammar.specs.Lexemes.{seen};
     ghost use Rattle.proc_grammar.specs.Reader.{Input};
@@ -38,15 +38,15 @@ impl<'a, 'b> Model for Cursor<'a, 'b> {
     ghost invariant = { λ c. InText c.text.now c.rest.now };
 }
 
-impl<'a, 'b> Cursor<'a, 'b> {
+impl<'a, 'b> TokenCursor<'a, 'b> {
     ghost use Rattle.std.specs.Prelude.{map};
 
     /// These tokens of the text.
-    pub fn of(text: &'a [u8], tokens: &'b [Token], end: u32) -> Cursor<'a, 'b>
+    pub fn of(text: &'a [u8], tokens: &'b [Token], end: u32) -> TokenCursor<'a, 'b>
         requires { InText text.now tokens.now }
         ensures { result ≡ record { rest = map (seen text.now) tokens.now; end = end } }
     {
-        Cursor {
+        TokenCursor {
             text,
             rest: tokens,
             end,

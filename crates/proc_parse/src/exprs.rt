@@ -10,7 +10,7 @@ ghost use Rattle.proc_grammar.specs.Reading.{full, next_expr, inner_expr, next_s
 ghost use Rattle.proc_grammar.specs.Reading.{next_args, next_arg, another_arg, token_arg, plain_arg};
 ghost use Rattle.proc_grammar.specs.Reading.{some_args, expr_with, behind_name, bracket_term, name_term};
 
-use crate::cursor::Cursor;
+use crate::cursor::TokenCursor;
 use cap_words::Items;
 use proc_grammar::{Language, ParseFault};
 use proc_language::{LARGEST_LITERAL, MOST_REGISTERS, MOST_TERMS, Name, Op};
@@ -36,7 +36,7 @@ fn operation<L: Language>(
 #[tactic(auto, unfolding(proc_grammar::specs::Reading::expr_with, proc_grammar::specs::Reading::next_comparison, phrases::specs::Reading::case_next))]
 fn expr<L: Language>(
     alloc: Global,
-    tokens: &mut Cursor<'_, '_>,
+    tokens: &mut TokenCursor<'_, '_>,
     room: u32,
     fits: bool,
 ) -> Result<L::Expr, ParseFault>
@@ -55,7 +55,7 @@ fn expr<L: Language>(
 /// An expression inside which `room` brackets may be opened.
 pub fn whole<L: Language>(
     alloc: Global,
-    tokens: &mut Cursor<'_, '_>,
+    tokens: &mut TokenCursor<'_, '_>,
     room: u32,
 ) -> Result<L::Expr, ParseFault>
     ensures { Gives result tokens.new (next_expr L.made true full room true tokens.old) }
@@ -67,7 +67,7 @@ pub fn whole<L: Language>(
 #[cycle(expr)]
 fn inner<L: Language>(
     alloc: Global,
-    tokens: &mut Cursor<'_, '_>,
+    tokens: &mut TokenCursor<'_, '_>,
     room: u32,
     fits: bool,
 ) -> Result<L::Expr, ParseFault>
@@ -82,7 +82,7 @@ fn inner<L: Language>(
 #[tactic(auto, unfolding(proc_grammar::specs::Reading::next_sum, crate::specs::Loops::terms_behind))]
 fn sum<L: Language>(
     alloc: Global,
-    tokens: &mut Cursor<'_, '_>,
+    tokens: &mut TokenCursor<'_, '_>,
     room: u32,
     fits: bool,
 ) -> Result<L::Expr, ParseFault>
@@ -98,7 +98,7 @@ fn sum<L: Language>(
 #[cycle(expr)]
 fn more_terms<L: Language>(
     alloc: Global,
-    tokens: &mut Cursor<'_, '_>,
+    tokens: &mut TokenCursor<'_, '_>,
     room: u32,
     first: L::Expr,
 ) -> Result<L::Expr, ParseFault>
@@ -122,7 +122,7 @@ fn more_terms<L: Language>(
 #[tactic(auto, unfolding(proc_grammar::specs::Reading::next_term, proc_grammar::specs::Reading::number_term, phrases::specs::Reading::case_next))]
 fn term<L: Language>(
     alloc: Global,
-    tokens: &mut Cursor<'_, '_>,
+    tokens: &mut TokenCursor<'_, '_>,
     room: u32,
     fits: bool,
 ) -> Result<L::Expr, ParseFault>
@@ -150,7 +150,7 @@ fn term<L: Language>(
 #[tactic(auto, unfolding(proc_grammar::specs::Reading::bracket_term))]
 fn bracket_term<L: Language>(
     alloc: Global,
-    tokens: &mut Cursor<'_, '_>,
+    tokens: &mut TokenCursor<'_, '_>,
     room: u32,
     fits: bool,
     at: u32,
@@ -171,7 +171,7 @@ fn bracket_term<L: Language>(
 #[tactic(auto, unfolding(proc_grammar::specs::Reading::name_term))]
 fn name_term<L: Language>(
     alloc: Global,
-    tokens: &mut Cursor<'_, '_>,
+    tokens: &mut TokenCursor<'_, '_>,
     room: u32,
     fits: bool,
 ) -> Result<L::Expr, ParseFault>
@@ -191,7 +191,7 @@ fn name_term<L: Language>(
 #[tactic(auto, unfolding(proc_grammar::specs::Reading::behind_name, phrases::specs::Reading::case_next))]
 fn behind_name<L: Language>(
     alloc: Global,
-    tokens: &mut Cursor<'_, '_>,
+    tokens: &mut TokenCursor<'_, '_>,
     room: u32,
     name: Name,
 ) -> Result<L::Expr, ParseFault>
@@ -215,7 +215,7 @@ fn behind_name<L: Language>(
 #[tactic(auto, unfolding(proc_grammar::specs::Reading::next_index))]
 pub fn index<L: Language>(
     alloc: Global,
-    tokens: &mut Cursor<'_, '_>,
+    tokens: &mut TokenCursor<'_, '_>,
     room: u32,
     at: u32,
 ) -> Result<L::Expr, ParseFault>
@@ -235,7 +235,7 @@ pub fn index<L: Language>(
 #[tactic(auto, unfolding(proc_grammar::specs::Reading::next_args, phrases::specs::Reading::case_next))]
 pub fn args<L: Language>(
     alloc: Global,
-    tokens: &mut Cursor<'_, '_>,
+    tokens: &mut TokenCursor<'_, '_>,
     room: u32,
     at: u32,
 ) -> Result<Vec<L::Arg>, ParseFault>
@@ -255,7 +255,7 @@ pub fn args<L: Language>(
 #[tactic(auto, unfolding(proc_grammar::specs::Reading::some_args))]
 fn some_args<L: Language>(
     alloc: Global,
-    tokens: &mut Cursor<'_, '_>,
+    tokens: &mut TokenCursor<'_, '_>,
     room: u32,
 ) -> Result<Vec<L::Arg>, ParseFault>
     requires { 0 < room }
@@ -272,7 +272,7 @@ fn some_args<L: Language>(
 #[cycle(expr)]
 fn more_args<L: Language>(
     alloc: Global,
-    tokens: &mut Cursor<'_, '_>,
+    tokens: &mut TokenCursor<'_, '_>,
     room: u32,
     first: L::Arg,
 ) -> Result<Vec<L::Arg>, ParseFault>
@@ -295,7 +295,7 @@ fn more_args<L: Language>(
 #[tactic(auto, unfolding(proc_grammar::specs::Reading::another_arg))]
 fn another<L: Language>(
     alloc: Global,
-    tokens: &mut Cursor<'_, '_>,
+    tokens: &mut TokenCursor<'_, '_>,
     room: u32,
     used: u32,
 ) -> Result<L::Arg, ParseFault>
@@ -314,7 +314,7 @@ fn another<L: Language>(
 #[tactic(auto, unfolding(proc_grammar::specs::Reading::next_arg))]
 fn arg<L: Language>(
     alloc: Global,
-    tokens: &mut Cursor<'_, '_>,
+    tokens: &mut TokenCursor<'_, '_>,
     room: u32,
     used: u32,
 ) -> Result<L::Arg, ParseFault>
@@ -332,7 +332,10 @@ fn arg<L: Language>(
 
 // A token as an argument, behind `token`.
 #[tactic(auto, unfolding(proc_grammar::specs::Reading::token_arg))]
-fn token_arg<L: Language>(alloc: Global, tokens: &mut Cursor<'_, '_>) -> Result<L::Arg, ParseFault>
+fn token_arg<L: Language>(
+    alloc: Global,
+    tokens: &mut TokenCursor<'_, '_>,
+) -> Result<L::Arg, ParseFault>
     requires { is_some L.made.tokens ≡ true }
     ensures exact { GivesBy L.made.tokens result tokens.new
         (λ makes. token_arg L.made true full makes tokens.old) }
@@ -347,7 +350,7 @@ fn token_arg<L: Language>(alloc: Global, tokens: &mut Cursor<'_, '_>) -> Result<
 #[tactic(auto, unfolding(proc_grammar::specs::Reading::plain_arg, proc_grammar::specs::Reading::arg_proc, proc_grammar::specs::Reading::arg_value, phrases::specs::Reading::case_next))]
 fn plain_arg<L: Language>(
     alloc: Global,
-    tokens: &mut Cursor<'_, '_>,
+    tokens: &mut TokenCursor<'_, '_>,
     room: u32,
     used: u32,
 ) -> Result<L::Arg, ParseFault>

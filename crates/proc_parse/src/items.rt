@@ -9,10 +9,10 @@ ghost use Rattle.proc_grammar.specs.Reading.{full, next_num, next_field, next_le
 ghost use Rattle.proc_grammar.specs.Reading.{next_initial, next_movable};
 ghost use Rattle.proc_grammar.specs.Reading.{next_import, next_global, next_header};
 
-use crate::cursor::Cursor;
+use crate::cursor::TokenCursor;
 use cap_words::LAST_PLACE;
-use proc_grammar::{Header, Language, ParseFault};
-use proc_language::{Global, Import, LONGEST_ARRAY, MOST_ITEMS, MOST_REGISTERS, MOST_SEALS};
+use proc_grammar::{Language, ModuleHeader, ParseFault};
+use proc_language::{Global, LONGEST_ARRAY, MOST_ITEMS, MOST_REGISTERS, MOST_SEALS, ModuleImport};
 use std::alloc::Global as Heap;
 
 // 2^63, the first number above those of 64 bits with a sign.
@@ -21,8 +21,8 @@ const BEYOND_I64: u64 = 9_223_372_036_854_775_808;
 /// The imports.
 pub fn imports<L: Language>(
     alloc: Heap,
-    tokens: &mut Cursor<'_, '_>,
-) -> Result<Vec<Import>, ParseFault>
+    tokens: &mut TokenCursor<'_, '_>,
+) -> Result<Vec<ModuleImport>, ParseFault>
     ensures { GivesAs (λ v. v.items) result tokens.new
         (many full (word (codes "import")) one_more
         (next_import (words_of L.made.tokens) true) 0 tokens.old) }
@@ -38,7 +38,7 @@ pub fn imports<L: Language>(
 /// The globals.
 pub fn globals<L: Language>(
     alloc: Heap,
-    tokens: &mut Cursor<'_, '_>,
+    tokens: &mut TokenCursor<'_, '_>,
 ) -> Result<Vec<Global>, ParseFault>
     ensures { GivesAs (λ v. v.items) result tokens.new
         (many full (word (codes "global")) one_more
@@ -56,9 +56,9 @@ pub fn globals<L: Language>(
 #[tactic(auto, unfolding(proc_grammar::specs::Reading::next_import))]
 pub fn import<L: Language>(
     alloc: Heap,
-    tokens: &mut Cursor<'_, '_>,
+    tokens: &mut TokenCursor<'_, '_>,
     count: u32,
-) -> Result<Import, ParseFault>
+) -> Result<ModuleImport, ParseFault>
     ensures exact { Gives result tokens.new (next_import (words_of L.made.tokens) true count tokens.old) }
     ensures few { OnOk result (count < MOST_ITEMS) }
 {
@@ -72,7 +72,7 @@ pub fn import<L: Language>(
     tokens.sign(b'/')?;
     let arity = tokens.up_to(MOST_REGISTERS)?;
     tokens.sign(b';')?;
-    Ok(Import {
+    Ok(ModuleImport {
         at,
         part,
         name,
@@ -82,7 +82,7 @@ pub fn import<L: Language>(
 
 // The length of an array.
 #[tactic(auto, unfolding(proc_grammar::specs::Reading::next_num, phrases::specs::Reading::one, phrases::specs::Reading::case_next))]
-fn array_length(tokens: &mut Cursor<'_, '_>) -> Result<u32, ParseFault>
+fn array_length(tokens: &mut TokenCursor<'_, '_>) -> Result<u32, ParseFault>
     ensures { Gives result tokens.new (next_num true is_length tokens.old) }
 {
     let Some((number, at)) = tokens.take_number() else {
@@ -95,7 +95,7 @@ fn array_length(tokens: &mut Cursor<'_, '_>) -> Result<u32, ParseFault>
 }
 
 #[tactic(auto, unfolding(proc_grammar::specs::Reading::next_length, phrases::specs::Reading::case_next))]
-fn length(tokens: &mut Cursor<'_, '_>) -> Result<Option<u32>, ParseFault>
+fn length(tokens: &mut TokenCursor<'_, '_>) -> Result<Option<u32>, ParseFault>
     ensures { Gives result tokens.new (next_length true tokens.old) }
 {
     if tokens.take_sign(b'[').is_none() {
@@ -108,7 +108,7 @@ fn length(tokens: &mut Cursor<'_, '_>) -> Result<Option<u32>, ParseFault>
 
 // Whether a `-` stands next. If so, it is taken.
 #[tactic(auto, unfolding(proc_grammar::specs::Reading::next_minus, phrases::specs::Reading::case_next))]
-fn minus(tokens: &mut Cursor<'_, '_>) -> bool
+fn minus(tokens: &mut TokenCursor<'_, '_>) -> bool
     ensures { next_minus true tokens.old ≡ Ok (result, tokens.new) }
 {
     tokens.take_sign(b'-').is_some()
@@ -116,7 +116,7 @@ fn minus(tokens: &mut Cursor<'_, '_>) -> bool
 
 // A number that with its sign is one of 64 bits.
 #[tactic(auto, unfolding(proc_grammar::specs::Reading::next_num, phrases::specs::Reading::one, phrases::specs::Reading::case_next))]
-fn magnitude(tokens: &mut Cursor<'_, '_>, negative: bool) -> Result<u64, ParseFault>
+fn magnitude(tokens: &mut TokenCursor<'_, '_>, negative: bool) -> Result<u64, ParseFault>
     ensures exact { Gives result tokens.new (next_num true (is_initial negative) tokens.old) }
     ensures within { IfOk result (λ n. is_initial negative n ≡ true) }
 {
@@ -155,7 +155,7 @@ fn signed(negative: bool, number: u64) -> i64
 }
 
 #[tactic(auto, unfolding(proc_grammar::specs::Reading::next_initial, phrases::specs::Reading::case_next))]
-fn initial(tokens: &mut Cursor<'_, '_>) -> Result<Option<i64>, ParseFault>
+fn initial(tokens: &mut TokenCursor<'_, '_>) -> Result<Option<i64>, ParseFault>
     ensures { Gives result tokens.new (next_initial true tokens.old) }
 {
     if tokens.take_sign(b'=').is_none() {
@@ -170,7 +170,7 @@ fn initial(tokens: &mut Cursor<'_, '_>) -> Result<Option<i64>, ParseFault>
 #[tactic(auto, unfolding(proc_grammar::specs::Reading::next_global))]
 fn global<L: Language>(
     alloc: Heap,
-    tokens: &mut Cursor<'_, '_>,
+    tokens: &mut TokenCursor<'_, '_>,
     count: u32,
 ) -> Result<Global, ParseFault>
     ensures exact { Gives result tokens.new (next_global (words_of L.made.tokens) true count tokens.old) }
@@ -194,7 +194,7 @@ fn global<L: Language>(
 
 /// A field of the header: a word, and an address or a seal.
 #[tactic(auto, unfolding(proc_grammar::specs::Reading::next_field))]
-fn field(tokens: &mut Cursor<'_, '_>, word: &[u8]) -> Result<u32, ParseFault>
+fn field(tokens: &mut TokenCursor<'_, '_>, word: &[u8]) -> Result<u32, ParseFault>
     ensures { Gives result tokens.new (next_field true word.now tokens.old) }
 {
     tokens.word(word)?;
@@ -202,7 +202,7 @@ fn field(tokens: &mut Cursor<'_, '_>, word: &[u8]) -> Result<u32, ParseFault>
 }
 
 #[tactic(auto, unfolding(proc_grammar::specs::Reading::next_num, phrases::specs::Reading::one, phrases::specs::Reading::case_next))]
-fn return_count(tokens: &mut Cursor<'_, '_>, first: u32) -> Result<u32, ParseFault>
+fn return_count(tokens: &mut TokenCursor<'_, '_>, first: u32) -> Result<u32, ParseFault>
     ensures { Gives result tokens.new (next_num true (is_return_count first) tokens.old) }
 {
     let Some((number, at)) = tokens.take_number() else {
@@ -215,7 +215,7 @@ fn return_count(tokens: &mut Cursor<'_, '_>, first: u32) -> Result<u32, ParseFau
 }
 
 #[tactic(auto, unfolding(proc_grammar::specs::Reading::next_movable, phrases::specs::Reading::case_next))]
-fn movable(tokens: &mut Cursor<'_, '_>) -> bool
+fn movable(tokens: &mut TokenCursor<'_, '_>) -> bool
     ensures { next_movable true tokens.old ≡ Ok (result, tokens.new) }
 {
     tokens.take_word(b"movable").is_some()
@@ -223,7 +223,10 @@ fn movable(tokens: &mut Cursor<'_, '_>) -> bool
 
 /// What stands before the items.
 #[tactic(auto, unfolding(proc_grammar::specs::Reading::next_header))]
-pub fn header<L: Language>(alloc: Heap, tokens: &mut Cursor<'_, '_>) -> Result<Header, ParseFault>
+pub fn header<L: Language>(
+    alloc: Heap,
+    tokens: &mut TokenCursor<'_, '_>,
+) -> Result<ModuleHeader, ParseFault>
     ensures { Gives result tokens.new (next_header (words_of L.made.tokens) true tokens.old) }
 {
     let at = tokens.word(b"module")?;
@@ -236,7 +239,7 @@ pub fn header<L: Language>(alloc: Heap, tokens: &mut Cursor<'_, '_>) -> Result<H
     let stack = field(tokens, b"stack")?;
     let movable = movable(tokens);
     tokens.sign(b';')?;
-    Ok(Header {
+    Ok(ModuleHeader {
         at,
         name,
         code,

@@ -5,7 +5,7 @@ ghost use Rattle.proc_parse.specs.Loops.{fields_read};
 ghost use Rattle.proc_grammar.specs.Grammar.{room_in_body};
 ghost use Rattle.proc_grammar.specs.Reading.{full, next_module};
 
-use crate::cursor::Cursor;
+use crate::cursor::TokenCursor;
 use crate::items::{globals, header, imports};
 use crate::procs::procs;
 use cap_words::Items;
@@ -13,7 +13,10 @@ use proc_grammar::{Language, ParseFault};
 use std::alloc::Global as Heap;
 
 #[tactic(auto, unfolding(crate::specs::Loops::fields_read))]
-fn fields<L: Language>(alloc: Heap, tokens: &mut Cursor<'_, '_>) -> Result<L::Module, ParseFault>
+fn fields<L: Language>(
+    alloc: Heap,
+    tokens: &mut TokenCursor<'_, '_>,
+) -> Result<L::Module, ParseFault>
     ensures { Gives result tokens.new (fields_read L.made tokens.old) }
 {
     let header = header::<L>(alloc, tokens)?;
@@ -26,7 +29,7 @@ fn fields<L: Language>(alloc: Heap, tokens: &mut Cursor<'_, '_>) -> Result<L::Mo
 /// The module that stands here; more may follow.
 pub fn module<L: Language>(
     alloc: Heap,
-    tokens: &mut Cursor<'_, '_>,
+    tokens: &mut TokenCursor<'_, '_>,
 ) -> Result<L::Module, ParseFault>
     ensures { Gives result tokens.new (next_module L.made true full room_in_body tokens.old) }
 {

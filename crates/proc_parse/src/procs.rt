@@ -13,7 +13,7 @@ ghost use Rattle.proc_grammar.specs.Reading.{next_params, next_local, plain_para
 ghost use Rattle.proc_grammar.specs.Reading.{plain_local, token_local};
 ghost use Rattle.proc_grammar.specs.Reading.{next_stmts, proc_behind, next_proc};
 
-use crate::cursor::Cursor;
+use crate::cursor::TokenCursor;
 use crate::stmts::whole_body;
 use cap_words::Items;
 use proc_grammar::{Language, ParseFault, Taken};
@@ -28,7 +28,7 @@ const NONE_TAKEN: Taken = Taken {
 // The number of registers behind the `/` of a callback that is a parameter behind so many registers.
 #[tactic(auto, unfolding(proc_grammar::specs::Reading::arity_behind))]
 fn callback<L: Language>(
-    tokens: &mut Cursor<'_, '_>,
+    tokens: &mut TokenCursor<'_, '_>,
     name: Name,
     used: u32,
 ) -> Result<L::Param, ParseFault>
@@ -48,7 +48,7 @@ fn callback<L: Language>(
 #[tactic(auto, unfolding(proc_grammar::specs::Reading::plain_param, phrases::specs::Reading::case_next))]
 fn plain_param<L: Language>(
     alloc: Global,
-    tokens: &mut Cursor<'_, '_>,
+    tokens: &mut TokenCursor<'_, '_>,
     used: u32,
 ) -> Result<L::Param, ParseFault>
     requires { used ≤ MOST_REGISTERS }
@@ -70,7 +70,7 @@ fn plain_param<L: Language>(
 #[tactic(auto, unfolding(proc_grammar::specs::Reading::token_param))]
 fn token_param<L: Language>(
     alloc: Global,
-    tokens: &mut Cursor<'_, '_>,
+    tokens: &mut TokenCursor<'_, '_>,
     held: u32,
 ) -> Result<L::Param, ParseFault>
     requires { is_some L.made.tokens ≡ true }
@@ -90,7 +90,7 @@ fn token_param<L: Language>(
 #[tactic(auto, unfolding(proc_grammar::specs::Reading::next_param))]
 fn param<L: Language>(
     alloc: Global,
-    tokens: &mut Cursor<'_, '_>,
+    tokens: &mut TokenCursor<'_, '_>,
     used: Taken,
 ) -> Result<L::Param, ParseFault>
     requires { AreFew MOST_REGISTERS used }
@@ -106,7 +106,7 @@ fn param<L: Language>(
 #[tactic(auto, unfolding(proc_grammar::specs::Reading::another_param))]
 fn another<L: Language>(
     alloc: Global,
-    tokens: &mut Cursor<'_, '_>,
+    tokens: &mut TokenCursor<'_, '_>,
     used: Taken,
 ) -> Result<L::Param, ParseFault>
     requires { AreFew MOST_REGISTERS used }
@@ -138,7 +138,7 @@ struct ParamList<P: Drop> {
 // The parameters behind the first one, and that.
 fn more_params<L: Language>(
     alloc: Global,
-    tokens: &mut Cursor<'_, '_>,
+    tokens: &mut TokenCursor<'_, '_>,
     first: L::Param,
 ) -> Result<ParamList<L::Param>, ParseFault>
     requires { AreFew MOST_REGISTERS (behind_param L.made none_taken first) }
@@ -162,7 +162,7 @@ fn more_params<L: Language>(
 #[tactic(auto, unfolding(proc_grammar::specs::Reading::some_params))]
 fn some_params<L: Language>(
     alloc: Global,
-    tokens: &mut Cursor<'_, '_>,
+    tokens: &mut TokenCursor<'_, '_>,
 ) -> Result<ParamList<L::Param>, ParseFault>
     ensures exact { GivesAs (λ p. p.params.items) result tokens.new
         (some_params L.made true full tokens.old) }
@@ -179,7 +179,7 @@ fn some_params<L: Language>(
 #[tactic(auto, unfolding(proc_grammar::specs::Reading::next_params, phrases::specs::Reading::case_next))]
 fn params<L: Language>(
     alloc: Global,
-    tokens: &mut Cursor<'_, '_>,
+    tokens: &mut TokenCursor<'_, '_>,
 ) -> Result<ParamList<L::Param>, ParseFault>
     ensures exact { GivesAs (λ p. p.params.items) result tokens.new
         (next_params L.made true full tokens.old) }
@@ -198,7 +198,7 @@ fn params<L: Language>(
 #[tactic(auto, unfolding(proc_grammar::specs::Reading::plain_local))]
 fn plain_local<L: Language>(
     alloc: Global,
-    tokens: &mut Cursor<'_, '_>,
+    tokens: &mut TokenCursor<'_, '_>,
     count: u32,
 ) -> Result<L::Local, ParseFault>
     ensures exact { Gives result tokens.new (plain_local L.made true full count tokens.old) }
@@ -218,7 +218,7 @@ fn plain_local<L: Language>(
 #[tactic(auto, unfolding(proc_grammar::specs::Reading::token_local))]
 fn token_local<L: Language>(
     alloc: Global,
-    tokens: &mut Cursor<'_, '_>,
+    tokens: &mut TokenCursor<'_, '_>,
     held: u32,
 ) -> Result<L::Local, ParseFault>
     requires { is_some L.made.tokens ≡ true }
@@ -239,7 +239,7 @@ fn token_local<L: Language>(
 #[tactic(auto, unfolding(proc_grammar::specs::Reading::next_local))]
 fn local<L: Language>(
     alloc: Global,
-    tokens: &mut Cursor<'_, '_>,
+    tokens: &mut TokenCursor<'_, '_>,
     used: Taken,
 ) -> Result<L::Local, ParseFault>
     requires { AreFew MOST_LOCALS used }
@@ -266,7 +266,7 @@ fn behind_local<L: Language>(used: Taken, local: &L::Local) -> Taken
 // The locals behind parameters that are so many tokens.
 fn locals<L: Language>(
     alloc: Global,
-    tokens: &mut Cursor<'_, '_>,
+    tokens: &mut TokenCursor<'_, '_>,
     held: u32,
 ) -> Result<Vec<L::Local>, ParseFault>
     requires { held ≤ MOST_TOKENS }
@@ -291,7 +291,7 @@ fn locals<L: Language>(
 #[tactic(auto, unfolding(proc_grammar::specs::Reading::proc_behind, proc_grammar::specs::Reading::next_locals))]
 fn behind_proc<L: Language>(
     alloc: Global,
-    tokens: &mut Cursor<'_, '_>,
+    tokens: &mut TokenCursor<'_, '_>,
     at: u32,
     shared: bool,
 ) -> Result<L::Proc, ParseFault>
@@ -318,7 +318,7 @@ fn behind_proc<L: Language>(
 #[tactic(auto, unfolding(proc_grammar::specs::Reading::next_proc, phrases::specs::Reading::case_next))]
 fn proc<L: Language>(
     alloc: Global,
-    tokens: &mut Cursor<'_, '_>,
+    tokens: &mut TokenCursor<'_, '_>,
     count: u32,
 ) -> Result<L::Proc, ParseFault>
     ensures exact { Gives result tokens.new (next_proc L.made true full room_in_body count tokens.old) }
@@ -342,7 +342,7 @@ fn proc<L: Language>(
 #[tactic(auto, unfolding(crate::specs::Loops::procs_list))]
 pub fn procs<L: Language>(
     alloc: Global,
-    tokens: &mut Cursor<'_, '_>,
+    tokens: &mut TokenCursor<'_, '_>,
 ) -> Result<Vec<L::Proc>, ParseFault>
     ensures { GivesAs (λ v. v.items) result tokens.new (procs_list L.made tokens.old) }
 {
@@ -352,7 +352,7 @@ pub fn procs<L: Language>(
 
 fn more_procs<L: Language>(
     alloc: Global,
-    tokens: &mut Cursor<'_, '_>,
+    tokens: &mut TokenCursor<'_, '_>,
     first: L::Proc,
 ) -> Result<Vec<L::Proc>, ParseFault>
     ensures { GivesAs (λ v. v.items) result tokens.new (procs_behind L.made first tokens.old) }

@@ -10,7 +10,7 @@ ghost use Rattle.proc_grammar.specs.Reading.{full, parsed};
 ghost use Rattle.proc_parse.specs.Answers.{InText};
 ghost use Rattle.proc_parse.specs.Texts.{proper, parsed_text, Spells, Stops, IsFault, PassesBefore};
 
-use crate::cursor::Cursor;
+use crate::cursor::TokenCursor;
 use crate::module::module;
 use proc_grammar::{Language, ParseFault};
 use std::alloc::{AllocError, Global};
@@ -47,7 +47,7 @@ fn parse_tokens<L: Language>(
     ensures { AnswersAs (λ m. m) result
         (parsed L.made full (map (seen text.now) tokens.now) (length text.now)) }
 {
-    let mut cursor = Cursor::of(text, tokens, text.len() as u32);
+    let mut cursor = TokenCursor::of(text, tokens, text.len() as u32);
     let module = module::<L>(alloc, &mut cursor)?;
     if cursor.is_at_end() {
         Ok(module)

@@ -8,7 +8,7 @@ ghost use Rattle.proc_grammar.specs.Reading.{return_behind, halt_behind, behind_
 ghost use Rattle.proc_grammar.specs.Reading.{token_behind};
 ghost use Rattle.proc_grammar.specs.Reading.{set_at_behind, calls_behind, name_stmt};
 
-use crate::cursor::Cursor;
+use crate::cursor::TokenCursor;
 use crate::exprs::{args, index, whole};
 use cap_words::Items;
 use proc_grammar::{Language, ParseFault};
@@ -20,7 +20,7 @@ use std::alloc::Global;
 #[tactic(auto, unfolding(proc_grammar::specs::Reading::stmts_with))]
 fn stmts<L: Language>(
     alloc: Global,
-    tokens: &mut Cursor<'_, '_>,
+    tokens: &mut TokenCursor<'_, '_>,
     room: u32,
 ) -> Result<Vec<L::Stmt>, ParseFault>
     ensures { GivesAs (λ v. v.items) result tokens.new
@@ -37,7 +37,7 @@ fn stmts<L: Language>(
 /// The statements of a body, inside which `room` brackets may be opened.
 pub fn whole_body<L: Language>(
     alloc: Global,
-    tokens: &mut Cursor<'_, '_>,
+    tokens: &mut TokenCursor<'_, '_>,
     room: u32,
 ) -> Result<Vec<L::Stmt>, ParseFault>
     ensures { GivesAs (λ v. v.items) result tokens.new (next_stmts L.made true full room tokens.old) }
@@ -49,7 +49,7 @@ pub fn whole_body<L: Language>(
 #[tactic(auto, unfolding(proc_grammar::specs::Reading::next_stmt))]
 fn stmt<L: Language>(
     alloc: Global,
-    tokens: &mut Cursor<'_, '_>,
+    tokens: &mut TokenCursor<'_, '_>,
     room: u32,
 ) -> Result<L::Stmt, ParseFault>
     ensures { Gives result tokens.new
@@ -68,7 +68,7 @@ fn stmt<L: Language>(
 #[tactic(auto, unfolding(proc_grammar::specs::Reading::token_behind))]
 fn make_stmt<L: Language>(
     alloc: Global,
-    tokens: &mut Cursor<'_, '_>,
+    tokens: &mut TokenCursor<'_, '_>,
     at: u32,
 ) -> Result<L::Stmt, ParseFault>
     requires { is_some L.made.tokens ≡ true }
@@ -84,7 +84,7 @@ fn make_stmt<L: Language>(
 #[tactic(auto, unfolding(proc_grammar::specs::Reading::token_behind))]
 fn spend_stmt<L: Language>(
     alloc: Global,
-    tokens: &mut Cursor<'_, '_>,
+    tokens: &mut TokenCursor<'_, '_>,
     at: u32,
 ) -> Result<L::Stmt, ParseFault>
     requires { is_some L.made.tokens ≡ true }
@@ -101,7 +101,7 @@ fn spend_stmt<L: Language>(
 #[tactic(auto, unfolding(proc_grammar::specs::Reading::plain_stmt, phrases::specs::Reading::case_next))]
 fn plain_stmt<L: Language>(
     alloc: Global,
-    tokens: &mut Cursor<'_, '_>,
+    tokens: &mut TokenCursor<'_, '_>,
     room: u32,
 ) -> Result<L::Stmt, ParseFault>
     ensures { Gives result tokens.new
@@ -133,7 +133,7 @@ struct Braced<S: Drop> {
 #[tactic(auto, unfolding(proc_grammar::specs::Reading::next_block))]
 fn block<L: Language>(
     alloc: Global,
-    tokens: &mut Cursor<'_, '_>,
+    tokens: &mut TokenCursor<'_, '_>,
     room: u32,
 ) -> Result<Braced<L::Stmt>, ParseFault>
     ensures { GivesAs (λ b. (b.stmts, b.end)) result tokens.new
@@ -152,7 +152,7 @@ fn block<L: Language>(
 #[cycle(stmt)]
 fn inner<L: Language>(
     alloc: Global,
-    tokens: &mut Cursor<'_, '_>,
+    tokens: &mut TokenCursor<'_, '_>,
     room: u32,
 ) -> Result<Vec<L::Stmt>, ParseFault>
     requires { 0 < room }
@@ -165,7 +165,7 @@ fn inner<L: Language>(
 #[tactic(auto, unfolding(proc_grammar::specs::Reading::if_behind))]
 fn if_stmt<L: Language>(
     alloc: Global,
-    tokens: &mut Cursor<'_, '_>,
+    tokens: &mut TokenCursor<'_, '_>,
     room: u32,
     at: u32,
 ) -> Result<L::Stmt, ParseFault>
@@ -181,7 +181,7 @@ fn if_stmt<L: Language>(
 #[tactic(auto, unfolding(proc_grammar::specs::Reading::next_else, phrases::specs::Reading::case_next))]
 fn if_else<L: Language>(
     alloc: Global,
-    tokens: &mut Cursor<'_, '_>,
+    tokens: &mut TokenCursor<'_, '_>,
     room: u32,
     at: u32,
     condition: L::Expr,
@@ -202,7 +202,7 @@ fn if_else<L: Language>(
 #[tactic(auto, unfolding(proc_grammar::specs::Reading::while_behind))]
 fn while_stmt<L: Language>(
     alloc: Global,
-    tokens: &mut Cursor<'_, '_>,
+    tokens: &mut TokenCursor<'_, '_>,
     room: u32,
     at: u32,
 ) -> Result<L::Stmt, ParseFault>
@@ -217,7 +217,7 @@ fn while_stmt<L: Language>(
 #[tactic(auto, unfolding(proc_grammar::specs::Reading::return_behind))]
 fn return_stmt<L: Language>(
     alloc: Global,
-    tokens: &mut Cursor<'_, '_>,
+    tokens: &mut TokenCursor<'_, '_>,
     room: u32,
     at: u32,
 ) -> Result<L::Stmt, ParseFault>
@@ -232,7 +232,7 @@ fn return_stmt<L: Language>(
 #[tactic(auto, unfolding(proc_grammar::specs::Reading::halt_behind))]
 fn halt_stmt<L: Language>(
     alloc: Global,
-    tokens: &mut Cursor<'_, '_>,
+    tokens: &mut TokenCursor<'_, '_>,
     room: u32,
     at: u32,
 ) -> Result<L::Stmt, ParseFault>
@@ -247,7 +247,7 @@ fn halt_stmt<L: Language>(
 #[tactic(auto, unfolding(proc_grammar::specs::Reading::name_stmt))]
 fn name_stmt<L: Language>(
     alloc: Global,
-    tokens: &mut Cursor<'_, '_>,
+    tokens: &mut TokenCursor<'_, '_>,
     room: u32,
 ) -> Result<L::Stmt, ParseFault>
     ensures { Gives result tokens.new
@@ -260,7 +260,7 @@ fn name_stmt<L: Language>(
 #[tactic(auto, unfolding(proc_grammar::specs::Reading::behind_target, phrases::specs::Reading::case_next))]
 fn behind_target<L: Language>(
     alloc: Global,
-    tokens: &mut Cursor<'_, '_>,
+    tokens: &mut TokenCursor<'_, '_>,
     room: u32,
     name: Name,
 ) -> Result<L::Stmt, ParseFault>
@@ -280,7 +280,7 @@ fn behind_target<L: Language>(
 #[tactic(auto, unfolding(proc_grammar::specs::Reading::set_behind))]
 fn set<L: Language>(
     alloc: Global,
-    tokens: &mut Cursor<'_, '_>,
+    tokens: &mut TokenCursor<'_, '_>,
     room: u32,
     name: Name,
 ) -> Result<L::Stmt, ParseFault>
@@ -296,7 +296,7 @@ fn set<L: Language>(
 #[tactic(auto, unfolding(proc_grammar::specs::Reading::set_at_behind))]
 fn set_at<L: Language>(
     alloc: Global,
-    tokens: &mut Cursor<'_, '_>,
+    tokens: &mut TokenCursor<'_, '_>,
     room: u32,
     name: Name,
     bracket: u32,
@@ -316,7 +316,7 @@ fn set_at<L: Language>(
 #[tactic(auto, unfolding(proc_grammar::specs::Reading::calls_behind))]
 fn call<L: Language>(
     alloc: Global,
-    tokens: &mut Cursor<'_, '_>,
+    tokens: &mut TokenCursor<'_, '_>,
     room: u32,
     name: Name,
     bracket: u32,

@@ -6,8 +6,8 @@ use Rattle.proc_language.specs.declared.tree.Name.{Name}
 use Rattle.proc_language.specs.declared.module.ModuleFields.{ModuleFields}
 use Rattle.proc_language.specs.Tree.{var, call, no_args, value, return, halt}
 use Rattle.proc_program.specs.declared.program.Handle.TheVariants.{Given, Imported}
-use Rattle.proc_program.specs.declared.program.Place.TheVariants.{Local}
-use Rattle.proc_program.specs.declared.program.Part.{Part}
+use Rattle.proc_program.specs.declared.program.Location.TheVariants.{Local}
+use Rattle.proc_program.specs.declared.program.Program.{Program}
 use Rattle.proc_program.specs.Program as run
 use Rattle.proc_names.specs.Names.{variable_named, callee_named}
 use Rattle.proc_program.specs.Lower.{part_of}
@@ -48,7 +48,7 @@ source = record {
       } ∷ [];
 }
 
-lowered : Part
+lowered : Program
 lowered = record {
   name = codes "cb";
   stack = 65536;

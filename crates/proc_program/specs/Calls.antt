@@ -1,9 +1,10 @@
 -- How many calls a program has.
 use Rattle.std.specs.Prelude.{ℕ, ◌+◌, sum_by}
 use Rattle.proc_program.specs.declared.program.Procedure.{Procedure}
-use Rattle.proc_program.specs.declared.program.Part.{Part}
+use Rattle.proc_program.specs.declared.program.Program.{Program}
 use Rattle.proc_program.specs.Program.{Exp, Number, Load, Element, Call, Binary, Args, no_args, value, pass}
-use Rattle.proc_program.specs.Program.{Step, Set, SetAt, Do, If, While, Return, Halt, Block, no_steps, step}
+use Rattle.proc_program.specs.Program.{Statement, Set, SetAt, Do, If, While, Return, Halt}
+use Rattle.proc_program.specs.Program.{Block, no_steps, step}
 use Rattle.proc_program.specs.StepView.{block_of}
 
 abbrev mutual
@@ -20,7 +21,7 @@ abbrev mutual
   args_calls (pass h xs) = args_calls xs
 
 abbrev mutual
-  pub step_calls : Step → ℕ
+  pub step_calls : Statement → ℕ
   step_calls (Set x e) = calls e
   step_calls (SetAt r i e) = calls i + calls e
   step_calls (Do e) = calls e
@@ -36,5 +37,5 @@ abbrev mutual
 abbrev pub procedure_calls : Procedure → ℕ
 procedure_calls p = block_calls (block_of p.body)
 
-abbrev pub part_calls : Part → ℕ
+abbrev pub part_calls : Program → ℕ
 part_calls part = sum_by procedure_calls part.procs

@@ -6,10 +6,11 @@ use base.Stored.{Gv, gnil, gnum, gcons}
 use Rattle.proc_language.specs.Codes.{sign_back, sign_in, sign}
 use Rattle.proc_program.specs.declared.program.Handle.{Handle}
 use Rattle.proc_program.specs.declared.program.Handle.TheVariants.{Given, Own, Imported}
-use Rattle.proc_program.specs.declared.program.Place.{Place}
-use Rattle.proc_program.specs.declared.program.Place.TheVariants.{Local, Global}
+use Rattle.proc_program.specs.declared.program.Location.{Location}
+use Rattle.proc_program.specs.declared.program.Location.TheVariants.{Local, Global}
 use Rattle.proc_program.specs.Program.{Exp, Number, Load, Element, Call, Binary, Args, no_args, value, pass}
-use Rattle.proc_program.specs.Program.{Step, Set, SetAt, Do, If, While, Return, Halt, Block, no_steps, step}
+use Rattle.proc_program.specs.Program.{Statement, Set, SetAt, Do, If, While, Return, Halt}
+use Rattle.proc_program.specs.Program.{Block, no_steps, step}
 
 -- ---- small things
 
@@ -29,16 +30,16 @@ handle_back (Given i) = refl
 handle_back (Own i) = refl
 handle_back (Imported i) = refl
 
-abbrev place : Place → Gv
+abbrev place : Location → Gv
 place (Local i) = gnum i
 place (Global o) = gcons gnil (gnum o)
 
-abbrev place_in : Gv → Place
+abbrev place_in : Gv → Location
 place_in (gnum i) = Local i
 place_in (gcons g (gnum o)) = Global o
 place_in _ = Local 0
 
-place_back : (x : Place) → place_in (place x) ≡ x
+place_back : (x : Location) → place_in (place x) ≡ x
 place_back (Local i) = refl
 place_back (Global o) = refl
 
@@ -94,7 +95,7 @@ coded_exp = record { code = exp; inj = exp_inj }
 -- ---- statements
 
 abbrev mutual
-  step_code : Step → Gv
+  step_code : Statement → Gv
   step_code (Set x e) = gcons (gnum 0) (gcons (place x) (exp e))
   step_code (SetAt a i e) = gcons (gcons (gnum a.first) (gnum a.length)) (gcons (exp i) (exp e))
   step_code (Do e) = gcons gnil (exp e)
@@ -108,7 +109,7 @@ abbrev mutual
   block_code (step s b) = gcons (step_code s) (block_code b)
 
 abbrev mutual
-  step_in : Gv → Step
+  step_in : Gv → Statement
   step_in (gcons (gnum n) (gcons x e)) = Set (place_in x) (exp_in e)
   step_in (gcons (gcons (gnum first) (gnum length)) (gcons i e)) =
       SetAt (record { first = first; length = length }) (exp_in i) (exp_in e)
@@ -124,7 +125,7 @@ abbrev mutual
   block_in _ = no_steps
 
 mutual
-  step_back : (s : Step) → step_in (step_code s) ≡ s
+  step_back : (s : Statement) → step_in (step_code s) ≡ s
   step_back (Set x e) = λ i. Set (place_back x i) (exp_back e i)
   step_back (SetAt a x e) = λ i. SetAt a (exp_back x i) (exp_back e i)
   step_back (Do e) = ap (λ f. Do f) (exp_back e)
@@ -137,8 +138,8 @@ mutual
   block_back no_steps = refl
   block_back (step s b) = λ i. step (step_back s i) (block_back b i)
 
-pub step_inj : (x y : Step) → step_code x ≡ step_code y → x ≡ y
+pub step_inj : (x y : Statement) → step_code x ≡ step_code y → x ≡ y
 step_inj x y same = sym (step_back x) ∙ ap step_in same ∙ step_back y
 
-abbrev pub coded_step : Coded Step
+abbrev pub coded_step : Coded Statement
 coded_step = record { code = step_code; inj = step_inj }

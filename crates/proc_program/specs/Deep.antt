@@ -4,13 +4,13 @@ use Rattle.std.proofs.Common.{arith}
 use denote.Param.Weighed.{most}
 use Rattle.proc_program.specs.declared.program.ExpKind.{ExpKind}
 use Rattle.proc_program.specs.declared.program.ExpKind.TheVariants.{Number, Load, Element, Call, Binary}
-use Rattle.proc_program.specs.declared.program.Arg.{Arg}
-use Rattle.proc_program.specs.declared.program.Arg.TheVariants.{Value, Pass}
-use Rattle.proc_program.specs.declared.program.Exp.TheDeep.{deep-ExpKind, deep-Arg}
+use Rattle.proc_program.specs.declared.program.ArgExp.{ArgExp}
+use Rattle.proc_program.specs.declared.program.ArgExp.TheVariants.{Value, Pass}
+use Rattle.proc_program.specs.declared.program.Exp.TheDeep.{deep-ExpKind, deep-ArgExp}
 use Rattle.proc_program.specs.Program.{size_of, size_among}
 use Rattle.proc_program.specs.View.{exp_of, args_of}
 
-args_deep : (args : List Arg) → most deep-Arg args ≤ size_among (args_of args)
+args_deep : (args : List ArgExp) → most deep-ArgExp args ≤ size_among (args_of args)
 args_deep [] = omega arith
 args_deep (Value e ∷ args) = omega (arith, args_deep args)
 args_deep (Pass h ∷ args) = omega (arith, args_deep args)

@@ -15,15 +15,16 @@ use Rattle.proc_language.specs.declared.module.Proc.{Proc}
 use Rattle.proc_language.specs.declared.module.ModuleFields.{ModuleFields}
 use Rattle.proc_program.specs.declared.program.Handle.{Handle}
 use Rattle.proc_program.specs.declared.program.Handle.TheVariants.{Given, Own, Imported}
-use Rattle.proc_program.specs.declared.program.Place.{Place}
-use Rattle.proc_program.specs.declared.program.Place.TheVariants.{Local, Global}
-use Rattle.proc_program.specs.declared.program.Row.{Row}
-use Rattle.proc_program.specs.declared.program.Import.{Import}
+use Rattle.proc_program.specs.declared.program.Location.{Location}
+use Rattle.proc_program.specs.declared.program.Location.TheVariants.{Local, Global}
+use Rattle.proc_program.specs.declared.program.Array.{Array}
+use Rattle.proc_program.specs.declared.program.ProgramImport.{ProgramImport}
 use Rattle.proc_program.specs.declared.program.Procedure.{Procedure}
 use Rattle.proc_program.specs.declared.program.Header.{Header}
-use Rattle.proc_program.specs.declared.program.Part.{Part}
+use Rattle.proc_program.specs.declared.program.Program.{Program}
 use Rattle.proc_program.specs.Program.{Exp, Number, Load, Element, Call, Binary, Args, no_args, value, pass}
-use Rattle.proc_program.specs.Program.{Step, Set, SetAt, Do, If, While, Return, Halt, Block, no_steps, step}
+use Rattle.proc_program.specs.Program.{Statement, Set, SetAt, Do, If, While, Return, Halt}
+use Rattle.proc_program.specs.Program.{Block, no_steps, step}
 use Rattle.proc_program.specs.StepView.{block_of}
 
 -- ---- what names lead to is there
@@ -64,16 +65,16 @@ pub record Scope : Type 0 where
   pub procs : ℕ
   pub words : ℕ
 
-abbrev pub scope_of : Part → Scope
+abbrev pub scope_of : Program → Scope
 scope_of part =
     record { imports = length part.imports; procs = length part.procs; words = length part.globals }
 
 module _ (s : Scope) where
-  abbrev pub PlaceFits : Place → Type 0
+  abbrev pub PlaceFits : Location → Type 0
   PlaceFits (Local i) = i ≤ MOST_REGISTERS + MOST_LOCALS
   PlaceFits (Global o) = o ≤ s.words
 
-  abbrev pub RowFits : Row → Type 0
+  abbrev pub RowFits : Array → Type 0
   RowFits r = r.first + r.length ≤ s.words
 
   abbrev pub HandleFits : Handle → Type 0
@@ -95,7 +96,7 @@ module _ (s : Scope) where
     ArgsFit (pass h xs) = HandleFits h × ArgsFit xs
 
   abbrev mutual
-    pub StepFits : Step → Type 0
+    pub StepFits : Statement → Type 0
     StepFits (Set x e) = PlaceFits x × ExpFits e
     StepFits (SetAt r i e) = RowFits r × ExpFits i × ExpFits e
     StepFits (Do e) = ExpFits e
@@ -116,7 +117,7 @@ module _ (s : Scope) where
     pub frame : 2 + registers_of p.callbacks + p.locals ≤ p.need
     pub body : BlockFits (block_of p.body)
 
-pub record LoweredImportFits (i : Import) : Type 0 where
+pub record LoweredImportFits (i : ProgramImport) : Type 0 where
   pub part : IsTrue (is_source_name i.part)
   pub name : IsTrue (is_source_name i.name)
 
@@ -126,7 +127,7 @@ pub record HeaderFits (head : Header) : Type 0 where
   pub closure : head.closure ≤ LAST_PLACE
   pub returns : SealsFit head.returns head.return_count
 
-pub record IsPart (part : Part) : Type 0 where
+pub record IsPart (part : Program) : Type 0 where
   pub name : IsTrue (is_source_name part.name)
   pub stack : part.stack ≤ LAST_PLACE
   pub header : HeaderFits part.header

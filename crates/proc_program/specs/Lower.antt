@@ -3,7 +3,7 @@ use Rattle.std.specs.Prelude.{ℕ, ◌+◌, ℤ, pos, List, [], ◌∷◌, ◌++
 use Rattle.std.specs.Prelude.{sum_by, unwrap_or, is_some}
 use Rattle.std.specs.Option.{option_map_or}
 use Rattle.proc_language.specs.declared.tree.Name.{Name}
-use Rattle.proc_language.specs.declared.module.Import.{Import}
+use Rattle.proc_language.specs.declared.module.ModuleImport.{ModuleImport}
 use Rattle.proc_language.specs.declared.module.Global.{Global}
 use Rattle.proc_language.specs.declared.module.Param.{Param}
 use Rattle.proc_language.specs.declared.module.Proc.{Proc}
@@ -23,17 +23,17 @@ use Rattle.proc_names.specs.Need.{need}
 use Rattle.proc_names.specs.Calls.{calls, args_calls, stmt_calls, block_calls, proc_calls}
 use Rattle.proc_program.specs.declared.program.Handle.{Handle}
 use Rattle.proc_program.specs.declared.program.Handle.TheVariants.{Given, Own, Imported}
-use Rattle.proc_program.specs.declared.program.Place.{Place}
-use Rattle.proc_program.specs.declared.program.Place.TheVariants as place
-use Rattle.proc_program.specs.declared.program.Row.{Row}
-use Rattle.proc_program.specs.declared.program.Arg.{Arg}
-use Rattle.proc_program.specs.declared.program.Arg.TheVariants as arg
-use Rattle.proc_program.specs.declared.program.Import.{Import as RunImport}
+use Rattle.proc_program.specs.declared.program.Location.{Location}
+use Rattle.proc_program.specs.declared.program.Location.TheVariants as place
+use Rattle.proc_program.specs.declared.program.Array.{Array}
+use Rattle.proc_program.specs.declared.program.ArgExp.{ArgExp}
+use Rattle.proc_program.specs.declared.program.ArgExp.TheVariants as arg
+use Rattle.proc_program.specs.declared.program.ProgramImport.{ProgramImport as RunImport}
 use Rattle.proc_program.specs.declared.program.Procedure.{Procedure}
 use Rattle.proc_program.specs.declared.program.Header.{Header}
-use Rattle.proc_program.specs.declared.program.Part.{Part}
+use Rattle.proc_program.specs.declared.program.Program.{Program}
 use Rattle.proc_program.specs.Program as run
-use Rattle.proc_program.specs.Program.{Exp, Step}
+use Rattle.proc_program.specs.Program.{Exp, Statement}
 use Rattle.proc_program.specs.View.{args_of as args_view}
 use Rattle.proc_program.specs.StepView.{block_of as block_view}
 
@@ -55,7 +55,7 @@ abbrev pub param_place : List Param → ℕ → ℕ
 param_place params i = params_registers (take i params)
 
 -- parameters come first, then locals
-abbrev pub place_by : ModuleFields → Proc → Variable → Place
+abbrev pub place_by : ModuleFields → Proc → Variable → Location
 place_by m p (named.Param i) = place.Local (param_place p.params i)
 place_by m p (named.Local k) = place.Local (params_registers p.params + k)
 place_by m p (named.Global k) = place.Global (first_word_of m.globals k)
@@ -63,16 +63,16 @@ place_by m p (named.Array k) = place.Global (first_word_of m.globals k)
 place_by m p named.Other = place.Global 0
 place_by m p named.Missing = place.Global 0
 
-abbrev pub variable_of : ModuleFields → Proc → Name → Place
+abbrev pub variable_of : ModuleFields → Proc → Name → Location
 variable_of m p x = place_by m p (variable_named m p x)
 
-abbrev pub row_at : List Global → ℕ → Row
+abbrev pub row_at : List Global → ℕ → Array
 row_at gs k = record { first = first_word_of gs k; length = option_map_or words (slice_get gs k) 0 }
 
-abbrev pub no_row : Row
+abbrev pub no_row : Array
 no_row = record { first = 0; length = 0 }
 
-abbrev pub row_by : List Global → Variable → Row
+abbrev pub row_by : List Global → Variable → Array
 row_by gs (named.Array k) = row_at gs k
 row_by gs (named.Param i) = no_row
 row_by gs (named.Local k) = no_row
@@ -80,7 +80,7 @@ row_by gs (named.Global k) = no_row
 row_by gs named.Other = no_row
 row_by gs named.Missing = no_row
 
-abbrev pub row_of : ModuleFields → Proc → Name → Row
+abbrev pub row_of : ModuleFields → Proc → Name → Array
 row_of m p x = row_by m.globals (variable_named m p x)
 
 abbrev pub handle_by : List Param → Callee → Handle
@@ -109,7 +109,7 @@ module _ (m : ModuleFields) (p : Proc) where
     exp_of n (call at f xs) = run.Call (n + args_calls xs) (handle_of m p f) (args_view (args_of n xs))
     exp_of n (op at o a b) = run.Binary o (exp_of n a) (exp_of (n + calls a) b)
 
-    pub args_of : ℕ → Args → List Arg
+    pub args_of : ℕ → Args → List ArgExp
     args_of n no_args = []
     args_of n (value e xs) = arg.Value (exp_of n e) ∷ args_of (n + calls e) xs
     args_of n (proc f xs) = arg.Pass (passed_handle m p f) ∷ args_of n xs
@@ -118,7 +118,7 @@ module _ (m : ModuleFields) (p : Proc) where
   call_of n f xs = run.Call (n + args_calls xs) (handle_of m p f) (args_view (args_of n xs))
 
   abbrev mutual
-    pub step_of : ℕ → Stmt → Step
+    pub step_of : ℕ → Stmt → Statement
     step_of n (set at x e) = run.Set (variable_of m p x) (exp_of n e)
     step_of n (set_at at x i e) = run.SetAt (row_of m p x) (exp_of n i) (exp_of (n + calls i) e)
     step_of n (do_call at f xs) = run.Do (call_of n f xs)
@@ -130,7 +130,7 @@ module _ (m : ModuleFields) (p : Proc) where
     step_of n (return at e) = run.Return (exp_of n e)
     step_of n (halt at e) = run.Halt (exp_of n e)
 
-    pub steps_of : ℕ → tree.Block → List Step
+    pub steps_of : ℕ → tree.Block → List Statement
     steps_of n no_stmts = []
     steps_of n (stmt s ss) = step_of n s ∷ steps_of (n + stmt_calls s) ss
 
@@ -154,7 +154,7 @@ abbrev pub globals_of : List Global → List ℤ
 globals_of [] = []
 globals_of (g ∷ gs) = replicate (words g) (unwrap_or g.initial (pos 0)) ++ globals_of gs
 
-abbrev pub import_of : Import → RunImport
+abbrev pub import_of : ModuleImport → RunImport
 import_of i = record { part = i.part.text; name = i.name.text }
 
 abbrev pub header_of : ModuleFields → Header
@@ -167,7 +167,7 @@ header_of m = record {
   movable = m.movable;
 }
 
-abbrev pub part_of : ModuleFields → Part
+abbrev pub part_of : ModuleFields → Program
 part_of m = record {
   name = m.name.text;
   stack = m.stack;

@@ -2,11 +2,11 @@
 use Rattle.std.specs.Prelude.{List, [], ◌∷◌}
 use Rattle.proc_program.specs.declared.program.ExpKind.{ExpKind}
 use Rattle.proc_program.specs.declared.program.ExpKind.TheVariants as code
-use Rattle.proc_program.specs.declared.program.Arg.{Arg}
-use Rattle.proc_program.specs.declared.program.Arg.TheVariants.{Value, Pass}
+use Rattle.proc_program.specs.declared.program.ArgExp.{ArgExp}
+use Rattle.proc_program.specs.declared.program.ArgExp.TheVariants.{Value, Pass}
 use Rattle.proc_program.specs.Program.{Exp, Number, Load, Element, Call, Binary, Args, no_args, value, pass}
 
-abbrev pub args_of : List Arg → Args
+abbrev pub args_of : List ArgExp → Args
 args_of [] = no_args
 args_of (Value e ∷ xs) = value e (args_of xs)
 args_of (Pass h ∷ xs) = pass h (args_of xs)

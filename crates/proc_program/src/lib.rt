@@ -10,5 +10,6 @@ mod program;
 
 pub use lower::lowered;
 pub use program::{
-    Arg, Call, Exp, ExpKind, Handle, Header, Import, Part, Place, Procedure, Row, Step, StepKind,
+    ArgExp, Array, CallExp, Exp, ExpKind, Handle, Header, Location, Procedure, Program,
+    ProgramImport, Statement, StatementKind,
 };

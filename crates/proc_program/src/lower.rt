@@ -17,7 +17,8 @@ ghost use Rattle.proc_program.specs.Lower.{steps_of, procedure_of, procedures_of
 ghost use Rattle.proc_program.specs.Lower.{header_of, part_of};
 
 use crate::program::{
-    Arg, Call, Exp, ExpKind, Handle, Header, Import, Part, Place, Procedure, Row, Step, StepKind,
+    ArgExp, Array, CallExp, Exp, ExpKind, Handle, Header, Location, Procedure, Program,
+    ProgramImport, Statement, StatementKind,
 };
 use cap_words::Items;
 use proc_language::{
@@ -55,13 +56,13 @@ fn word_at(gs: &[Global], k: usize) -> u32
     words_in(&gs[..k])
 }
 
-fn row_at(gs: &[Global], k: usize) -> Row
+fn row_at(gs: &[Global], k: usize) -> Array
     requires within { k < length gs.now }
     requires few { length gs.now ≤ MOST_ITEMS }
     requires fits { Each GlobalFits gs.now }
     ensures { result ≡ row_at gs.now k }
 {
-    Row {
+    Array {
         first: word_at(gs, k),
         length: words(&gs[k]),
     }
@@ -101,29 +102,29 @@ fn passed_in(m: &ModuleFields, p: &Proc, f: &Name) -> Callee
     passed_named(m, p, f)
 }
 
-fn variable_of(m: &ModuleFields, p: &Proc, x: &Name) -> Place
+fn variable_of(m: &ModuleFields, p: &Proc, x: &Name) -> Location
     requires limits { IsModule m.now }
     requires fits { ProcFits p.now }
     ensures { result ≡ variable_of m.now p.now x.now }
 {
     let params = p.params.as_slice();
     match variable_in(m, p, x) {
-        Variable::Param(i) => Place::Local(param_place(params, i)),
-        Variable::Local(k) => Place::Local(params_registers(params) + k as u32),
-        Variable::Global(k) => Place::Global(word_at(m.globals.as_slice(), k)),
-        Variable::Array(k) => Place::Global(word_at(m.globals.as_slice(), k)),
-        Variable::Other => Place::Global(0),
-        Variable::Missing => Place::Global(0),
+        Variable::Param(i) => Location::Local(param_place(params, i)),
+        Variable::Local(k) => Location::Local(params_registers(params) + k as u32),
+        Variable::Global(k) => Location::Global(word_at(m.globals.as_slice(), k)),
+        Variable::Array(k) => Location::Global(word_at(m.globals.as_slice(), k)),
+        Variable::Other => Location::Global(0),
+        Variable::Missing => Location::Global(0),
     }
 }
 
-fn row_of(m: &ModuleFields, p: &Proc, x: &Name) -> Row
+fn row_of(m: &ModuleFields, p: &Proc, x: &Name) -> Array
     requires { IsModule m.now }
     ensures { result ≡ row_of m.now p.now x.now }
 {
     match variable_in(m, p, x) {
         Variable::Array(k) => row_at(m.globals.as_slice(), k),
-        _ => Row {
+        _ => Array {
             first: 0,
             length: 0,
         },
@@ -223,7 +224,7 @@ fn call_of(
     let site = next_site(next)?;
     let handle = handle_of(m, p, f);
     Ok(Exp {
-        kind: ExpKind::Call(Call { site, handle, args }),
+        kind: ExpKind::Call(CallExp { site, handle, args }),
     })
 }
 
@@ -236,8 +237,8 @@ fn args_of(
     p: &Proc,
     xs: &[proc_language::Arg],
     next: &mut u32,
-    done: Vec<Arg>,
-) -> Result<Vec<Arg>, AllocError>
+    done: Vec<ArgExp>,
+) -> Result<Vec<ArgExp>, AllocError>
     requires limits { IsModule m.now }
     requires fits { ProcFits p.now }
     ensures same { IfOk result (λ v. v.items ≡ done.items ++ args_of m.now p.now next.old (tree_args xs.now)) }
@@ -247,11 +248,11 @@ fn args_of(
     match xs.split_first() {
         None => Ok(done),
         Some((proc_language::Arg::Value(e), rest)) => {
-            done.push(Arg::Value(exp_of(alloc, m, p, e, next)?))?;
+            done.push(ArgExp::Value(exp_of(alloc, m, p, e, next)?))?;
             args_of(alloc, m, p, rest, next, done)
         }
         Some((proc_language::Arg::Proc(f), rest)) => {
-            done.push(Arg::Pass(passed_of(m, p, f)))?;
+            done.push(ArgExp::Pass(passed_of(m, p, f)))?;
             args_of(alloc, m, p, rest, next, done)
         }
     }
@@ -265,7 +266,7 @@ fn step_of(
     p: &Proc,
     s: &Stmt,
     next: &mut u32,
-) -> Result<Step, AllocError>
+) -> Result<Statement, AllocError>
     requires limits { IsModule m.now }
     requires fits { ProcFits p.now }
     ensures same { IfOk result (λ x. x ≡ step_of m.now p.now next.old s.now) }
@@ -274,36 +275,36 @@ fn step_of(
     let kind = match &s.kind {
         StmtKind::Set(x, e) => {
             let place = variable_of(m, p, x);
-            StepKind::Set(place, exp_of(alloc, m, p, e, next)?)
+            StatementKind::Set(place, exp_of(alloc, m, p, e, next)?)
         }
         StmtKind::SetAt(x, index, e) => {
             let row = row_of(m, p, x);
             let index = exp_of(alloc, m, p, index, next)?;
-            StepKind::SetAt(row, index, exp_of(alloc, m, p, e, next)?)
+            StatementKind::SetAt(row, index, exp_of(alloc, m, p, e, next)?)
         }
         StmtKind::Call(call) => {
-            StepKind::Do(call_of(alloc, m, p, &call.name, call.args.as_slice(), next)?)
+            StatementKind::Do(call_of(alloc, m, p, &call.name, call.args.as_slice(), next)?)
         }
         StmtKind::If(c, body, None) => {
             let c = exp_of(alloc, m, p, c, next)?;
             let body = steps_of(alloc, m, p, body.as_slice(), next)?;
-            StepKind::If(c, Items::of(body), Items::of(Vec::new(alloc)))
+            StatementKind::If(c, Items::of(body), Items::of(Vec::new(alloc)))
         }
         StmtKind::If(c, body, Some(other)) => {
             let c = exp_of(alloc, m, p, c, next)?;
             let body = steps_of(alloc, m, p, body.as_slice(), next)?;
             let other = steps_of(alloc, m, p, other.as_slice(), next)?;
-            StepKind::If(c, Items::of(body), Items::of(other))
+            StatementKind::If(c, Items::of(body), Items::of(other))
         }
         StmtKind::While(c, body) => {
             let c = exp_of(alloc, m, p, c, next)?;
             let body = steps_of(alloc, m, p, body.as_slice(), next)?;
-            StepKind::While(c, Items::of(body))
+            StatementKind::While(c, Items::of(body))
         }
-        StmtKind::Return(e) => StepKind::Return(exp_of(alloc, m, p, e, next)?),
-        StmtKind::Halt(e) => StepKind::Halt(exp_of(alloc, m, p, e, next)?),
+        StmtKind::Return(e) => StatementKind::Return(exp_of(alloc, m, p, e, next)?),
+        StmtKind::Halt(e) => StatementKind::Halt(exp_of(alloc, m, p, e, next)?),
     };
-    Ok(Step { kind })
+    Ok(Statement { kind })
 }
 
 #[cycle(step_of)]
@@ -313,7 +314,7 @@ fn steps_of(
     p: &Proc,
     stmts: &[Stmt],
     next: &mut u32,
-) -> Result<Vec<Step>, AllocError>
+) -> Result<Vec<Statement>, AllocError>
     requires limits { IsModule m.now }
     requires fits { ProcFits p.now }
     ensures same { IfOk result (λ v. v.items ≡ steps_of m.now p.now next.old (stmts_of stmts.now)) }
@@ -414,13 +415,16 @@ fn globals_of(alloc: Heap, gs: &[Global]) -> Result<Vec<i64>, AllocError>
     Ok(globals)
 }
 
-fn imports_of(alloc: Heap, imports: &[proc_language::Import]) -> Result<Vec<Import>, AllocError>
+fn imports_of(
+    alloc: Heap,
+    imports: &[proc_language::ModuleImport],
+) -> Result<Vec<ProgramImport>, AllocError>
     ensures { IfOk result (λ v. v.items ≡ map import_of imports.now) }
 {
     let mut lowered = Vec::new(alloc);
     for i in imports {
         let part = text_of(alloc, &i.part)?;
-        lowered.push(Import {
+        lowered.push(ProgramImport {
             part,
             name: text_of(alloc, &i.name)?,
         })?;
@@ -448,7 +452,7 @@ fn header_of(m: &ModuleFields) -> Header
 ///
 /// `AllocError` where memory was refused, or would have to be: a module that has 2^32 calls, or a
 /// procedure that needs 2^32 - 1 words of the stack, has a tree of about as many nodes.
-pub fn lowered(alloc: Heap, m: &Module) -> Result<Part, AllocError>
+pub fn lowered(alloc: Heap, m: &Module) -> Result<Program, AllocError>
     ensures { IfOk result (λ part. part ≡ part_of m.now) }
 {
     let fields = m.fields();
@@ -456,7 +460,7 @@ pub fn lowered(alloc: Heap, m: &Module) -> Result<Part, AllocError>
     let imports = imports_of(alloc, fields.imports.as_slice())?;
     let globals = globals_of(alloc, fields.globals.as_slice())?;
     let procs = procedures_of(alloc, fields, fields.procs.as_slice())?;
-    Ok(Part {
+    Ok(Program {
         name,
         stack: fields.stack,
         header: header_of(fields),

@@ -18,7 +18,7 @@ pub enum Handle {
 
 /// What the name of a variable stands for.
 #[derive(Clone, Copy, Debug, PartialEq, Eq)]
-pub enum Place {
+pub enum Location {
     /// A parameter or a local: parameters come first. A callback takes two places, all else one.
     Local(u32),
     /// A word among those of the module's globals.
@@ -27,7 +27,7 @@ pub enum Place {
 
 /// An array of the module: its first word among those of the globals, and its length.
 #[derive(Clone, Copy, Debug, PartialEq, Eq)]
-pub struct Row {
+pub struct Array {
     /// The place of its first word.
     pub first: u32,
     /// How many words it has.
@@ -49,11 +49,11 @@ pub enum ExpKind {
     /// A number.
     Number(u32),
     /// A variable.
-    Load(Place),
+    Load(Location),
     /// An element of an array.
-    Element(Row, Box<Exp>),
+    Element(Array, Box<Exp>),
     /// A call.
-    Call(Call),
+    Call(CallExp),
     /// Two operands, and what stands between them.
     Binary(Op, Box<Exp>, Box<Exp>),
 }
@@ -61,19 +61,19 @@ pub enum ExpKind {
 /// A call.
 #[cycle(exp)]
 #[derive(Debug, Drop)]
-pub struct Call {
+pub struct CallExp {
     /// Its number in the module: calls are numbered from 0 by the order of their closing brackets.
     pub site: u32,
     /// What is called.
     pub handle: Handle,
     /// What it is given.
-    pub args: Items<Arg>,
+    pub args: Items<ArgExp>,
 }
 
 /// An argument.
 #[cycle(exp)]
 #[derive(Debug, Drop)]
-pub enum Arg {
+pub enum ArgExp {
     /// The value of an expression.
     Value(Exp),
     /// What a callback calls.
@@ -102,36 +102,36 @@ impl Model for Exp {
 /// A statement.
 #[cycle(step)]
 #[derive(Debug, Drop)]
-pub struct Step {
+pub struct Statement {
     /// What it is.
-    pub kind: StepKind,
+    pub kind: StatementKind,
 }
 
 /// What a statement is.
 #[cycle(step)]
 #[derive(Debug, Drop)]
-pub enum StepKind {
+pub enum StatementKind {
     /// A variable is set.
-    Set(Place, Exp),
+    Set(Location, Exp),
     /// An element of an array is set: the index, and the value.
-    SetAt(Row, Exp, Exp),
+    SetAt(Array, Exp, Exp),
     /// A call whose value isn't used.
     Do(Exp),
     /// What is done where the condition holds, and what where it doesn't.
-    If(Exp, Items<Step>, Items<Step>),
+    If(Exp, Items<Statement>, Items<Statement>),
     /// What is done as long as the condition holds.
-    While(Exp, Items<Step>),
+    While(Exp, Items<Statement>),
     /// The procedure ends with a value.
     Return(Exp),
     /// The program ends with a value.
     Halt(Exp),
 }
 
-impl Model for Step {
-    ghost use Rattle.proc_program.specs.Program.{Step, step_size};
+impl Model for Statement {
+    ghost use Rattle.proc_program.specs.Program.{Statement, step_size};
     ghost use Rattle.proc_program.specs.Codes.{coded_step};
 
-    ghost Value = { Step };
+    ghost Value = { Statement };
 
     ghost coded = { coded_step };
 
@@ -148,7 +148,7 @@ impl Model for Step {
 
 /// What another part exports under a name.
 #[derive(Debug, Drop)]
-pub struct Import {
+pub struct ProgramImport {
     /// The name of the part.
     pub part: Items<u8>,
     /// The name under which that part exports it.
@@ -169,7 +169,7 @@ pub struct Procedure {
     /// The words of its frame: how many it needs of the stack.
     pub need: u32,
     /// What it does.
-    pub body: Items<Step>,
+    pub body: Items<Statement>,
 }
 
 /// Where a module's words stand, and its seals.
@@ -191,7 +191,7 @@ pub struct Header {
 
 /// A module as it runs.
 #[derive(Debug, Drop)]
-pub struct Part {
+pub struct Program {
     /// Its name.
     pub name: Items<u8>,
     /// The address at which the stack begins.
@@ -199,7 +199,7 @@ pub struct Part {
     /// Where its words stand, and its seals. What the module does isn't changed by it.
     pub header: Header,
     /// What it may call of other parts.
-    pub imports: Items<Import>,
+    pub imports: Items<ProgramImport>,
     /// What the words of its globals are at first.
     pub globals: Items<i64>,
     /// Its procedures.

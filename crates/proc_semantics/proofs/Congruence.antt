@@ -6,12 +6,13 @@ use Rattle.std.specs.Prelude.{if◌then◌else◌, ◌==◌, ◌&&◌, slice_set
 use Rattle.std.specs.Str.{bytes_eq}
 use Rattle.proc_language.specs.declared.tree.Op.{Op}
 use Rattle.proc_semantics.specs.declared.value.Target.{Target}
-use Rattle.proc_program.specs.declared.program.Place.{Place}
-use Rattle.proc_program.specs.declared.program.Place.TheVariants.{Local, Global}
-use Rattle.proc_program.specs.declared.program.Row.{Row}
+use Rattle.proc_program.specs.declared.program.Location.{Location}
+use Rattle.proc_program.specs.declared.program.Location.TheVariants.{Local, Global}
+use Rattle.proc_program.specs.declared.program.Array.{Array}
 use Rattle.proc_program.specs.declared.program.Procedure.{Procedure}
 use Rattle.proc_program.specs.Program.{Exp, Number, Load, Element, Call, Binary, Args, no_args, value, pass}
-use Rattle.proc_program.specs.Program.{Step, Set, SetAt, Do, If, While, Return, Halt, Block, no_steps, step}
+use Rattle.proc_program.specs.Program.{Statement, Set, SetAt, Do, If, While, Return, Halt}
+use Rattle.proc_program.specs.Program.{Block, no_steps, step}
 use Rattle.proc_program.specs.StepView.{block_of}
 use Rattle.source_events.specs.declared.Item.{Item}
 use Rattle.source_events.specs.declared.Item.TheVariants.{Enter, Ret}
@@ -20,13 +21,13 @@ use Rattle.source_events.specs.declared.FeedBack.TheVariants as way
 use Rattle.source_events.specs.declared.OutEvent.{OutEvent}
 use Rattle.source_events.specs.declared.OutArg.TheVariants.{Int}
 use Rattle.source_events.specs.declared.OutEvent.TheVariants.{LeaveOut}
-use Rattle.source_events.specs.declared.End.TheVariants.{Halt as Halted}
+use Rattle.source_events.specs.declared.MeaningEnd.TheVariants.{Halt as Halted}
 use Rattle.proc_semantics.specs.declared.value.Pair.{Pair}
 use Rattle.proc_semantics.specs.declared.value.Pair.TheVariants.{Bad, Outside, Runs}
 use Rattle.proc_semantics.specs.declared.value.Value.{Value}
 use Rattle.proc_semantics.specs.declared.value.Value.TheVariants.{Num, Closure, Other}
 use Rattle.proc_semantics.specs.declared.value.Register.{Register}
-use Rattle.proc_semantics.specs.declared.value.Frame.{Frame}
+use Rattle.proc_semantics.specs.declared.value.Activation.{Activation}
 use Rattle.proc_semantics.specs.Told.{Comp, ends, fails, tick, ticks, emit, take_item}
 use Rattle.proc_semantics.specs.Values.{World, register_of, Store, is_zero, set_word, global_word}
 use Rattle.proc_semantics.specs.Values.{variable, pair_of, taken, found, registers_fed}
@@ -65,7 +66,7 @@ module _ (R : ℕ → Comp → Comp → Type 0) where
     pub procs : (t : Target) (left : Option ℕ) (rs : List Register) (k k' : Then) (st : Store) → RThen b k k'
         → R b (l.proc t left rs k st) (l'.proc t left rs k' st)
     pub waits : (c c' : Option Wait) (st : Store) → RWait b c c' → R b (l.wait c st) (l'.wait c' st)
-    pub turns : (f : Frame) (c : Exp) (x : Block) (back back' : Then) (k k' : Next) (env : List Value)
+    pub turns : (f : Activation) (c : Exp) (x : Block) (back back' : Then) (k k' : Next) (env : List Value)
         (st : Store) → RThen b back back' → RNext b k k'
         → R b (l.turn f c x back k env st) (l'.turn f c x back' k' env st)
     pub hops : (c c' : Option Wait) (left : Option ℕ) (t : Target) (v : ℤ) (st : Store) → RWait b c c'
@@ -98,11 +99,11 @@ module _ (R : ℕ → Comp → Comp → Type 0) (kept : IsKept R) where
   place_kept b None k k' h = kept.failing b
   place_kept b (Some o) k k' h = h o
 
-  pub element_kept : (b : ℕ) (a : Row) (i : ℤ) (k k' : ℕ → Comp) → ((o : ℕ) → R b (k o) (k' o))
+  pub element_kept : (b : ℕ) (a : Array) (i : ℤ) (k k' : ℕ → Comp) → ((o : ℕ) → R b (k o) (k' o))
       → R b (element a i k) (element a i k')
   element_kept b a i k k' h = place_kept b (element_at a i) k k' h
 
-  pub assigned_kept : (b home : ℕ) (x : Place) (v : ℤ) (k k' : Next) → RNext R b k k'
+  pub assigned_kept : (b home : ℕ) (x : Location) (v : ℤ) (k k' : Next) → RNext R b k k'
       → RNext R b (assigned home x v k) (assigned home x v k')
   assigned_kept b home (Local i) v k k' h env st = h (slice_set env i (Num v)) st
   assigned_kept b home (Global o) v k k' h env st = h env (set_word st home o v)
@@ -149,13 +150,13 @@ module _ (R : ℕ → Comp → Comp → Type 0) (kept : IsKept R) (world : World
   call_by_kept home given site (Runs t) vs k k' st h =
       same.procs t (Some given) (map register_of vs) k k' st h
 
-  pub call_kept : (f : Frame) (site : ℕ) (p : Pair) (vs : List Value) (k k' : Then) (st : Store)
+  pub call_kept : (f : Activation) (site : ℕ) (p : Pair) (vs : List Value) (k k' : Then) (st : Store)
       → RThen R b k k' → R b (call world l f site p vs k st) (call world l' f site p vs k' st)
   call_kept f site p vs k k' st h =
       place_kept R kept b (given_of f) _ _ (λ given. call_by_kept f.home given site p vs k k' st h)
 
   mutual
-    pub expr_kept : (f : Frame) (env : List Value) (e : Exp) (k k' : Then) (st : Store) → RThen R b k k'
+    pub expr_kept : (f : Activation) (env : List Value) (e : Exp) (k k' : Then) (st : Store) → RThen R b k k'
         → R b (expr world l f env e k st) (expr world l' f env e k' st)
     expr_kept f env (Number n) k k' st h = ticked R kept b _ _ (h (pos n) st)
     expr_kept f env (Load x) k k' st h = ticked R kept b _ _ (h (variable f.home env st x) st)
@@ -169,7 +170,8 @@ module _ (R : ℕ → Comp → Comp → Type 0) (kept : IsKept R) (world : World
         ticked R kept b _ _ (expr_kept f env p _ _ st
         (λ x st1. expr_kept f env q _ _ st1 (λ y st2. operated_kept R kept b o x y k k' st2 h)))
 
-    pub args_kept : (f : Frame) (env : List Value) (xs : Args) (k k' : List Value → Store → Comp) (st : Store)
+    pub args_kept : (f : Activation) (env : List Value) (xs : Args) (k k' : List Value → Store → Comp)
+        (st : Store)
         → ((vs : List Value) (st : Store) → R b (k vs st) (k' vs st))
         → R b (args world l f env xs k st) (args world l' f env xs k' st)
     args_kept f env no_args k k' st h = h [] st
@@ -184,7 +186,8 @@ module _ (R : ℕ → Comp → Comp → Type 0) (kept : IsKept R) (world : World
   branch false m m' n n' st s r = r
 
   mutual
-    pub stmt_kept : (f : Frame) (s : Step) (back back' : Then) (k k' : Next) (env : List Value) (st : Store)
+    pub stmt_kept : (f : Activation) (s : Statement) (back back' : Then) (k k' : Next) (env : List Value)
+        (st : Store)
         → RThen R b back back' → RNext R b k k'
         → R b (stmt world l f s back k env st) (stmt world l' f s back' k' env st)
     stmt_kept f (Set x e) back back' k k' env st r h = ticked R kept b _ _
@@ -207,7 +210,8 @@ module _ (R : ℕ → Comp → Comp → Type 0) (kept : IsKept R) (world : World
     stmt_kept f (Halt e) back back' k k' env st r h =
         ticked R kept b _ _ (expr_kept f env e _ _ st (λ v st1. kept.halting b v))
 
-    pub block_kept : (f : Frame) (s : Block) (back back' : Then) (k k' : Next) (env : List Value) (st : Store)
+    pub block_kept : (f : Activation) (s : Block) (back back' : Then) (k k' : Next) (env : List Value)
+        (st : Store)
         → RThen R b back back' → RNext R b k k'
         → R b (block world l f s back k env st) (block world l' f s back' k' env st)
     block_kept f no_steps back back' k k' env st r h = h env st
@@ -215,7 +219,7 @@ module _ (R : ℕ → Comp → Comp → Type 0) (kept : IsKept R) (world : World
         stmt_kept f s back back' _ _ env st r (λ env1 st1. block_kept f ss back back' k k' env1 st1 r h)
 
   -- one level up the bound is one more
-  pub turn_kept : (f : Frame) (c : Exp) (x : Block) (back back' : Then) (k k' : Next) (env : List Value)
+  pub turn_kept : (f : Activation) (c : Exp) (x : Block) (back back' : Then) (k k' : Next) (env : List Value)
       (st : Store) → RThen R b back back' → RNext R b k k' → R (suc b) (turn_at world l f c x back k env st)
       (turn_at world l' f c x back' k' env st)
   turn_kept f c x back back' k k' env st r h =

@@ -3,7 +3,7 @@ use Rattle.std.proofs.Common.{◌≡◌, ℕ, ℤ, pos, List, [], ◌∷◌, Opt
 use Rattle.std.specs.Prelude.{codes}
 use Rattle.proc_language.specs.declared.tree.Op.TheVariants.{Plus}
 use Rattle.proc_program.specs.declared.program.Handle.TheVariants.{Given, Own, Imported}
-use Rattle.proc_program.specs.declared.program.Place.TheVariants.{Local, Global}
+use Rattle.proc_program.specs.declared.program.Location.TheVariants.{Local, Global}
 use Rattle.proc_program.specs.declared.program.Header.{Header}
 use Rattle.proc_program.specs.Program.{Number, Load, Call, Binary, no_args, value, pass, Set}
 use Rattle.proc_program.specs.Program.{Do, Return, Halt}
@@ -15,7 +15,7 @@ use Rattle.source_events.specs.declared.FeedPair.TheVariants as fed
 use Rattle.source_events.specs.declared.OutArg.{OutArg}
 use Rattle.source_events.specs.declared.OutArg.TheVariants.{Int, Half}
 use Rattle.source_events.specs.declared.OutEvent.TheVariants.{CallOut, LeaveOut}
-use Rattle.source_events.specs.declared.End.TheVariants.{Halt as Halted, Fail, Waiting, OutOfFuel}
+use Rattle.source_events.specs.declared.MeaningEnd.TheVariants.{Halt as Halted, Fail, Waiting, OutOfFuel}
 use Rattle.proc_semantics.specs.Values.{World, found, main_target, linked}
 use Rattle.proc_semantics.specs.Meaning.{meaning}
 

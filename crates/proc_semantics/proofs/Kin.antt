@@ -8,12 +8,13 @@ use Rattle.std.specs.Str.{bytes_eq}
 use Rattle.proc_language.specs.declared.tree.Op.{Op}
 use Rattle.proc_semantics.specs.declared.value.Target.{Target}
 use Rattle.proc_program.specs.declared.program.Handle.{Handle}
-use Rattle.proc_program.specs.declared.program.Place.{Place}
-use Rattle.proc_program.specs.declared.program.Place.TheVariants.{Local, Global}
-use Rattle.proc_program.specs.declared.program.Row.{Row}
+use Rattle.proc_program.specs.declared.program.Location.{Location}
+use Rattle.proc_program.specs.declared.program.Location.TheVariants.{Local, Global}
+use Rattle.proc_program.specs.declared.program.Array.{Array}
 use Rattle.proc_program.specs.declared.program.Procedure.{Procedure}
 use Rattle.proc_program.specs.Program.{Exp, Number, Load, Element, Call, Binary, Args, no_args, value, pass}
-use Rattle.proc_program.specs.Program.{Step, Set, SetAt, Do, If, While, Return, Halt, Block, no_steps, step}
+use Rattle.proc_program.specs.Program.{Statement, Set, SetAt, Do, If, While, Return, Halt}
+use Rattle.proc_program.specs.Program.{Block, no_steps, step}
 use Rattle.proc_program.specs.StepView.{block_of}
 use Rattle.source_events.specs.declared.Item.{Item}
 use Rattle.source_events.specs.declared.Item.TheVariants.{Enter, Ret}
@@ -126,11 +127,11 @@ module _ (M N : Domain) (kin : Kin M N) where
   place_kept b None k k' h = kin.failing b
   place_kept b (Some o) k k' h = h o
 
-  pub element_kept : (b : ℕ) (a : Row) (i : ℤ) (k : ℕ → M.Comp) (k' : ℕ → N.Comp)
+  pub element_kept : (b : ℕ) (a : Array) (i : ℤ) (k : ℕ → M.Comp) (k' : ℕ → N.Comp)
       → ((o : ℕ) → kin.R b (k o) (k' o)) → kin.R b (element M a i k) (element N a i k')
   element_kept b a i k k' h = place_kept b (element_at a i) k k' h
 
-  pub assigned_kept : (b home : ℕ) (x : Place) (v : ℤ) (k : Next M) (k' : Next N) → RNext b k k'
+  pub assigned_kept : (b home : ℕ) (x : Location) (v : ℤ) (k : Next M) (k' : Next N) → RNext b k k'
       → RNext b (assigned M home x v k) (assigned N home x v k')
   assigned_kept b home (Local i) v k k' h env st = h (slice_set env i (Num v)) st
   assigned_kept b home (Global o) v k k' h env st = h env (set_word st home o v)
@@ -240,7 +241,7 @@ module _ (M N : Domain) (kin : Kin M N) where
     branch false m m' n n' st s r = r
 
     mutual
-      pub stmt_kept : (f : M.Run) (g : N.Run) (s : Step) (back : Then M) (back' : Then N) (k : Next M)
+      pub stmt_kept : (f : M.Run) (g : N.Run) (s : Statement) (back : Then M) (back' : Then N) (k : Next M)
           (k' : Next N) (env : List Value) (st : Store) → kin.Runs f g → RThen b back back' → RNext b k k'
           → kin.R b (stmt M world l f s back k env st) (stmt N world l' g s back' k' env st)
       stmt_kept f g (Set x e) back back' k k' env st i r h = ticked b _ _

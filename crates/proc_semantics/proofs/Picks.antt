@@ -4,7 +4,7 @@ use Rattle.std.proofs.Common.{refl}
 use Rattle.std.proofs.Common.{ap, arith}
 use Rattle.std.specs.Prelude.{codes}
 use Rattle.proc_program.specs.declared.program.Handle.TheVariants.{Given, Own}
-use Rattle.proc_program.specs.declared.program.Place.TheVariants.{Global}
+use Rattle.proc_program.specs.declared.program.Location.TheVariants.{Global}
 use Rattle.proc_program.specs.Program.{Number, Load, Call, no_args, pass, Do, If, Return, no_steps, step}
 use Rattle.source_events.specs.declared.Item.{Item}
 use Rattle.source_events.specs.declared.Item.TheVariants.{Enter}

@@ -8,7 +8,7 @@ use Rattle.source_events.specs.declared.Item.{Item}
 use Rattle.proc_semantics.specs.declared.value.Value.{Value}
 use Rattle.proc_semantics.specs.declared.value.Value.TheVariants.{Num}
 use Rattle.proc_semantics.specs.declared.value.Register.{Register}
-use Rattle.proc_semantics.specs.declared.value.Frame.{Frame}
+use Rattle.proc_semantics.specs.declared.value.Activation.{Activation}
 use Rattle.proc_semantics.specs.Told.{Comp, tick, counted, said, take_item}
 use Rattle.proc_semantics.specs.Values.{World, register_of, Store}
 use Rattle.proc_semantics.specs.Values.{main_target}
@@ -141,7 +141,8 @@ module _ (world : World) where
           ∙ (same_take n _ _ (λ i. item_kept Same same_kept world n (level world n) (whole world)
           (same_whole world n n (omega arith)) c c st i (same_wait n c))).is f feed (omega arith)
 
-      turn_is : (x : Frame) (c : Exp) (b : Block) (back : Then) (k : Next) (env : List Value) (st : Store)
+      turn_is : (x : Activation) (c : Exp) (b : Block) (back : Then) (k : Next) (env : List Value)
+          (st : Store)
           (f : ℕ) (feed : List Item) → whole_turn world x c b back k env st f feed
           ≡ turn_at world (whole world) x c b back k env st f feed
       turn_is x c b back k env st f feed =

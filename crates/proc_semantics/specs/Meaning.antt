@@ -4,20 +4,20 @@ use Rattle.source_events.specs.declared.Item.{Item}
 use Rattle.source_events.specs.declared.FeedBack.{FeedBack}
 use Rattle.source_events.specs.declared.OutArg.TheVariants.{Int}
 use Rattle.source_events.specs.declared.OutEvent.TheVariants.{CallOut, LeaveOut}
-use Rattle.source_events.specs.declared.End.TheVariants.{Halt as Halted, OutOfFuel}
+use Rattle.source_events.specs.declared.MeaningEnd.TheVariants.{Halt as Halted, OutOfFuel}
 use Rattle.source_events.specs.declared.Told.{Told}
 use Rattle.proc_language.specs.declared.tree.Op.{Op}
-use Rattle.proc_program.specs.declared.program.Place.{Place}
-use Rattle.proc_program.specs.declared.program.Row.{Row}
-use Rattle.proc_program.specs.declared.program.Part.{Part}
+use Rattle.proc_program.specs.declared.program.Location.{Location}
+use Rattle.proc_program.specs.declared.program.Array.{Array}
+use Rattle.proc_program.specs.declared.program.Program.{Program}
 use Rattle.proc_program.specs.declared.program.Procedure.{Procedure}
-use Rattle.proc_program.specs.Program.{Exp, Args, Step, Block}
+use Rattle.proc_program.specs.Program.{Exp, Args, Statement, Block}
 use Rattle.proc_semantics.specs.declared.value.Target.{Target}
 use Rattle.proc_semantics.specs.declared.value.Pair.{Pair}
 use Rattle.proc_semantics.specs.declared.value.Value.{Value}
 use Rattle.proc_semantics.specs.declared.value.Value.TheVariants.{Num}
 use Rattle.proc_semantics.specs.declared.value.Register.{Register}
-use Rattle.proc_semantics.specs.declared.value.Frame.{Frame}
+use Rattle.proc_semantics.specs.declared.value.Activation.{Activation}
 use Rattle.proc_semantics.specs.Told.{Comp, ends, fails, tick, emit, take_item}
 use Rattle.proc_semantics.specs.Values.{World, Store, register_of, value_args, main_target, registers_fed}
 use Rattle.proc_semantics.specs.Rules as rules
@@ -28,7 +28,7 @@ abbrev pub plain_domain : Domain
 plain_domain = record {
   Comp = Comp;
   Thing = Item;
-  Run = Frame;
+  Run = Activation;
   Regs = List Register;
   Way = Unit {0};
   Mark = Unit {0};
@@ -79,22 +79,22 @@ with_number = rules.with_number plain_domain
 abbrev pub operated : Op → ℤ → ℤ → Then → Store → Comp
 operated = rules.operated plain_domain
 
-abbrev pub element_at : Row → ℤ → Option ℕ
+abbrev pub element_at : Array → ℤ → Option ℕ
 element_at = rules.element_at
 
 abbrev pub with_place : Option ℕ → (ℕ → Comp) → Comp
 with_place = rules.with_place plain_domain
 
-abbrev pub element : Row → ℤ → (ℕ → Comp) → Comp
+abbrev pub element : Array → ℤ → (ℕ → Comp) → Comp
 element = rules.element plain_domain
 
-abbrev pub assigned : ℕ → Place → ℤ → Next → Next
+abbrev pub assigned : ℕ → Location → ℤ → Next → Next
 assigned = rules.assigned plain_domain
 
 abbrev pub enough : ℕ → Option ℕ → Option ℕ
 enough = rules.enough
 
-abbrev pub given_of : Frame → Option ℕ
+abbrev pub given_of : Activation → Option ℕ
 given_of f = rules.given_from f.left f.need
 
 abbrev pub is_given : Option ℕ → ℕ → Bool
@@ -106,10 +106,10 @@ resumed = rules.resumed plain_domain
 abbrev pub returned : Option Wait → Option ℕ → List ℕ → ℕ → ℕ → ℤ → Store → Comp
 returned = rules.returned plain_domain
 
-abbrev pub name_in : Option Part → List ℕ
+abbrev pub name_in : Option Program → List ℕ
 name_in = rules.name_in
 
-abbrev pub stack_in : Option Part → ℕ
+abbrev pub stack_in : Option Program → ℕ
 stack_in = rules.stack_in
 
 abbrev pub part_name_of : World → ℕ → List ℕ
@@ -128,22 +128,22 @@ module _ (world : World) where
   abbrev pub call_by : Level → ℕ → ℕ → ℕ → Pair → List Value → Then → Store → Comp
   call_by l home given site p vs k st = rules.call_by plain_domain world l home given site tt p vs k st
 
-  abbrev pub call : Level → Frame → ℕ → Pair → List Value → Then → Store → Comp
+  abbrev pub call : Level → Activation → ℕ → Pair → List Value → Then → Store → Comp
   call l f site p vs k st = rules.call plain_domain world l f site tt p vs k st
 
-  abbrev pub expr : Level → Frame → List Value → Exp → Then → Store → Comp
+  abbrev pub expr : Level → Activation → List Value → Exp → Then → Store → Comp
   expr = rules.expr plain_domain world
 
-  abbrev pub args : Level → Frame → List Value → Args → (List Value → Store → Comp) → Store → Comp
+  abbrev pub args : Level → Activation → List Value → Args → (List Value → Store → Comp) → Store → Comp
   args = rules.args plain_domain world
 
-  abbrev pub stmt : Level → Frame → Step → Then → Next → Next
+  abbrev pub stmt : Level → Activation → Statement → Then → Next → Next
   stmt = rules.stmt plain_domain world
 
-  abbrev pub block : Level → Frame → Block → Then → Next → Next
+  abbrev pub block : Level → Activation → Block → Then → Next → Next
   block = rules.block plain_domain world
 
-  abbrev pub turn_at : Level → Frame → Exp → Block → Then → Next → Next
+  abbrev pub turn_at : Level → Activation → Exp → Block → Then → Next → Next
   turn_at = rules.turn_at plain_domain world
 
   abbrev pub finish : ℕ → Then → Then
@@ -181,7 +181,7 @@ module _ (world : World) where
   abbrev pub start : Level → ℕ → Option Target → Store → Comp
   start = rules.start plain_domain world
 
-  -- what is told of a feed under a fuel, at a level that is enough for both
+  -- what is told of a feed (an input trace) under a fuel, at a level that is enough for both
   abbrev pub meaning : ℕ → List Item → ℕ → Told
   meaning stack feed fuel =
       start (level (fuel + length feed + 1)) stack (main_target world) (map (λ u. u.globals) world) fuel feed

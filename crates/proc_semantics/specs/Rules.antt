@@ -15,13 +15,14 @@ use Rattle.source_events.specs.declared.FeedPair.{FeedPair}
 use Rattle.proc_language.specs.declared.tree.Op.{Op}
 use Rattle.proc_language.specs.declared.tree.Op.TheVariants.{Plus, Minus, Less, Equal}
 use Rattle.proc_program.specs.declared.program.Handle.{Handle}
-use Rattle.proc_program.specs.declared.program.Place.{Place}
-use Rattle.proc_program.specs.declared.program.Place.TheVariants.{Local, Global}
-use Rattle.proc_program.specs.declared.program.Row.{Row}
+use Rattle.proc_program.specs.declared.program.Location.{Location}
+use Rattle.proc_program.specs.declared.program.Location.TheVariants.{Local, Global}
+use Rattle.proc_program.specs.declared.program.Array.{Array}
 use Rattle.proc_program.specs.declared.program.Procedure.{Procedure}
-use Rattle.proc_program.specs.declared.program.Part.{Part}
+use Rattle.proc_program.specs.declared.program.Program.{Program}
 use Rattle.proc_program.specs.Program.{Exp, Number, Load, Element, Call, Binary, Args, no_args, value, pass}
-use Rattle.proc_program.specs.Program.{Step, Set, SetAt, Do, If, While, Return, Halt, Block, no_steps, step}
+use Rattle.proc_program.specs.Program.{Statement, Set, SetAt, Do, If, While, Return, Halt}
+use Rattle.proc_program.specs.Program.{Block, no_steps, step}
 use Rattle.proc_program.specs.StepView.{block_of}
 use Rattle.proc_semantics.specs.declared.value.Target.{Target}
 use Rattle.proc_semantics.specs.declared.value.Pair.{Pair}
@@ -90,7 +91,7 @@ result_of Less x y = Some (bit (int_lt x y))
 result_of Equal x y = Some (bit (int_eq x y))
 
 -- the place of an element among the words of globals, where the index is in the array
-abbrev pub element_at : Row → ℤ → Option ℕ
+abbrev pub element_at : Array → ℤ → Option ℕ
 element_at a (pos i) = if nat_lt i a.length then Some (a.first + i) else None
 element_at a (negsuc i) = None
 
@@ -108,11 +109,11 @@ abbrev pub is_given : Option ℕ → ℕ → Bool
 is_given None given = true
 is_given (Some left) given = left == given
 
-abbrev pub name_in : Option Part → List ℕ
+abbrev pub name_in : Option Program → List ℕ
 name_in None = []
 name_in (Some u) = u.name
 
-abbrev pub stack_in : Option Part → ℕ
+abbrev pub stack_in : Option Program → ℕ
 stack_in None = 0
 stack_in (Some u) = u.stack
 
@@ -123,7 +124,7 @@ abbrev pub home_stack : World → ℕ → ℕ
 home_stack world home = stack_in (home_part world home)
 
 module _ (M : Domain) where
-  -- what goes on with a value: the globals, and then the rest
+  -- what goes on with a value (its continuation): the globals, and then the rest
   abbrev pub Then : Type 0
   Then = ℤ → Store → M.Comp
 
@@ -167,10 +168,10 @@ module _ (M : Domain) where
   with_place None k = M.failing
   with_place (Some o) k = k o
 
-  abbrev pub element : Row → ℤ → (ℕ → M.Comp) → M.Comp
+  abbrev pub element : Array → ℤ → (ℕ → M.Comp) → M.Comp
   element a i k = with_place (element_at a i) k
 
-  abbrev pub assigned : ℕ → Place → ℤ → Next → Next
+  abbrev pub assigned : ℕ → Location → ℤ → Next → Next
   assigned home (Local i) v k env st = k (slice_set env i (Num v)) st
   assigned home (Global o) v k env st = k env (set_word st home o v)
 
@@ -240,7 +241,7 @@ module _ (M : Domain) where
     -- ---- statements: `back` is what `return` goes on with, `k` what stands behind
 
     abbrev mutual
-      pub stmt : Level → M.Run → Step → Then → Next → Next
+      pub stmt : Level → M.Run → Statement → Then → Next → Next
       stmt l f (Set x e) back k env st =
           M.ticking (expr l f env e (λ v. assigned (M.home f) x v k env) st)
       stmt l f (SetAt a i e) back k env st =

@@ -10,11 +10,11 @@ use Rattle.source_events.specs.declared.OutArg.{OutArg}
 use Rattle.source_events.specs.declared.OutArg.TheVariants.{Int, Half}
 use Rattle.proc_program.specs.declared.program.Handle.{Handle}
 use Rattle.proc_program.specs.declared.program.Handle.TheVariants.{Given, Own, Imported}
-use Rattle.proc_program.specs.declared.program.Place.{Place}
-use Rattle.proc_program.specs.declared.program.Place.TheVariants.{Local, Global}
-use Rattle.proc_program.specs.declared.program.Import.{Import}
+use Rattle.proc_program.specs.declared.program.Location.{Location}
+use Rattle.proc_program.specs.declared.program.Location.TheVariants.{Local, Global}
+use Rattle.proc_program.specs.declared.program.ProgramImport.{ProgramImport}
 use Rattle.proc_program.specs.declared.program.Procedure.{Procedure}
-use Rattle.proc_program.specs.declared.program.Part.{Part}
+use Rattle.proc_program.specs.declared.program.Program.{Program}
 use Rattle.proc_semantics.specs.declared.value.Target.{Target}
 use Rattle.proc_semantics.specs.declared.value.Pair.{Pair}
 use Rattle.proc_semantics.specs.declared.value.Pair.TheVariants.{Bad, Outside, Runs}
@@ -24,7 +24,7 @@ use Rattle.proc_semantics.specs.declared.value.Register.{Register}
 
 -- the modules, as they run, in their order
 abbrev pub World : Type 0
-World = List Part
+World = List Program
 
 -- the words of each module's globals
 abbrev pub Store : Type 0
@@ -64,7 +64,7 @@ abbrev pub set_word : Store → ℕ → ℕ → ℤ → Store
 set_word st home o v = slice_set st home (slice_set (slice_index_or st home []) o v)
 
 -- what a variable of a module holds
-abbrev pub variable : ℕ → List Value → Store → Place → ℤ
+abbrev pub variable : ℕ → List Value → Store → Location → ℤ
 variable home env st (Local i) = number_in (slice_index_or env i Other)
 variable home env st (Global o) = global_word st home o
 
@@ -114,13 +114,13 @@ value_args vs = out_at vs 0 ∷ out_at vs 1 ∷ out_at vs 2 ∷ out_at vs 3 ∷ 
 
 -- ---- the modules' procedures
 
-abbrev pub home_part : World → ℕ → Option Part
+abbrev pub home_part : World → ℕ → Option Program
 home_part world home = slice_get world home
 
 abbrev pub target : ℕ → ℕ → Target
 target home n = record { home = home; proc = n }
 
-abbrev pub proc_in : Option Part → ℕ → Option Procedure
+abbrev pub proc_in : Option Program → ℕ → Option Procedure
 proc_in None n = None
 proc_in (Some u) n = slice_get u.procs n
 
@@ -129,13 +129,13 @@ proc_at world t = proc_in (home_part world t.home) t.proc
 
 -- ---- those that can be named from elsewhere: the shared ones, by the names of their parts and their own
 
-abbrev pub is_named : List ℕ → Part → Bool
+abbrev pub is_named : List ℕ → Program → Bool
 is_named part u = bytes_eq part u.name
 
 abbrev pub is_shared : List ℕ → Procedure → Bool
 is_shared name p = p.shared && bytes_eq name p.name
 
-abbrev pub shared_in : ℕ → List ℕ → Option Part → Option Target
+abbrev pub shared_in : ℕ → List ℕ → Option Program → Option Target
 shared_in home name None = None
 shared_in home name (Some u) = option_map (target home) (position (is_shared name) u.procs)
 
@@ -146,7 +146,7 @@ shared_at world name (Some home) = shared_in home name (home_part world home)
 unfoldable pub found : World → List ℕ → List ℕ → Option Target
 found world part name = shared_at world name (position (is_named part) world)
 
-abbrev pub has_main : Part → Bool
+abbrev pub has_main : Program → Bool
 has_main u = is_some (position (is_shared (codes "main")) u.procs)
 
 -- the shared main of the first module that has one
@@ -165,11 +165,11 @@ abbrev pub linked_by : World → List ℕ → Option ℕ → Pair
 linked_by world name None = Outside
 linked_by world name (Some home) = pair_found (shared_in home name (home_part world home))
 
-unfoldable pub linked : World → Option Import → Pair
+unfoldable pub linked : World → Option ProgramImport → Pair
 linked world None = Bad
 linked world (Some i) = linked_by world i.name (position (is_named i.part) world)
 
-abbrev pub import_in : Option Part → ℕ → Option Import
+abbrev pub import_in : Option Program → ℕ → Option ProgramImport
 import_in None n = None
 import_in (Some u) n = slice_get u.imports n
 

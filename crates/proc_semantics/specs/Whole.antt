@@ -6,7 +6,7 @@ use Rattle.proc_semantics.specs.declared.value.Target.{Target}
 use Rattle.proc_semantics.specs.declared.value.Value.{Value}
 use Rattle.proc_semantics.specs.declared.value.Value.TheVariants.{Num}
 use Rattle.proc_semantics.specs.declared.value.Register.{Register}
-use Rattle.proc_semantics.specs.declared.value.Frame.{Frame}
+use Rattle.proc_semantics.specs.declared.value.Activation.{Activation}
 use Rattle.proc_semantics.specs.Told.{Comp, take_item}
 use Rattle.proc_semantics.specs.Values.{World, Store, register_of, proc_at, main_target}
 use Rattle.proc_semantics.specs.Meaning.{Level, Wait, Then, Next, level, proc_of, on_item, turn_at}
@@ -19,7 +19,7 @@ module _ (world : World) where
   unfoldable pub whole_wait : Option Wait → Store → Comp
   whole_wait c st fuel feed = (level world (fuel + length feed + 1)).wait c st fuel feed
 
-  unfoldable pub whole_turn : Frame → Exp → Block → Then → Next → Next
+  unfoldable pub whole_turn : Activation → Exp → Block → Then → Next → Next
   whole_turn f c b back k env st fuel feed =
       (level world (fuel + length feed + 1)).turn f c b back k env st fuel feed
 
@@ -34,7 +34,8 @@ module _ (world : World) where
     pub procs : (t : Target) (left : Option ℕ) (rs : List Register) (k : Then) (st : Store)
         → whole_proc t left rs k st ≡ proc_of world whole t.home (proc_at world t) left rs k st
     pub waits : (c : Option Wait) (st : Store) → whole_wait c st ≡ take_item (on_item world whole c st)
-    pub turns : (f : Frame) (c : Exp) (b : Block) (back : Then) (k : Next) (env : List Value) (st : Store)
+    pub turns : (f : Activation) (c : Exp) (b : Block) (back : Then) (k : Next) (env : List Value)
+        (st : Store)
         → whole_turn f c b back k env st ≡ turn_at world whole f c b back k env st
     pub hops : (c : Option Wait) (left : Option ℕ) (t : Target) (v : ℤ) (st : Store)
         → whole_hop c left t v st

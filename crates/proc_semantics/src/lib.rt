@@ -9,4 +9,4 @@
 pub mod laws;
 mod value;
 
-pub use value::{Frame, Pair, Register, Target, Value};
+pub use value::{Activation, Pair, Register, Target, Value};

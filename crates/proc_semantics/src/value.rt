@@ -43,7 +43,7 @@ pub struct Register {
 
 /// What stays the same all through one run of a procedure.
 #[derive(Clone, Copy, Debug, PartialEq, Eq)]
-pub struct Frame {
+pub struct Activation {
     /// The place of its module among the modules.
     pub home: usize,
     /// How many words of the stack it was given.

@@ -1,5 +1,5 @@
 -- What a source is where it is taken.
-use Rattle.std.proofs.Common.{◌≡◌, ℕ, List, [], ◌∷◌, refl, sym, ap, subst}
+use Rattle.std.proofs.Common.{◌≡◌, ℕ, List, [], refl, sym, ap, subst}
 use Rattle.std.specs.Prelude.{Option, Some, None, Result, Ok, Err, if◌then◌else◌, Bool, true, false}
 use Rattle.std.specs.Prelude.{nat_lt}
 use Rattle.readers.specs.Readers.{told_by}
@@ -9,8 +9,9 @@ use Rattle.proc_language.specs.declared.module.ModuleFields.{ModuleFields}
 use Rattle.proc_language.specs.Limits.{IsModule}
 use Rattle.proc_grammar.specs.declared.fault.ParseFault.{ParseFault}
 use Rattle.proc_parse.specs.Text.{parsed_text}
+use Rattle.proc_names.proofs.Offers.{first_none}
 use Rattle.proc_names.specs.declared.fault.NameFault.{NameFault}
-use Rattle.proc_names.specs.Faults.{comes_first, earlier, first}
+use Rattle.proc_names.specs.Faults.{first}
 use Rattle.proc_names.specs.NameFaults.{name_faults, none_or, resolved}
 use Rattle.proc_names.specs.Calls.{module_calls}
 use Rattle.proc_templates.specs.Compiled.{compiled}
@@ -115,27 +116,15 @@ keeps_limits laws Tokens text m e =
 
 -- ---- its names
 
-some_first : (f : NameFault) (o : Option NameFault) → earlier (Some f) o ≡ None → ⊥
-some_first f None e = cc
-some_first f (Some g) e = by (comes_first f g) e
-  where
-    by : (b : Bool) → (if b then Some f else Some g) ≡ None → ⊥
-    by true e = cc
-    by false e = cc
-
-none_first : (fs : List NameFault) → first fs ≡ None → fs ≡ []
-none_first [] e = refl
-none_first (f ∷ fs) e = absurd (some_first f (first fs) e)
-
 none_of : (o : Option NameFault) → none_or o ≡ Ok tt → o ≡ None
 none_of None e = refl
 none_of (Some f) e = absurd (cc)
 
 plain_resolved : (m : ModuleFields) → resolved m ≡ Ok tt → name_faults m ≡ []
-plain_resolved m e = none_first (name_faults m) (none_of (first (name_faults m)) e)
+plain_resolved m e = first_none (name_faults m) (none_of (first (name_faults m)) e)
 
 pub tokens_resolved : (m : TokenModuleFields) → resolved_tokens m ≡ Ok tt → IsTokenResolved m
-tokens_resolved m e = none_first (token_name_faults m) (none_of (first (token_name_faults m)) e)
+tokens_resolved m e = first_none (token_name_faults m) (none_of (first (token_name_faults m)) e)
 
 pub names_resolved : ((m : TokenModuleFields) → IsTokenResolved m → name_faults (erased m) ≡ [])
     → (d : Dialect) (text : List ℕ) (m : ModuleFields) → module_in d text ≡ Ok m → name_faults m ≡ []

@@ -12,7 +12,7 @@ use Rattle.std.proofs.lemmas.Map.Text.{is_eq-slice_cmp}
 use Rattle.component_file.specs.declared.TheConstants.{LAST_OFFSET, MOST_WORDS}
 use Rattle.component_file.specs.declared.component.Export.{Export}
 use Rattle.component_file.specs.Limits.{ascends, name_lt, Chain, ExportFits}
-use Rattle.proc_program.specs.declared.program.Part.{Part}
+use Rattle.proc_program.specs.declared.program.Program.{Program}
 use Rattle.proc_program.specs.declared.program.Procedure.{Procedure}
 use Rattle.cap_words.specs.Names as part
 use Rattle.proc_language.specs.declared.tree.Name.{Name}
@@ -129,7 +129,7 @@ apart_from x (p ∷ ps) o e =
 some_words : (p : Procedure) → 1 ≤ size_of_proc p
 some_words p = omega arith
 
-pub exports_chain : (m : Part) (ps : List Procedure) (o : ℕ) → Each (ProcedureFits (scope_of m)) ps
+pub exports_chain : (m : Program) (ps : List Procedure) (o : ℕ) → Each (ProcedureFits (scope_of m)) ps
     → NamesDiffer ps
     → o + sum_by size_of_proc ps ≤ MOST_WORDS → Chain ExportFits None (exports_from o ps)
 exports_chain m [] o f e h = tt

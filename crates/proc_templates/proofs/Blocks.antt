@@ -9,14 +9,14 @@ use Rattle.lcm_isa.specs.declared.Reg.TheVariants.{A0, Rcode, Rdata}
 use Rattle.lcm_isa.specs.declared.Instr.{Instr}
 use Rattle.call_sequence.specs.declared.TheConstants.{CALL_WORDS, SITE_WORDS, ENTRY_WORDS}
 use Rattle.call_sequence.specs.Sequences.{call_code, return_code, entry_code}
-use Rattle.proc_program.specs.declared.program.Part.{Part}
+use Rattle.proc_program.specs.declared.program.Program.{Program}
 use Rattle.proc_program.specs.declared.program.Procedure.{Procedure}
 use Rattle.proc_program.specs.Limits.{registers_of}
 use Rattle.proc_program.specs.StepView.{block_of}
 use Rattle.flow_check.specs.Places.{begins_entry, begins_site, declared}
 use Rattle.proc_templates.specs.Items.{Spot, Item, does, guards, goes, goes_if, finishes, label, site, entry}
 use Rattle.proc_templates.specs.Items.{leaves, instrs, FAIL_AT, LITERAL_AT, Laid, word_of, put, lay, zero_of}
-use Rattle.proc_templates.specs.declared.Frame.{Frame}
+use Rattle.proc_templates.specs.declared.FrameShape.{FrameShape}
 use Rattle.proc_templates.specs.Templates.{check_params, pushed, push, wipe, take_back, block_code, proc_code}
 use Rattle.proc_templates.specs.Compiled.{label_row, frame_of, head_of, lay_proc, lay_procs, laid_of}
 use Rattle.proc_templates.specs.Free.{behind}
@@ -167,7 +167,7 @@ module _ (c : ComponentFields) where
         { labels = λ x h. let k = put-length spot l leaves in s.labels x (omega (arith, k, h)) };
   }
 
-  closing_proc : (spot : Spot) (f : Frame) (params : List _) (body : _)
+  closing_proc : (spot : Spot) (f : FrameShape) (params : List _) (body : _)
       → Closing spot (proc_code f params body)
   closing_proc spot f params body =
       closing_left spot (entry ∷ check_params 0 params) _
@@ -176,7 +176,7 @@ module _ (c : ComponentFields) where
       (closing_left spot (does (zero_of A0) ∷ label ∷ does _ ∷ wipe (f.words - 2)) _
       (closing_left spot (take_back Rdata ++ take_back Rcode) (leaves ∷ []) (closing_last spot)))))
 
-  module _ (m : Part) where
+  module _ (m : Program) where
     closed_proc : (l : Laid) (p : Procedure) → Sound l → Closed (lay_proc m l p)
     closed_proc l p s = subst Closed (sym (proc_laid m l p))
         ((closing_proc (spot_of m l p) (frame_of m p) p.callbacks (block_of p.body)).by l s)

@@ -4,10 +4,11 @@ use Rattle.component_file.specs.declared.TheConstants.{LAST_OFFSET}
 use Rattle.component_file.specs.declared.component.ComponentFields.{ComponentFields}
 use Rattle.lcm_isa.specs.declared.Reg.TheVariants.{G0}
 use Rattle.call_sequence.specs.Sequences.{distance}
-use Rattle.proc_program.specs.Program.{Step, Set, SetAt, Do, If, While, Return, Halt, Block, no_steps, step}
+use Rattle.proc_program.specs.Program.{Statement, Set, SetAt, Do, If, While, Return, Halt}
+use Rattle.proc_program.specs.Program.{Block, no_steps, step}
 use Rattle.flow_check.specs.Places.{declared}
 use Rattle.proc_templates.specs.Items.{Spot, Item, does, goes, goes_if, finishes, label, FAIL_AT}
-use Rattle.proc_templates.specs.declared.Frame.{Frame}
+use Rattle.proc_templates.specs.declared.FrameShape.{FrameShape}
 use Rattle.proc_templates.specs.Templates.{exp_words, block_words, code, answer, step_code, block_code}
 use Rattle.proc_templates.specs.Templates.{if_code}
 use Rattle.proc_templates.specs.Compiled.{label_row}
@@ -107,7 +108,7 @@ module _ (c : ComponentFields) (fails : c.fail_at ≡ Some FAIL_AT) (spot : Spot
   mutual
     unfolding is_free is_guarded ends_or_goes is_quiet
 
-    pub over_stmt : (f : Frame) (s : Step) → Over (step_code f s)
+    pub over_stmt : (f : FrameShape) (s : Statement) → Over (step_code f s)
     over_stmt f (Set x e) = free_over _
         (all_both (code f f.temps e) _ (code_free f e f.temps) (store_var_free f x))
     over_stmt f (SetAt x i e) =
@@ -122,7 +123,7 @@ module _ (c : ComponentFields) (fails : c.fail_at ≡ Some FAIL_AT) (spot : Spot
     over_stmt f (Return e) = over_return (code f f.temps e) (code_free f e f.temps)
     over_stmt f (Halt e) = free_over _ (all_both (code f f.temps e) _ (code_free f e f.temps) refl)
 
-    pub over_block : (f : Frame) (b : Block) → Over (block_code f b)
+    pub over_block : (f : FrameShape) (b : Block) → Over (block_code f b)
     over_block f no_steps o h bound on = on
     over_block f (step s b) o h bound on =
         let q = after o (step_code f s) in

@@ -7,20 +7,21 @@ use Rattle.lcm_isa.specs.declared.Reg.{Reg}
 use Rattle.call_sequence.specs.declared.TheConstants.{SITE_WORDS}
 use Rattle.proc_language.specs.declared.tree.Op.{Op}
 use Rattle.proc_language.specs.declared.tree.Op.TheVariants as operator
-use Rattle.proc_program.specs.declared.program.Part.{Part}
+use Rattle.proc_program.specs.declared.program.Program.{Program}
 use Rattle.proc_program.specs.declared.program.Procedure.{Procedure}
 use Rattle.proc_program.specs.Program.{Exp, Number, Load, Element, Call, Binary, Args, no_args, value, pass}
-use Rattle.proc_program.specs.Program.{Step, Set, SetAt, Do, If, While, Return, Halt, Block, no_steps, step}
+use Rattle.proc_program.specs.Program.{Statement, Set, SetAt, Do, If, While, Return, Halt}
+use Rattle.proc_program.specs.Program.{Block, no_steps, step}
 use Rattle.proc_program.specs.Limits.{register_count, registers_of, arg_registers}
 use Rattle.proc_program.specs.StepView.{block_of}
 use Rattle.proc_templates.specs.Items.{Spot, Item, does, guards, goes, goes_if, finishes, label, site, entry}
 use Rattle.proc_templates.specs.Items.{leaves, Laid, put, lay}
 use Rattle.proc_templates.specs.Templates as templates
-use Rattle.proc_program.specs.declared.program.Place.{Place}
-use Rattle.proc_program.specs.declared.program.Place.TheVariants.{Local, Global}
+use Rattle.proc_program.specs.declared.program.Location.{Location}
+use Rattle.proc_program.specs.declared.program.Location.TheVariants.{Local, Global}
 use Rattle.proc_program.specs.declared.program.Handle.{Handle}
 use Rattle.proc_program.specs.declared.program.Handle.TheVariants.{Given, Own, Imported}
-use Rattle.proc_templates.specs.declared.Frame.{Frame}
+use Rattle.proc_templates.specs.declared.FrameShape.{FrameShape}
 use Rattle.proc_templates.specs.Templates.{load_var, store_var, load_pair, op_code, load_args, zeros}
 use Rattle.proc_templates.specs.Templates.{arguments, code, args_code, step_code, block_code, if_code}
 use Rattle.proc_templates.specs.Templates.{check_params, check_param, pushed, push, wipe, epilogue, proc_code}
@@ -54,15 +55,15 @@ both_none a b n x y = let e = in_both a b in omega (arith, e, x, y)
 both_some : (a b : List Item) (n k : ℕ) → sites_in a ≡ n → sites_in b ≡ k → sites_in (a ++ b) ≡ n + k
 both_some a b n k x y = let e = in_both a b in omega (arith, e, x, y)
 
-load_none : (f : Frame) (p : Place) → sites_in (load_var f p) ≡ 0
+load_none : (f : FrameShape) (p : Location) → sites_in (load_var f p) ≡ 0
 load_none f (Local i) = refl
 load_none f (Global o) = refl
 
-store_none : (f : Frame) (p : Place) → sites_in (store_var f p) ≡ 0
+store_none : (f : FrameShape) (p : Location) → sites_in (store_var f p) ≡ 0
 store_none f (Local i) = refl
 store_none f (Global o) = refl
 
-pair_none : (f : Frame) (p : Handle) (r q : Reg) → sites_in (load_pair f p r q) ≡ 0
+pair_none : (f : FrameShape) (p : Handle) (r q : Reg) → sites_in (load_pair f p r q) ≡ 0
 pair_none f (Given i) r q = refl
 pair_none f (Own j) r q = refl
 pair_none f (Imported k) r q = refl
@@ -77,13 +78,14 @@ zeros_none : (rs : List Reg) → sites_in (zeros rs) ≡ 0
 zeros_none [] = refl
 zeros_none (r ∷ rs) = zeros_none rs
 
-load_args_none : (f : Frame) (args : Args) (t i : ℕ) → sites_in (load_args f t i args) ≡ 0
+load_args_none : (f : FrameShape) (args : Args) (t i : ℕ) → sites_in (load_args f t i args) ≡ 0
 load_args_none f no_args t i = refl
 load_args_none f (value e args) t i = load_args_none f args t (i + 1)
 load_args_none f (pass x args) t i =
     both_none (load_pair f x _ _) _ 0 (pair_none f x _ _) (load_args_none f args t (i + 2))
 
-call_one : (f : Frame) (t : ℕ) (x : Handle) (args : Args) → sites_in (templates.call_items f t x args) ≡ 1
+call_one : (f : FrameShape) (t : ℕ) (x : Handle) (args : Args) → sites_in (templates.call_items f t x args)
+    ≡ 1
 call_one f t x args =
     both_none (load_args f t 0 args) _ 1 (load_args_none f args t 0)
     (both_none (zeros (drop (arg_registers args) arguments)) _ 1
@@ -94,7 +96,7 @@ some_none : (a b : List Item) (n : ℕ) → sites_in a ≡ n → sites_in b ≡ 
 some_none a b n x y = let e = in_both a b in omega (arith, e, x, y)
 
 mutual
-  code_calls : (f : Frame) (e : Exp) (t : ℕ) → sites_in (code f t e) ≡ calls e
+  code_calls : (f : FrameShape) (e : Exp) (t : ℕ) → sites_in (code f t e) ≡ calls e
   code_calls f (Number n) t = refl
   code_calls f (Load x) t = load_none f x
   code_calls f (Element x e) t = some_none (code f t e) _ (calls e) (code_calls f e t) refl
@@ -104,7 +106,7 @@ mutual
       both_some (code f t a) _ (calls a) (calls b) (code_calls f a t)
       (some_none (code f (t + 1) b) _ (calls b) (code_calls f b (t + 1)) (op_none o))
 
-  values_calls : (f : Frame) (args : Args) (t i : ℕ) → sites_in (args_code f t i args) ≡ args_calls args
+  values_calls : (f : FrameShape) (args : Args) (t i : ℕ) → sites_in (args_code f t i args) ≡ args_calls args
   values_calls f no_args t i = refl
   values_calls f (value e args) t i =
       both_some (code f (t + i) e) _ (calls e) (args_calls args) (code_calls f e (t + i))
@@ -117,7 +119,7 @@ if_calls cs bs ds m n x y z c b d =
     both_some cs _ x (y + z) c (both_some bs _ y z b (some_none ds _ z d refl))
 
 mutual
-  step_calls-are : (f : Frame) (s : Step) → sites_in (step_code f s) ≡ step_calls s
+  step_calls-are : (f : FrameShape) (s : Statement) → sites_in (step_code f s) ≡ step_calls s
   step_calls-are f (Set x e) = some_none (code f f.temps e) _ (calls e) (code_calls f e f.temps)
       (store_none f x)
   step_calls-are f (SetAt x i e) =
@@ -132,7 +134,7 @@ mutual
   step_calls-are f (Return e) = some_none (code f f.temps e) _ (calls e) (code_calls f e f.temps) refl
   step_calls-are f (Halt e) = some_none (code f f.temps e) _ (calls e) (code_calls f e f.temps) refl
 
-  block_calls-are : (f : Frame) (b : Block) → sites_in (block_code f b) ≡ block_calls b
+  block_calls-are : (f : FrameShape) (b : Block) → sites_in (block_code f b) ≡ block_calls b
   block_calls-are f no_steps = refl
   block_calls-are f (step s b) =
       both_some (step_code f s) (block_code f b) (step_calls s) (block_calls b) (step_calls-are f s)
@@ -155,7 +157,7 @@ wipe_none : (n : ℕ) → sites_in (wipe n) ≡ 0
 wipe_none zero = refl
 wipe_none (suc n) = wipe_none n
 
-proc_calls : (f : Frame) (params : List Bool) (body : Block)
+proc_calls : (f : FrameShape) (params : List Bool) (body : Block)
     → sites_in (proc_code f params body) ≡ block_calls body
 proc_calls f params body =
     both_none (check_params 0 params) _ (block_calls body) (params_none params 0)
@@ -180,7 +182,7 @@ sites_lay-length spot (site ∷ xs) l =
 sites_lay-length spot (entry ∷ xs) l = sites_lay-length spot xs (put spot l entry)
 sites_lay-length spot (leaves ∷ xs) l = sites_lay-length spot xs (put spot l leaves)
 
-procs_calls : (m : Part) (ps : List Procedure) (l : Laid)
+procs_calls : (m : Program) (ps : List Procedure) (l : Laid)
     → length (lay_procs m l ps).sites ≡ length l.sites + sum_by procedure_calls ps
 procs_calls m [] l = omega arith
 procs_calls m (p ∷ ps) l =
@@ -196,11 +198,11 @@ procs_calls m (p ∷ ps) l =
     ∙ ap (λ k. length l.sites + k)
     (sym (sum_by-cons (λ (p : Procedure). block_calls (block_of p.body)) p ps))
 
-pub sites_are_calls : (m : Part) → length (laid_of m).sites ≡ part_calls m
+pub sites_are_calls : (m : Program) → length (laid_of m).sites ≡ part_calls m
 unfolding laid_of
 sites_are_calls m = procs_calls m m.procs (head_of m) ∙ omega arith
 
-pub component_sites : (m : Part) → length (component_of m).sites ≡ part_calls m
+pub component_sites : (m : Program) → length (component_of m).sites ≡ part_calls m
 unfolding component_of
 component_sites m = sites_are_calls m
 
@@ -243,7 +245,7 @@ spaced_lay : (spot : Spot) (xs : List Item) (l : Laid) → Spaced 0 l.sites (len
 spaced_lay spot [] l s = s
 spaced_lay spot (x ∷ xs) l s = spaced_lay spot xs (put spot l x) (spaced_put spot l x s)
 
-spaced_procs : (m : Part) (ps : List Procedure) (l : Laid) → Spaced 0 l.sites (length l.code)
+spaced_procs : (m : Program) (ps : List Procedure) (l : Laid) → Spaced 0 l.sites (length l.code)
     → Spaced 0 (lay_procs m l ps).sites (length (lay_procs m l ps).code)
 spaced_procs m [] l s = s
 spaced_procs m (p ∷ ps) l s =
@@ -251,7 +253,7 @@ spaced_procs m (p ∷ ps) l s =
     (subst (λ (x : Laid). Spaced 0 x.sites (length x.code)) (sym (proc_laid m l p))
     (spaced_lay (spot_of m l p) (proc_code (frame_of m p) p.callbacks (block_of p.body)) l s))
 
-pub sites_spaced : (m : Part) → Spaced 0 (laid_of m).sites (length (laid_of m).code)
+pub sites_spaced : (m : Program) → Spaced 0 (laid_of m).sites (length (laid_of m).code)
 unfolding laid_of
 sites_spaced m = spaced_procs m m.procs (head_of m) (omega arith)
 

@@ -8,16 +8,17 @@ use Rattle.component_file.specs.declared.component.Export.{Export}
 use Rattle.component_file.specs.declared.component.KindRow.{KindRow}
 use Rattle.component_file.specs.Limits.{name_lt}
 use Rattle.lcm_isa.specs.declared.Reg.TheVariants.{A0}
-use Rattle.proc_program.specs.declared.program.Part.{Part}
+use Rattle.proc_program.specs.declared.program.Program.{Program}
 use Rattle.proc_program.specs.declared.program.Procedure.{Procedure}
 use Rattle.proc_program.specs.Program.{Exp}
-use Rattle.proc_program.specs.Program.{Step, Set, SetAt, Do, If, While, Return, Halt, Block, no_steps, step}
+use Rattle.proc_program.specs.Program.{Statement, Set, SetAt, Do, If, While, Return, Halt}
+use Rattle.proc_program.specs.Program.{Block, no_steps, step}
 use Rattle.proc_program.specs.Limits.{registers_of}
 use Rattle.proc_program.specs.StepView.{block_of}
 use Rattle.flow_check.specs.Places.{begins_entry, begins_site, declared}
 use Rattle.proc_templates.specs.Items.{Spot, Item, does, guards, goes, goes_if, finishes, label, site, entry}
 use Rattle.proc_templates.specs.Items.{leaves, Laid, put, lay, zero_of}
-use Rattle.proc_templates.specs.declared.Frame.{Frame}
+use Rattle.proc_templates.specs.declared.FrameShape.{FrameShape}
 use Rattle.proc_templates.specs.Templates.{code, store_var, step_code, block_code, if_code, check_params}
 use Rattle.proc_templates.specs.Templates.{pushed, push, wipe, epilogue, block_words}
 use Rattle.proc_templates.specs.Compiled.{frame_of, size_of_proc, head_of, lay_proc, lay_procs, laid_of}
@@ -55,7 +56,7 @@ free_inner (site ∷ xs) e = free_inner xs e
 free_inner (entry ∷ xs) e = cc
 free_inner (leaves ∷ xs) e = cc
 
-code_inner : (f : Frame) (e : Exp) (t : ℕ) → AllInner (code f t e)
+code_inner : (f : FrameShape) (e : Exp) (t : ℕ) → AllInner (code f t e)
 code_inner f e t = free_inner (code f t e) (code_free f e t)
 
 if_inner : (cs bs ds : List Item) (n k : ℕ) → AllInner cs → AllInner bs → AllInner ds
@@ -63,7 +64,7 @@ if_inner : (cs bs ds : List Item) (n k : ℕ) → AllInner cs → AllInner bs �
 if_inner cs bs ds n k c b d = inner_both cs _ c (inner_both bs _ b (inner_both ds _ d refl))
 
 mutual
-  stmt_inner : (f : Frame) (s : Step) → AllInner (step_code f s)
+  stmt_inner : (f : FrameShape) (s : Statement) → AllInner (step_code f s)
   stmt_inner f (Set x e) = inner_both (code f f.temps e) _ (code_inner f e f.temps)
       (free_inner (store_var f x) (store_var_free f x))
   stmt_inner f (SetAt x i e) = inner_both (code f f.temps i) _ (code_inner f i f.temps)
@@ -76,17 +77,17 @@ mutual
   stmt_inner f (Return e) = inner_both (code f f.temps e) _ (code_inner f e f.temps) refl
   stmt_inner f (Halt e) = inner_both (code f f.temps e) _ (code_inner f e f.temps) refl
 
-  block_inner : (f : Frame) (b : Block) → AllInner (block_code f b)
+  block_inner : (f : FrameShape) (b : Block) → AllInner (block_code f b)
   block_inner f no_steps = refl
   block_inner f (step s b) = inner_both (step_code f s) (block_code f b) (stmt_inner f s) (block_inner f b)
 
 -- what stands behind an entry
-abbrev pub behind_entry : Frame → List Bool → Block → List Item
+abbrev pub behind_entry : FrameShape → List Bool → Block → List Item
 behind_entry f params body =
     check_params 0 params ++ (push (pushed (registers_of params) f.words)
     ++ (block_code f body ++ (does (zero_of A0) ∷ label ∷ epilogue f.words)))
 
-inner_proc : (f : Frame) (params : List Bool) (body : Block) → AllInner (behind_entry f params body)
+inner_proc : (f : FrameShape) (params : List Bool) (body : Block) → AllInner (behind_entry f params body)
 inner_proc f params body =
     inner_both (check_params 0 params) _ (free_inner (check_params 0 params) (params_free params 0))
     (inner_both (push (pushed (registers_of params) f.words)) _
@@ -108,7 +109,7 @@ entries_kept spot (site ∷ xs) l e = entries_kept spot xs (put spot l site) e
 entries_kept spot (entry ∷ xs) l e = cc
 entries_kept spot (leaves ∷ xs) l e = entries_kept spot xs (put spot l leaves) e
 
-pub entries_proc : (m : Part) (l : Laid) (p : Procedure)
+pub entries_proc : (m : Program) (l : Laid) (p : Procedure)
     → (lay_proc m l p).entries ≡ l.entries ++ (length l.code ∷ [])
 unfolding put
 entries_proc m l p =
@@ -133,7 +134,7 @@ any_into q e (x ∷ xs) = by (name_lt e.name x.name) (any_into q e xs)
     by true h = refl
     by false h = ap (λ z. q x || z) h ∙ swapped (q e) (q x) (list_any q xs)
 
-pub entries_are : (m : Part) (ps : List Procedure) (l : Laid) (x : ℕ) → AllReady m ps
+pub entries_are : (m : Program) (ps : List Procedure) (l : Laid) (x : ℕ) → AllReady m ps
     → (has l.entries x || list_any (λ e. e.offset == x) (exports_from (length l.code) ps)) ≡ has
     (lay_procs m l ps).entries x
 entries_are m [] l x r = or_false (has l.entries x)
@@ -150,7 +151,7 @@ entries_are m (p ∷ ps) l x r =
     (sym (laid-length m l p r.0))
     ∙ entries_are m ps (lay_proc m l p) x r.1
 
-pub entries_whole : (m : Part) → AllReady m m.procs → (x : ℕ)
+pub entries_whole : (m : Program) → AllReady m m.procs → (x : ℕ)
     → begins_entry (component_of m) x ≡ has (laid_of m).entries x
 unfolding laid_of component_of exports_of begins_entry
 entries_whole m r x = entries_are m m.procs (head_of m) x r
@@ -169,7 +170,7 @@ rows_are (o ∷ os) x = by (o == x) (rows_are os x)
     by true h = refl
     by false h = h
 
-pub rest_whole : (m : Part) → AllReady m m.procs → Rest (laid_of m) (component_of m)
+pub rest_whole : (m : Program) → AllReady m m.procs → Rest (laid_of m) (component_of m)
 unfolding laid_of component_of exports_of begins_entry begins_site declared
 rest_whole m r = record {
   code = λ j w e. e;

@@ -7,7 +7,7 @@ use Rattle.proc_language.specs.declared.module.ModuleFields.{ModuleFields}
 use Rattle.proc_language.specs.Tree.{var, op, call, no_args, value, set, do_call, return, halt}
 use Rattle.proc_names.specs.Names.{variable_named, callee_named, passed_named}
 use Rattle.call_sequence.specs.Sequences.{call_code, return_code, entry_code}
-use Rattle.proc_program.specs.declared.program.Part.{Part}
+use Rattle.proc_program.specs.declared.program.Program.{Program}
 use Rattle.proc_program.specs.Lower.{part_of}
 use Rattle.proc_templates.specs.Items.{put, instrs}
 use Rattle.proc_templates.specs.Templates.{before_epilogue}
@@ -47,7 +47,7 @@ bank_module = record {
   } ∷ [];
 }
 
-bank : Part
+bank : Program
 bank = part_of bank_module
 
 -- module cb; import adv.go/0; export proc main() { halt go(); } export proc twice(f/1, x) { return f(f(x)); }
@@ -84,7 +84,7 @@ callback_module = record {
   } ∷ [];
 }
 
-callbacks : Part
+callbacks : Program
 callbacks = part_of callback_module
 
 bank_counts : (code_words bank ≡ 124) × (length (laid_of bank).code ≡ 124) × ((laid_of bank).sites ≡ 68 ∷ [])

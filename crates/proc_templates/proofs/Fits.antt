@@ -15,16 +15,17 @@ use Rattle.proc_language.specs.declared.TheConstants.{LARGEST_LITERAL}
 use Rattle.proc_language.specs.declared.tree.Op.{Op}
 use Rattle.proc_language.specs.declared.tree.Op.TheVariants as operator
 use Rattle.proc_program.specs.Program.{Exp, Number, Load, Element, Call, Binary, Args, no_args, value, pass}
-use Rattle.proc_program.specs.Program.{Step, Set, SetAt, Do, If, While, Return, Halt, Block, no_steps, step}
+use Rattle.proc_program.specs.Program.{Statement, Set, SetAt, Do, If, While, Return, Halt}
+use Rattle.proc_program.specs.Program.{Block, no_steps, step}
 use Rattle.proc_program.specs.Limits.{register_count, registers_of, arg_registers}
 use Rattle.proc_templates.specs.Items.{Item}
 use Rattle.proc_templates.specs.Templates as templates
-use Rattle.proc_program.specs.declared.program.Place.{Place}
-use Rattle.proc_program.specs.declared.program.Place.TheVariants.{Local, Global}
+use Rattle.proc_program.specs.declared.program.Location.{Location}
+use Rattle.proc_program.specs.declared.program.Location.TheVariants.{Local, Global}
 use Rattle.proc_program.specs.declared.program.Handle.{Handle}
 use Rattle.proc_program.specs.declared.program.Handle.TheVariants.{Given, Own, Imported}
-use Rattle.proc_program.specs.declared.program.Row.{Row}
-use Rattle.proc_templates.specs.declared.Frame.{Frame}
+use Rattle.proc_program.specs.declared.program.Array.{Array}
+use Rattle.proc_templates.specs.declared.FrameShape.{FrameShape}
 use Rattle.proc_templates.specs.Templates.{pair_words, op_words, exp_words, args_words, step_words}
 use Rattle.proc_templates.specs.Templates.{block_words, at_slot, at_glob, load_var, store_var, at_element}
 use Rattle.proc_templates.specs.Templates.{load_pair, op_code, arguments, argument, load_args, zeros, code}
@@ -75,7 +76,7 @@ op_fits operator.Minus = next _ _ tt none
 op_fits operator.Less = next _ _ tt none
 op_fits operator.Equal = record { by = (tt, (tt, (tt, (near 1 (omega arith), (tt, tt))))) }
 
-module _ (f : Frame) (words : f.words ≤ LAST_PLACE) where
+module _ (f : FrameShape) (words : f.words ≤ LAST_PLACE) where
   slot_fits : (j : ℕ) (i : Instr) → j ≤ LAST_PLACE → IsInstr i → Fit (at_slot f j i)
   slot_fits j i h g = record {
     by
@@ -85,11 +86,11 @@ module _ (f : Frame) (words : f.words ≤ LAST_PLACE) where
   glob_fits : (o : ℕ) (i : Instr) → o ≤ LAST_PLACE → IsInstr i → Fit (at_glob o i)
   glob_fits o i h g = record { by = (near o h, (g, (near_operand o 0 h (omega arith), tt))) }
 
-  load_fits : (x : Place) → PlaceBound f x → Fit (load_var f x)
+  load_fits : (x : Location) → PlaceBound f x → Fit (load_var f x)
   load_fits (Local i) h = slot_fits (i + 2) (instr.Load G0 Stk) h tt
   load_fits (Global o) h = glob_fits (f.pairs + o) (instr.Load G0 Dat) h tt
 
-  store_fits : (x : Place) → PlaceBound f x → Fit (store_var f x)
+  store_fits : (x : Location) → PlaceBound f x → Fit (store_var f x)
   store_fits (Local i) h = slot_fits (i + 2) (Store Stk G0) h tt
   store_fits (Global o) h = glob_fits (f.pairs + o) (Store Dat G0) h tt
 
@@ -109,7 +110,7 @@ module _ (f : Frame) (words : f.words ≤ LAST_PLACE) where
   pair_fits (Own j) r q h = linked_fits (2 * (f.imports + j)) r q h
   pair_fits (Imported k) r q h = linked_fits (2 * k) r q h
 
-  element_fits : (r : Row) (i : Instr) → RowBound f r → IsInstr i → Fit (templates.at_row f r i)
+  element_fits : (r : Array) (i : Instr) → RowBound f r → IsInstr i → Fit (templates.at_row f r i)
   element_fits r i a g =
       record {
         by = (
@@ -178,7 +179,8 @@ module _ (f : Frame) (words : f.words ≤ LAST_PLACE) where
       (next _ _ tt (fits_both ds _ e (next _ _ tt none))))))))
 
   mutual
-    pub stmt_fits : (s : Step) → StepBound f s → f.temps + step_words s ≤ LAST_PLACE → Fit (step_code f s)
+    pub stmt_fits : (s : Statement) → StepBound f s → f.temps + step_words s ≤ LAST_PLACE
+        → Fit (step_code f s)
     stmt_fits (Set x e) w h = fits_both (code f f.temps e) _ (code_fits e f.temps w.1 (omega (arith, h)))
         (store_fits x w.0)
     stmt_fits (SetAt x i e) w h =

@@ -10,11 +10,11 @@ use Rattle.proc_language.specs.declared.tree.Op.TheVariants as operator
 use Rattle.proc_program.specs.Program.{Exp, Number, Load, Element, Call, Binary, Args, no_args, value, pass}
 use Rattle.proc_program.specs.Limits.{register_count, arg_registers}
 use Rattle.proc_templates.specs.Items.{Item}
-use Rattle.proc_program.specs.declared.program.Place.{Place}
-use Rattle.proc_program.specs.declared.program.Place.TheVariants.{Local, Global}
+use Rattle.proc_program.specs.declared.program.Location.{Location}
+use Rattle.proc_program.specs.declared.program.Location.TheVariants.{Local, Global}
 use Rattle.proc_program.specs.declared.program.Handle.{Handle}
 use Rattle.proc_program.specs.declared.program.Handle.TheVariants.{Given, Own, Imported}
-use Rattle.proc_templates.specs.declared.Frame.{Frame}
+use Rattle.proc_templates.specs.declared.FrameShape.{FrameShape}
 use Rattle.proc_templates.specs.Templates as templates
 use Rattle.proc_templates.specs.Templates.{load_slot, store_slot, load_var, store_var, load_pair}
 use Rattle.proc_templates.specs.Templates.{op_code, arguments, argument, load_args, zeros, code, args_code}
@@ -37,21 +37,21 @@ arg_low (suc (suc zero)) = refl
 arg_low (suc (suc (suc zero))) = refl
 arg_low (suc (suc (suc (suc i)))) = refl
 
-load_slot_free : (f : Frame) (j : ℕ) (r : Reg) → is_low r ≡ true → AllFree (load_slot f j r)
+load_slot_free : (f : FrameShape) (j : ℕ) (r : Reg) → is_low r ≡ true → AllFree (load_slot f j r)
 unfolding is_free ends_or_goes is_quiet
 load_slot_free f j r e = rw e refl
 
-load_var_free : (f : Frame) (p : Place) → AllFree (load_var f p)
+load_var_free : (f : FrameShape) (p : Location) → AllFree (load_var f p)
 unfolding is_free ends_or_goes is_quiet
 load_var_free f (Local i) = refl
 load_var_free f (Global o) = refl
 
-pub store_var_free : (f : Frame) (p : Place) → AllFree (store_var f p)
+pub store_var_free : (f : FrameShape) (p : Location) → AllFree (store_var f p)
 unfolding is_free ends_or_goes is_quiet
 store_var_free f (Local i) = refl
 store_var_free f (Global o) = refl
 
-pair_free : (f : Frame) (p : Handle) (r q : Reg) → is_low r ≡ true → is_low q ≡ true
+pair_free : (f : FrameShape) (p : Handle) (r q : Reg) → is_low r ≡ true → is_low q ≡ true
     → AllFree (load_pair f p r q)
 unfolding is_free ends_or_goes is_quiet
 pair_free f (Given i) r q e h = rw (e, h) refl
@@ -82,7 +82,7 @@ rest_low (suc (suc zero)) = refl
 rest_low (suc (suc (suc zero))) = refl
 rest_low (suc (suc (suc (suc n)))) = ap (list_all is_low) (drop_none n)
 
-load_args_free : (f : Frame) (args : Args) (t i : ℕ) → AllFree (load_args f t i args)
+load_args_free : (f : FrameShape) (args : Args) (t i : ℕ) → AllFree (load_args f t i args)
 load_args_free f no_args t i = refl
 load_args_free f (value e args) t i =
     all_both (load_slot f (t + i) (argument i)) _ (load_slot_free f (t + i) (argument i) (arg_low i))
@@ -92,7 +92,8 @@ load_args_free f (pass x args) t i =
     (pair_free f x (argument i) (argument (i + 1)) (arg_low i) (arg_low (i + 1)))
     (load_args_free f args t (i + 2))
 
-pub call_free : (f : Frame) (t : ℕ) (x : Handle) (args : Args) → AllFree (templates.call_items f t x args)
+pub call_free : (f : FrameShape) (t : ℕ) (x : Handle) (args : Args)
+    → AllFree (templates.call_items f t x args)
 unfolding is_free ends_or_goes is_quiet
 call_free f t x args =
     all_both (load_args f t 0 args) _ (load_args_free f args t 0)
@@ -103,7 +104,7 @@ call_free f t x args =
 mutual
   unfolding is_free is_guarded ends_or_goes is_quiet
 
-  pub code_free : (f : Frame) (e : Exp) (t : ℕ) → AllFree (code f t e)
+  pub code_free : (f : FrameShape) (e : Exp) (t : ℕ) → AllFree (code f t e)
   code_free f (Number n) t = refl
   code_free f (Load x) t = load_var_free f x
   code_free f (Element x e) t = all_both (code f t e) _ (code_free f e t) refl
@@ -113,7 +114,7 @@ mutual
       all_both (code f t a) _ (code_free f a t)
       (all_both (code f (t + 1) b) _ (code_free f b (t + 1)) (op_free o))
 
-  pub args_free : (f : Frame) (args : Args) (t i : ℕ) → AllFree (args_code f t i args)
+  pub args_free : (f : FrameShape) (args : Args) (t i : ℕ) → AllFree (args_code f t i args)
   args_free f no_args t i = refl
   args_free f (value e args) t i =
       all_both (code f (t + i) e) _ (code_free f e (t + i)) (args_free f args t (i + 1))

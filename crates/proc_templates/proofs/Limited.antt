@@ -23,8 +23,8 @@ use Rattle.component_file.specs.Limits.{StretchFits, IsComponent}
 use Rattle.call_sequence.specs.declared.TheConstants.{CALL_WORDS, SITE_WORDS}
 use Rattle.call_sequence.proofs.Offers.{near_operand, small_operand as near}
 use Rattle.call_sequence.specs.Sequences.{call_code, return_code, entry_code}
-use Rattle.proc_program.specs.declared.program.Part.{Part}
-use Rattle.proc_program.specs.declared.program.Import as program
+use Rattle.proc_program.specs.declared.program.Program.{Program}
+use Rattle.proc_program.specs.declared.program.ProgramImport as program
 use Rattle.proc_program.specs.declared.program.Procedure.{Procedure}
 use Rattle.proc_language.specs.Limits as language
 use Rattle.proc_program.specs.Limits.{register_count, registers_of, arg_registers}
@@ -303,7 +303,7 @@ module _ (spot : Spot) (low : spot.epilogue ≤ LAST_PLACE) (base : spot.stack_b
       let k = behind-least (length l.code) x in
       good_lay xs m f.1 h (good_put l x f.0 (omega (arith, h, n, e, a, k)) g)
 
-module _ (m : Part) (stack : m.stack ≤ LAST_PLACE) where
+module _ (m : Program) (stack : m.stack ≤ LAST_PLACE) where
   good_proc : (l : Laid) (p : Procedure) → ProcReady m p → length (lay_proc m l p).code ≤ MOST_WORDS → Good l
       → Good (lay_proc m l p)
   unfolding before_epilogue frame_of
@@ -332,13 +332,13 @@ globals_good : (zs : List ℤ) → language.Each (FitsSigned w64) zs → AllGood
 globals_good [] f = tt
 globals_good (z ∷ zs) f = ((f.0, tt), globals_good zs f.1)
 
-data_words_good : (m : Part) → IsPart m → AllGood (first_data m)
+data_words_good : (m : Program) → IsPart m → AllGood (first_data m)
 unfolding first_data
 data_words_good m f =
     good_both (replicate (pair_count m) (Int (pos 0))) (map int_word m.globals)
     (same_good (pair_count m) (pos 0) (record { sfits = omega arith })) (globals_good m.globals f.globals)
 
-pub data-length : (m : Part) → length (first_data m) ≡ data_count m
+pub data-length : (m : Program) → length (first_data m) ≡ data_count m
 unfolding first_data data_count
 data-length m =
     length-append (replicate (pair_count m) (Int (pos 0))) (map int_word m.globals)
@@ -347,7 +347,7 @@ data-length m =
 
 -- ---- slots
 
-imports_chain : (xs : List program.Import) (s : ℕ) (before : Option Import) (ys : List Import)
+imports_chain : (xs : List program.ProgramImport) (s : ℕ) (before : Option Import) (ys : List Import)
     → language.Each program_limits.LoweredImportFits xs → s + 2 * length xs ≤ LAST_OFFSET
     → IsTrue (ascends nat_lt (option_map (λ (b : Import). b.slot) before) s)
     → ((b : Option Import) → IsTrue
@@ -448,7 +448,7 @@ rising_less low (x ∷ xs) top l h r =
 
 -- ---- the component
 
-module _ (m : Part) (f : FitsComponent m) (named : NamesDiffer m.procs)
+module _ (m : Program) (f : FitsComponent m) (named : NamesDiffer m.procs)
     (seals : part_calls m ≤ m.header.return_count) where
   code : length (laid_of m).code ≤ MOST_WORDS
   code = let n = code-length m f in let h = f.code in omega (arith, n, h)

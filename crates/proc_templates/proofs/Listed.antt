@@ -20,7 +20,7 @@ use Rattle.call_sequence.specs.declared.TheConstants.{CALL_WORDS, SITE_WORDS, EN
 use Rattle.call_sequence.specs.Sequences.{call_code, return_code, entry_code}
 use Rattle.call_sequence.specs.Standing.{is_int, code_difference, sequence_difference, site_difference}
 use Rattle.call_sequence.specs.Standing.{is_entry}
-use Rattle.proc_program.specs.declared.program.Part.{Part}
+use Rattle.proc_program.specs.declared.program.Program.{Program}
 use Rattle.flow_check.specs.Places.{begins_entry, begins_site, declared, in_site}
 use Rattle.flow_check.specs.Lists.{k1, k2, k3, k4, site_of, site_is_bad, overlap, meets_entry, meets_site}
 use Rattle.flow_check.specs.Lists.{entry_is_bad, row_offset, of_entry, is_misplaced, lists}
@@ -84,7 +84,7 @@ broken_not k i t e h b =
 
 -- ---- the rules, where everything stands
 
-module _ (m : Part) (ready : AllReady m m.procs) (most : length (laid_of m).code ≤ MOST_WORDS) where
+module _ (m : Program) (ready : AllReady m m.procs) (most : length (laid_of m).code ≤ MOST_WORDS) where
   c : ComponentFields
   c = component_of m
 

@@ -23,8 +23,8 @@ use Rattle.component_check.specs.Rules.{c4, c5, c6, c7, c8, c9, c10, c11, c12, r
 use Rattle.component_check.specs.Rules.{slot_is_bad, slot_is_free, export_offset, words}
 use Rattle.component_check.specs.Rules.{holds_of, is_foreign, linear_in, linear_at, meet, meets_before}
 use Rattle.component_check.specs.Rules.{is_foreign_seal, is_no_int, is_at, code_at, is_over_seals, has_sites}
-use Rattle.proc_program.specs.declared.program.Part.{Part}
-use Rattle.proc_program.specs.declared.program.Import as program
+use Rattle.proc_program.specs.declared.program.Program.{Program}
+use Rattle.proc_program.specs.declared.program.ProgramImport as program
 use Rattle.proc_program.specs.declared.program.Procedure.{Procedure}
 use Rattle.flow_check.specs.Places.{begins_entry}
 use Rattle.proc_templates.specs.Items.{Spot, Item, Laid, instrs, put, lay, word_of}
@@ -80,7 +80,7 @@ tail_lay base spot (x ∷ xs) l t =
     tail_lay base spot xs (put spot l x)
     (tail_on base l.code (instrs spot (length l.code) (length l.sites) x) t)
 
-tail_procs : (m : Part) (base : List Word) (ps : List Procedure) (l : Laid) → Tail base l.code
+tail_procs : (m : Program) (base : List Word) (ps : List Procedure) (l : Laid) → Tail base l.code
     → Tail base (lay_procs m l ps).code
 tail_procs m base [] l t = t
 tail_procs m base (p ∷ ps) l t =
@@ -88,7 +88,7 @@ tail_procs m base (p ∷ ps) l t =
     (subst (λ (x : Laid). Tail base x.code) (sym (proc_laid m l p))
     (tail_lay base (spot_of m l p) (proc_code (frame_of m p) p.callbacks (block_of p.body)) l t))
 
-tail_whole : (m : Part) → Tail (head_of m).code (laid_of m).code
+tail_whole : (m : Program) → Tail (head_of m).code (laid_of m).code
 unfolding laid_of
 tail_whole m = tail_procs m (head_of m).code m.procs (head_of m)
     (record { tail = []; is = refl; ints = refl })
@@ -97,7 +97,7 @@ globals_ints : (zs : List ℤ) → AllInts (map int_word zs)
 globals_ints [] = refl
 globals_ints (z ∷ zs) = globals_ints zs
 
-data_ints : (m : Part) → AllInts (first_data m)
+data_ints : (m : Program) → AllInts (first_data m)
 unfolding first_data
 data_ints m = ints_both (replicate (pair_count m) (Int (pos 0))) (map int_word m.globals)
     (same_ints (pair_count m) (pos 0)) (globals_ints m.globals)
@@ -122,7 +122,7 @@ abbrev Stepping : ℕ → List Import → Type 0
 Stepping s [] = Unit {0}
 Stepping s (i ∷ is) = (i.slot ≡ s) × Stepping (s + 2) is
 
-imports_step : (s : ℕ) (xs : List program.Import) (ys : List Import) → Stepping (s + 2 * length xs) ys
+imports_step : (s : ℕ) (xs : List program.ProgramImport) (ys : List Import) → Stepping (s + 2 * length xs) ys
     → Stepping s (import_slots s xs ++ ys)
 imports_step s [] ys h = let e : s + 2 * 0 ≡ s = omega arith in subst (λ n. Stepping n ys) e h
 imports_step s (x ∷ xs) ys h = let e : s + 2 * suc (length xs) ≡ s + 2 + 2 * length xs = omega arith in
@@ -138,7 +138,7 @@ step_at s [] i h lt = absurd (omega (arith, lt))
 step_at s (x ∷ is) zero h lt = h.0 ∙ omega arith
 step_at s (x ∷ is) (suc i) h lt = step_at (s + 2) is i h.1 (omega (arith, lt)) ∙ omega arith
 
-pub imports_length : (s : ℕ) (xs : List program.Import) → length (import_slots s xs) ≡ length xs
+pub imports_length : (s : ℕ) (xs : List program.ProgramImport) → length (import_slots s xs) ≡ length xs
 imports_length s [] = refl
 imports_length s (x ∷ xs) = ap suc (imports_length (s + 2) xs)
 
@@ -177,7 +177,7 @@ any_offset es i h = any_true_at es i h (slice_index (map (λ e. e.offset) es) i)
     any_true_at (y ∷ es) (suc i) h x e =
         or_right (y.offset == x) (list_any (λ e. e.offset == x) es) (any_true_at es i (omega (arith, h)) x e)
 
-module _ (m : Part) (ready : AllReady m m.procs) (most : length (laid_of m).code ≤ MOST_WORDS)
+module _ (m : Program) (ready : AllReady m m.procs) (most : length (laid_of m).code ≤ MOST_WORDS)
     (seals : part_calls m ≤ m.header.return_count) where
   c : ComponentFields
   c = component_of m

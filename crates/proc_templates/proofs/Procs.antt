@@ -14,7 +14,7 @@ use Rattle.proc_program.specs.Limits.{register_count, registers_of}
 use Rattle.flow_check.specs.declared.walking.Walk.TheVariants.{Before as before}
 use Rattle.flow_check.specs.Places.{declared}
 use Rattle.flow_check.specs.Walk.{Comes}
-use Rattle.proc_templates.specs.declared.Frame.{Frame}
+use Rattle.proc_templates.specs.declared.FrameShape.{FrameShape}
 use Rattle.proc_templates.specs.Items.{Spot, Item, does, label, entry, leaves, zero_of, FAIL_AT}
 use Rattle.proc_templates.specs.Templates.{block_words, block_code, arguments, check_words, checks_words}
 use Rattle.proc_templates.specs.Templates.{check_param, check_params, pushed, push, wipe, take_back, epilogue}
@@ -128,11 +128,11 @@ entry_size xs n l = record { by = λ q. l.by (q + ENTRY_WORDS) ∙ omega arith }
 -- ---- the whole
 
 -- the numbers of a frame are in order: the parameters' slots are among its words
-pub record FrameFits (f : Frame) (params : List Bool) : Type 0 where
+pub record FrameFits (f : FrameShape) (params : List Bool) : Type 0 where
   pub few : registers_of params ≤ 4
   pub room : 2 + registers_of params ≤ f.words
 
-module _ (f : Frame) (params : List Bool) (fits : FrameFits f params) where
+module _ (f : FrameShape) (params : List Bool) (fits : FrameFits f params) where
   head-size : Long (push (pushed (registers_of params) f.words)) (2 * f.words)
   head-size = same_size _ _ _ (ap (λ n. 2 * n)
       (pushed-length (registers_of params) f.words fits.few fits.room))
@@ -169,7 +169,7 @@ module _ (c : ComponentFields) (fails : c.fail_at ≡ Some FAIL_AT) (spot : Spot
       subst (λ z. Comes c (before z None)) (sym e)
       (over_leaves c spot (after q Y) (carries_right c spot q Y (leaves ∷ []) hy) on2)
 
-  pub over_proc : (f : Frame) (params : List Bool) (body : Block) → FrameFits f params → (o : ℕ)
+  pub over_proc : (f : FrameShape) (params : List Bool) (body : Block) → FrameFits f params → (o : ℕ)
       → spot.epilogue ≡ o + before_epilogue f params body
       → Carries c spot o (proc_code f params body) → Comes c (before o None)
       → Comes c (before (after o (proc_code f params body)) None)

@@ -5,15 +5,16 @@ use Rattle.std.proofs.lemmas.List.Sums.{sum_by-cons}
 use Rattle.component_file.specs.declared.TheConstants.{MOST_WORDS}
 use Rattle.flow_check.specs.Verdict.{IsKept}
 use Rattle.proc_language.specs.Limits.{Each}
-use Rattle.proc_program.specs.declared.program.Place.{Place}
-use Rattle.proc_program.specs.declared.program.Place.TheVariants.{Local, Global}
+use Rattle.proc_program.specs.declared.program.Location.{Location}
+use Rattle.proc_program.specs.declared.program.Location.TheVariants.{Local, Global}
 use Rattle.proc_program.specs.declared.program.Handle.{Handle}
 use Rattle.proc_program.specs.declared.program.Handle.TheVariants.{Given, Own, Imported}
-use Rattle.proc_program.specs.declared.program.Row.{Row}
+use Rattle.proc_program.specs.declared.program.Array.{Array}
 use Rattle.proc_program.specs.declared.program.Procedure.{Procedure}
-use Rattle.proc_program.specs.declared.program.Part.{Part}
+use Rattle.proc_program.specs.declared.program.Program.{Program}
 use Rattle.proc_program.specs.Program.{Exp, Number, Load, Element, Call, Binary, Args, no_args, value, pass}
-use Rattle.proc_program.specs.Program.{Step, Set, SetAt, Do, If, While, Return, Halt, Block, no_steps, step}
+use Rattle.proc_program.specs.Program.{Statement, Set, SetAt, Do, If, While, Return, Halt}
+use Rattle.proc_program.specs.Program.{Block, no_steps, step}
 use Rattle.proc_program.specs.StepView.{block_of}
 use Rattle.proc_program.specs.Calls.{part_calls}
 use Rattle.proc_program.specs.Limits.{scope_of, PlaceFits, RowFits, HandleFits, ExpFits, ArgsFit, StepFits}
@@ -32,17 +33,17 @@ use Rattle.proc_templates.proofs.OwnRules.{own_kept}
 
 -- ---- places
 
-module _ (m : Part) (most : data_count m ≤ MOST_WORDS) (p : Procedure) where
+module _ (m : Program) (most : data_count m ≤ MOST_WORDS) (p : Procedure) where
   data_most : 2 * (length m.imports + length m.procs) + length m.globals ≤ MOST_WORDS
   unfolding data_count
   data_most = most
 
-  place_bound : (x : Place) → PlaceFits (scope_of m) x → PlaceBound (frame_of m p) x
+  place_bound : (x : Location) → PlaceFits (scope_of m) x → PlaceBound (frame_of m p) x
   unfolding frame_of
   place_bound (Local i) h = omega (arith, h)
   place_bound (Global o) h = let k = data_most in omega (arith, h, k)
 
-  row_bound : (r : Row) → RowFits (scope_of m) r → RowBound (frame_of m p) r
+  row_bound : (r : Array) → RowFits (scope_of m) r → RowBound (frame_of m p) r
   unfolding frame_of
   row_bound r h = let k = data_most in (omega (arith, h, k), omega (arith, h, k))
 
@@ -66,7 +67,7 @@ module _ (m : Part) (most : data_count m ≤ MOST_WORDS) (p : Procedure) where
     args_bound (pass h xs) w = (handle_bound h w.0, args_bound xs w.1)
 
   mutual
-    step_bound : (s : Step) → StepFits (scope_of m) s → StepBound (frame_of m p) s
+    step_bound : (s : Statement) → StepFits (scope_of m) s → StepBound (frame_of m p) s
     step_bound (Set x e) w = (place_bound x w.0, exp_bound e w.1)
     step_bound (SetAt r i e) w = (row_bound r w.0, exp_bound i w.1, exp_bound e w.2)
     step_bound (Do e) w = exp_bound e w
@@ -92,7 +93,7 @@ module _ (m : Part) (most : data_count m ≤ MOST_WORDS) (p : Procedure) where
             (block_bound (block_of p.body) w.body) (omega (arith, e, g))).by;
       }
 
-readies : (m : Part) → data_count m ≤ MOST_WORDS → (ps : List Procedure)
+readies : (m : Program) → data_count m ≤ MOST_WORDS → (ps : List Procedure)
     → Each (ProcedureFits (scope_of m)) ps
     → sum_by size_of_proc ps ≤ MOST_WORDS → AllReady m ps
 readies m most [] w h = tt
@@ -100,20 +101,20 @@ readies m most (p ∷ ps) w h =
     let e = sum_by-cons size_of_proc p ps in
     (ready_proc m most p w.0 (omega (arith, e, h)), readies m most ps w.1 (omega (arith, e, h)))
 
-pub ready : (m : Part) → FitsComponent m → AllReady m m.procs
+pub ready : (m : Program) → FitsComponent m → AllReady m m.procs
 unfolding code_words
 ready m f = let h = f.code in readies m f.data_words m.procs f.limits.procs.1 (omega (arith, h))
 
-pub code-length : (m : Part) → FitsComponent m → length (laid_of m).code ≡ code_words m
+pub code-length : (m : Program) → FitsComponent m → length (laid_of m).code ≡ code_words m
 unfolding laid_of code_words
 code-length m f = procs-length m m.procs (head_of m) (ready m f)
 
-code-most : (m : Part) → FitsComponent m → length (laid_of m).code ≤ MOST_WORDS
+code-most : (m : Program) → FitsComponent m → length (laid_of m).code ≤ MOST_WORDS
 code-most m f = let e = code-length m f in let h = f.code in omega (arith, e, h)
 
-pub keeps_flow : (m : Part) → FitsComponent m → IsKept (component_of m)
+pub keeps_flow : (m : Program) → FitsComponent m → IsKept (component_of m)
 keeps_flow m f = flow_kept m (ready m f) (code-most m f)
 
-pub keeps_own : (m : Part) → FitsComponent m → part_calls m ≤ m.header.return_count → KeepsOwnRules
+pub keeps_own : (m : Program) → FitsComponent m → part_calls m ≤ m.header.return_count → KeepsOwnRules
     (component_of m)
 keeps_own m f seals = own_kept m (ready m f) (code-most m f) seals

@@ -8,14 +8,15 @@ use Rattle.call_sequence.specs.declared.TheConstants.{SITE_WORDS}
 use Rattle.proc_language.specs.declared.tree.Op.{Op}
 use Rattle.proc_language.specs.declared.tree.Op.TheVariants as operator
 use Rattle.proc_program.specs.Program.{Exp, Number, Load, Element, Call, Binary, Args, no_args, value, pass}
-use Rattle.proc_program.specs.Program.{Step, Set, SetAt, Do, If, While, Return, Halt, Block, no_steps, step}
+use Rattle.proc_program.specs.Program.{Statement, Set, SetAt, Do, If, While, Return, Halt}
+use Rattle.proc_program.specs.Program.{Block, no_steps, step}
 use Rattle.proc_program.specs.Limits.{arg_registers}
 use Rattle.proc_templates.specs.Items.{Item, does, guards, goes, goes_if, finishes, label, site, zero_of}
-use Rattle.proc_program.specs.declared.program.Place.{Place}
-use Rattle.proc_program.specs.declared.program.Place.TheVariants.{Local, Global}
+use Rattle.proc_program.specs.declared.program.Location.{Location}
+use Rattle.proc_program.specs.declared.program.Location.TheVariants.{Local, Global}
 use Rattle.proc_program.specs.declared.program.Handle.{Handle}
 use Rattle.proc_program.specs.declared.program.Handle.TheVariants.{Given, Own, Imported}
-use Rattle.proc_templates.specs.declared.Frame.{Frame}
+use Rattle.proc_templates.specs.declared.FrameShape.{FrameShape}
 use Rattle.proc_templates.specs.Templates as templates
 use Rattle.proc_templates.specs.Sums.{values_words, loads_words, after_values}
 use Rattle.proc_templates.specs.Templates.{pair_words, op_words, exp_words, args_words, step_words}
@@ -68,18 +69,18 @@ calls_there xs n l = record { by = λ q. l.by (q + SITE_WORDS) ∙ omega arith }
 three : (a b d : Instr) → Long (does a ∷ does b ∷ does d ∷ []) 3
 three a b d = one a _ 2 (one b _ 1 (one d [] 0 nothing))
 
-load_var-size : (f : Frame) (p : Place) → Long (load_var f p) 3
+load_var-size : (f : FrameShape) (p : Location) → Long (load_var f p) 3
 load_var-size f (Local i) = three _ _ _
 load_var-size f (Global o) = three _ _ _
 
-store_var-size : (f : Frame) (p : Place) → Long (store_var f p) 3
+store_var-size : (f : FrameShape) (p : Location) → Long (store_var f p) 3
 store_var-size f (Local i) = three _ _ _
 store_var-size f (Global o) = three _ _ _
 
 linked-size : (k : ℕ) (r q : Reg) → Long (templates.load_linked k r q) 5
 linked-size k r q = one _ _ 4 (one _ _ 3 (three _ _ _))
 
-pair-size : (f : Frame) (h : Handle) (r q : Reg) → Long (load_pair f h r q) (pair_words h)
+pair-size : (f : FrameShape) (h : Handle) (r q : Reg) → Long (load_pair f h r q) (pair_words h)
 pair-size f (Given i) r q = both _ _ 3 3 (three _ _ _) (three _ _ _)
 pair-size f (Own j) r q = linked-size (2 * (f.imports + j)) r q
 pair-size f (Imported k) r q = linked-size (2 * k) r q
@@ -119,14 +120,14 @@ args-split no_args = refl
 args-split (value e xs) = let h = args-split xs in omega (arith, h)
 args-split (pass h xs) = let g = args-split xs in omega (arith, g)
 
-load_args-size : (f : Frame) (args : Args) (t i : ℕ) → Long (load_args f t i args) (loads_words args)
+load_args-size : (f : FrameShape) (args : Args) (t i : ℕ) → Long (load_args f t i args) (loads_words args)
 load_args-size f no_args t i = nothing
 load_args-size f (value e args) t i =
     both _ _ 3 (loads_words args) (three _ _ _) (load_args-size f args t (i + 1))
 load_args-size f (pass x args) t i =
     both _ _ (pair_words x) (loads_words args) (pair-size f x _ _) (load_args-size f args t (i + 2))
 
-call-size : (f : Frame) (t : ℕ) (h : Handle) (xs : Args)
+call-size : (f : FrameShape) (t : ℕ) (h : Handle) (xs : Args)
     → Long (templates.call_items f t h xs) (after_values h xs)
 call-size f t h xs =
     same_size _ _ _ (omega arith)
@@ -136,7 +137,7 @@ call-size f t h xs =
     (both _ _ _ _ (pair-size f h C1 C2) (both _ _ 3 _ (three _ _ _) (calls_there _ 1 (one _ _ 0 nothing))))))
 
 mutual
-  pub code-size : (f : Frame) (e : Exp) (t : ℕ) → Long (code f t e) (exp_words e)
+  pub code-size : (f : FrameShape) (e : Exp) (t : ℕ) → Long (code f t e) (exp_words e)
   code-size f (Number n) t = one _ _ 0 nothing
   code-size f (Load x) t = load_var-size f x
   code-size f (Element x e) t = both _ _ (exp_words e) 15 (code-size f e t)
@@ -152,7 +153,7 @@ mutual
       (both _ _ 3 _ (three _ _ _) (both _ _ (exp_words b) _ (code-size f b (t + 1))
       (one _ _ _ (both _ _ 3 (op_words o - 7) (three _ _ _) (op-size o))))))
 
-  values-size : (f : Frame) (args : Args) (t i : ℕ) → Long (args_code f t i args) (values_words args)
+  values-size : (f : FrameShape) (args : Args) (t i : ℕ) → Long (args_code f t i args) (values_words args)
   values-size f no_args t i = nothing
   values-size f (value e args) t i =
       both _ _ (exp_words e) _ (code-size f e (t + i))
@@ -168,7 +169,7 @@ if-size cs bs ds x m n c b d =
     (jump _ _ _ (mark _ _ (both ds _ n _ d (mark _ _ nothing)))))))))
 
 mutual
-  pub stmt-size : (f : Frame) (s : Step) → Long (step_code f s) (step_words s)
+  pub stmt-size : (f : FrameShape) (s : Statement) → Long (step_code f s) (step_words s)
   stmt-size f (Set x e) = both _ _ (exp_words e) 3 (code-size f e _) (store_var-size f x)
   stmt-size f (SetAt x i e) =
       same_size _ _ _ (omega arith)
@@ -186,6 +187,6 @@ mutual
   stmt-size f (Return e) = both _ _ (exp_words e) 4 (code-size f e _) (one _ _ 3 (jump_out _ 0 nothing))
   stmt-size f (Halt e) = both _ _ (exp_words e) 2 (code-size f e _) (one _ _ 1 (one _ _ 0 nothing))
 
-  pub block-size : (f : Frame) (b : Block) → Long (block_code f b) (block_words b)
+  pub block-size : (f : FrameShape) (b : Block) → Long (block_code f b) (block_words b)
   block-size f no_steps = nothing
   block-size f (step s b) = both _ _ (step_words s) (block_words b) (stmt-size f s) (block-size f b)

@@ -5,7 +5,7 @@ use Rattle.std.specs.Prelude.{sum_by}
 use Rattle.std.proofs.lemmas.List.Sums.{sum_by-cons}
 use Rattle.component_file.specs.declared.TheConstants.{LAST_OFFSET, MOST_WORDS}
 use Rattle.component_file.specs.declared.component.ComponentFields.{ComponentFields}
-use Rattle.proc_program.specs.declared.program.Part.{Part}
+use Rattle.proc_program.specs.declared.program.Program.{Program}
 use Rattle.proc_program.specs.declared.program.Procedure.{Procedure}
 use Rattle.proc_program.specs.StepView.{block_of}
 use Rattle.flow_check.specs.declared.walking.Walk.TheVariants.{Before as before, Ended as ended}
@@ -20,23 +20,23 @@ use Rattle.proc_templates.proofs.Laying.{Rest, Sound, rest_lay, sound_lay, lay-l
 use Rattle.proc_templates.proofs.Standing.{carries, within_here}
 
 -- a procedure whose numbers fit
-pub record ProcReady (m : Part) (p : Procedure) : Type 0 where
+pub record ProcReady (m : Program) (p : Procedure) : Type 0 where
   pub frame : FrameFits (frame_of m p) p.callbacks
   pub items : ItemsFit (proc_code (frame_of m p) p.callbacks (block_of p.body))
 
-abbrev pub AllReady : Part → List Procedure → Type 0
+abbrev pub AllReady : Program → List Procedure → Type 0
 AllReady m [] = Unit {0}
 AllReady m (p ∷ ps) = ProcReady m p × AllReady m ps
 
 -- where a procedure stands
-abbrev pub spot_of : Part → Laid → Procedure → Spot
+abbrev pub spot_of : Program → Laid → Procedure → Spot
 spot_of m l p = record {
   stack_base = m.stack;
   epilogue = length l.code + before_epilogue
       (frame_of m p) p.callbacks (block_of p.body);
 }
 
-module _ (m : Part) where
+module _ (m : Program) where
   pub proc_laid : (l : Laid) (p : Procedure)
       → lay_proc m l p ≡ lay (spot_of m l p) l (proc_code (frame_of m p) p.callbacks (block_of p.body))
   unfolding lay_proc

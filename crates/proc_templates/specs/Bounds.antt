@@ -2,22 +2,23 @@
 use Rattle.std.specs.Prelude.{◌+◌, ◌*◌, ◌≤◌}
 use Rattle.cap_words.specs.declared.TheConstants.{LAST_PLACE}
 use Rattle.proc_language.specs.declared.TheConstants.{LARGEST_LITERAL, MOST_REGISTERS}
-use Rattle.proc_program.specs.declared.program.Place.{Place}
-use Rattle.proc_program.specs.declared.program.Place.TheVariants.{Local, Global}
+use Rattle.proc_program.specs.declared.program.Location.{Location}
+use Rattle.proc_program.specs.declared.program.Location.TheVariants.{Local, Global}
 use Rattle.proc_program.specs.declared.program.Handle.{Handle}
 use Rattle.proc_program.specs.declared.program.Handle.TheVariants.{Given, Own, Imported}
-use Rattle.proc_program.specs.declared.program.Row.{Row}
+use Rattle.proc_program.specs.declared.program.Array.{Array}
 use Rattle.proc_program.specs.Program.{Exp, Number, Load, Element, Call, Binary, Args, no_args, value, pass}
-use Rattle.proc_program.specs.Program.{Step, Set, SetAt, Do, If, While, Return, Halt, Block, no_steps, step}
+use Rattle.proc_program.specs.Program.{Statement, Set, SetAt, Do, If, While, Return, Halt}
+use Rattle.proc_program.specs.Program.{Block, no_steps, step}
 use Rattle.proc_program.specs.Limits.{arg_registers}
-use Rattle.proc_templates.specs.declared.Frame.{Frame}
+use Rattle.proc_templates.specs.declared.FrameShape.{FrameShape}
 
-module _ (f : Frame) where
-  abbrev pub PlaceBound : Place → Type 0
+module _ (f : FrameShape) where
+  abbrev pub PlaceBound : Location → Type 0
   PlaceBound (Local i) = i + 2 ≤ LAST_PLACE
   PlaceBound (Global o) = f.pairs + o ≤ LAST_PLACE
 
-  abbrev pub RowBound : Row → Type 0
+  abbrev pub RowBound : Array → Type 0
   RowBound r = (f.pairs + r.first ≤ LAST_PLACE) × (r.length ≤ LAST_PLACE)
 
   abbrev pub HandleBound : Handle → Type 0
@@ -39,7 +40,7 @@ module _ (f : Frame) where
     ArgsBound (pass h xs) = HandleBound h × ArgsBound xs
 
   abbrev mutual
-    pub StepBound : Step → Type 0
+    pub StepBound : Statement → Type 0
     StepBound (Set x e) = PlaceBound x × ExpBound e
     StepBound (SetAt r i e) = RowBound r × ExpBound i × ExpBound e
     StepBound (Do e) = ExpBound e

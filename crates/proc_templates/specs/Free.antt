@@ -4,7 +4,7 @@ use Rattle.std.specs.List.{list_all}
 use Rattle.lcm_isa.specs.declared.Reg.TheVariants.{T2}
 use Rattle.lcm_isa.specs.declared.Instr.{Instr}
 use Rattle.lcm_isa.specs.declared.Instr.TheVariants.{Halt, Jnz}
-use Rattle.call_sequence.specs.declared.TheConstants.{SITE_WORDS, ENTRY_WORDS}
+use Rattle.call_sequence.specs.declared.TheConstants.{RETURN_WORDS, SITE_WORDS, ENTRY_WORDS}
 use Rattle.proc_templates.specs.Items.{Item, does, guards, goes, goes_if, finishes, label, site, entry}
 use Rattle.proc_templates.specs.Items.{leaves}
 use Rattle.proc_templates.specs.Ready.{is_low, is_quiet}
@@ -35,7 +35,7 @@ behind o finishes = o + 3
 behind o label = o
 behind o site = o + SITE_WORDS
 behind o entry = o + ENTRY_WORDS
-behind o leaves = o + 10
+behind o leaves = o + RETURN_WORDS
 
 abbrev pub after : ℕ → List Item → ℕ
 after o [] = o

@@ -12,15 +12,16 @@ use Rattle.call_sequence.specs.declared.TheConstants.{SITE_WORDS, ENTRY_WORDS}
 use Rattle.call_sequence.specs.Sequences.{distance}
 use Rattle.proc_language.specs.declared.tree.Op.{Op}
 use Rattle.proc_language.specs.declared.tree.Op.TheVariants as operator
-use Rattle.proc_program.specs.declared.program.Place.{Place}
-use Rattle.proc_program.specs.declared.program.Place.TheVariants.{Local, Global}
+use Rattle.proc_program.specs.declared.program.Location.{Location}
+use Rattle.proc_program.specs.declared.program.Location.TheVariants.{Local, Global}
 use Rattle.proc_program.specs.declared.program.Handle.{Handle}
 use Rattle.proc_program.specs.declared.program.Handle.TheVariants.{Given, Own, Imported}
-use Rattle.proc_program.specs.declared.program.Row.{Row}
+use Rattle.proc_program.specs.declared.program.Array.{Array}
 use Rattle.proc_program.specs.Program.{Exp, Number, Load, Element, Call, Binary, Args, no_args, value, pass}
-use Rattle.proc_program.specs.Program.{Step, Set, SetAt, Do, If, While, Return, Halt, Block, no_steps, step}
+use Rattle.proc_program.specs.Program.{Statement, Set, SetAt, Do, If, While, Return, Halt}
+use Rattle.proc_program.specs.Program.{Block, no_steps, step}
 use Rattle.proc_program.specs.Limits.{register_count, registers_of, arg_registers}
-use Rattle.proc_templates.specs.declared.Frame.{Frame}
+use Rattle.proc_templates.specs.declared.FrameShape.{FrameShape}
 use Rattle.proc_templates.specs.Items.{Item, does, guards, goes, goes_if, finishes, label, site, entry}
 use Rattle.proc_templates.specs.Items.{leaves}
 use Rattle.proc_templates.specs.Items.{zero_of}
@@ -53,7 +54,7 @@ abbrev mutual
   args_words (pass h xs) = pair_words h + args_words xs
 
 abbrev mutual
-  pub step_words : Step → ℕ
+  pub step_words : Statement → ℕ
   step_words (Set x e) = exp_words e + 3
   step_words (SetAt r i e) = exp_words i + exp_words e + 21
   step_words (Do e) = exp_words e
@@ -68,25 +69,25 @@ abbrev mutual
 
 -- ---- slots of the frame, and words of the data
 
-abbrev pub at_slot : Frame → ℕ → Instr → List Item
+abbrev pub at_slot : FrameShape → ℕ → Instr → List Item
 at_slot f j i =
     does (Cca Stk (Imm (distance j f.words))) ∷ does i ∷ does (Cca Stk (Imm (distance f.words j))) ∷ []
 
 abbrev pub at_glob : ℕ → Instr → List Item
 at_glob o i = does (Cca Dat (Imm (pos o))) ∷ does i ∷ does (Cca Dat (Imm (distance o 0))) ∷ []
 
-abbrev pub load_slot : Frame → ℕ → Reg → List Item
+abbrev pub load_slot : FrameShape → ℕ → Reg → List Item
 load_slot f j r = at_slot f j (instr.Load r Stk)
 
-abbrev pub store_slot : Frame → ℕ → Reg → List Item
+abbrev pub store_slot : FrameShape → ℕ → Reg → List Item
 store_slot f j r = at_slot f j (Store Stk r)
 
 -- the two words of the return come first in a frame, the words of pairs first among the data
-abbrev pub load_var : Frame → Place → List Item
+abbrev pub load_var : FrameShape → Location → List Item
 load_var f (Local i) = load_slot f (i + 2) G0
 load_var f (Global o) = at_glob (f.pairs + o) (instr.Load G0 Dat)
 
-abbrev pub store_var : Frame → Place → List Item
+abbrev pub store_var : FrameShape → Location → List Item
 store_var f (Local i) = store_slot f (i + 2) G0
 store_var f (Global o) = at_glob (f.pairs + o) (Store Dat G0)
 
@@ -106,7 +107,7 @@ abbrev pub at_element : ℕ → ℕ → Instr → List Item
 at_element o length i =
     check_index length ∷ does (Plus G0 G0 (Imm (pos o))) ∷ does (Cca Dat (R G0)) ∷ does i ∷ from_element
 
-abbrev pub at_row : Frame → Row → Instr → List Item
+abbrev pub at_row : FrameShape → Array → Instr → List Item
 at_row f r i = at_element (f.pairs + r.first) r.length i
 
 -- the pair in two words of the data
@@ -116,7 +117,7 @@ load_linked s r q =
     ∷ does (instr.Load q Dat) ∷ does (Cca Dat (Imm (distance (s + 1) 0))) ∷ []
 
 -- the pairs of imports come first, then those of own procedures
-abbrev pub load_pair : Frame → Handle → Reg → Reg → List Item
+abbrev pub load_pair : FrameShape → Handle → Reg → Reg → List Item
 load_pair f (Given i) r q = load_slot f (i + 2) r ++ load_slot f (i + 3) q
 load_pair f (Own j) r q = load_linked (2 * (f.imports + j)) r q
 load_pair f (Imported k) r q = load_linked (2 * k) r q
@@ -138,7 +139,7 @@ abbrev pub argument : ℕ → Reg
 argument i = slice_index_or arguments i A3
 
 -- arguments come into their registers, values from the slots from t on
-abbrev pub load_args : Frame → ℕ → ℕ → Args → List Item
+abbrev pub load_args : FrameShape → ℕ → ℕ → Args → List Item
 load_args f t i no_args = []
 load_args f t i (value e xs) = load_slot f (t + i) (argument i) ++ load_args f t (i + 1) xs
 load_args f t i (pass h xs) = load_pair f h (argument i) (argument (i + 1)) ++ load_args f t (i + 2) xs
@@ -147,14 +148,14 @@ abbrev pub zeros : List Reg → List Item
 zeros rs = map (λ r. does (zero_of r)) rs
 
 -- a call, once the values of its arguments stand in slots from t on
-abbrev pub call_items : Frame → ℕ → Handle → Args → List Item
+abbrev pub call_items : FrameShape → ℕ → Handle → Args → List Item
 call_items f t h xs =
     load_args f t 0 xs ++ (zeros (drop (arg_registers xs) arguments)
     ++ (load_pair f h C1 C2 ++ (zeros (G0 ∷ G1 ∷ G2 ∷ []) ++ (site ∷ does (Plus G0 A0 (Imm (pos 0))) ∷ []))))
 
 -- an expression's value comes into g0; t is the first slot that is free
 abbrev mutual
-  pub code : Frame → ℕ → Exp → List Item
+  pub code : FrameShape → ℕ → Exp → List Item
   code f t (Number n) = does (Move G0 (Imm (pos n))) ∷ []
   code f t (Load x) = load_var f x
   code f t (Element r e) = code f t e ++ (at_row f r (instr.Load G1 Dat) ++ (does (Move G0 (R G1)) ∷ []))
@@ -164,7 +165,7 @@ abbrev mutual
       ++ (does (Move G1 (R G0)) ∷ (load_slot f t G0 ++ op_code o))))
 
   -- the values of arguments, each in its slot
-  pub args_code : Frame → ℕ → ℕ → Args → List Item
+  pub args_code : FrameShape → ℕ → ℕ → Args → List Item
   args_code f t i no_args = []
   args_code f t i (value e xs) =
       code f (t + i) e ++ (store_slot f (t + i) G0 ++ args_code f t (i + 1) xs)
@@ -190,7 +191,7 @@ while_code c k b m =
     ∷ label ∷ []))))
 
 abbrev mutual
-  pub step_code : Frame → Step → List Item
+  pub step_code : FrameShape → Statement → List Item
   step_code f (Set x e) = code f f.temps e ++ store_var f x
   step_code f (SetAt r i e) =
       code f f.temps i ++ (store_slot f f.temps G0 ++ (code f (f.temps + 1) e
@@ -202,7 +203,7 @@ abbrev mutual
   step_code f (Return e) = code f f.temps e ++ (does answer ∷ finishes ∷ [])
   step_code f (Halt e) = code f f.temps e ++ (does answer ∷ does instr.Halt ∷ [])
 
-  pub block_code : Frame → Block → List Item
+  pub block_code : FrameShape → Block → List Item
   block_code f no_steps = []
   block_code f (step s b) = step_code f s ++ block_code f b
 
@@ -250,13 +251,13 @@ take_back r = does (Cca Stk (Imm (pos 1))) ∷ does (instr.Load r Stk) ∷ does 
 abbrev pub epilogue : ℕ → List Item
 epilogue w = does (zero_of T1) ∷ (wipe (w - 2) ++ (take_back Rdata ++ (take_back Rcode ++ (leaves ∷ []))))
 
-abbrev pub proc_code : Frame → List Bool → Block → List Item
+abbrev pub proc_code : FrameShape → List Bool → Block → List Item
 proc_code f params body =
     entry ∷ (check_params 0 params ++ (push (pushed (registers_of params) f.words)
     ++ (block_code f body ++ (does (zero_of A0) ∷ label ∷ epilogue f.words))))
 
 -- the words before the epilogue, and all
-unfoldable pub before_epilogue : Frame → List Bool → Block → ℕ
+unfoldable pub before_epilogue : FrameShape → List Bool → Block → ℕ
 before_epilogue f params body = ENTRY_WORDS + checks_words params + 2 * f.words + block_words body + 1
 
 -- with a frame of so many words

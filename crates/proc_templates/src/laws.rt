@@ -4,7 +4,7 @@ ghost use Rattle.component_file.specs.Limits.{IsComponent};
 ghost use Rattle.flow_check.specs.Verdict.{IsKept};
 ghost use Rattle.proc_language.specs.declared.module.ModuleFields.{ModuleFields};
 ghost use Rattle.proc_names.specs.NameFaults.{name_faults};
-ghost use Rattle.proc_program.specs.declared.program.Part.{Part};
+ghost use Rattle.proc_program.specs.declared.program.Program.{Program};
 ghost use Rattle.proc_program.specs.Calls.{part_calls};
 ghost use Rattle.proc_program.specs.Lower.{part_of};
 ghost use Rattle.proc_templates.specs.Compiled.{component_of};
@@ -15,10 +15,10 @@ ghost use Rattle.proc_templates.specs.Kept.{FitsComponent, NamesDiffer, KeepsOwn
 /// components.
 #[tactic(auto, using(crate::proofs::Readies::keeps_flow, crate::proofs::Readies::keeps_own, crate::proofs::Limited::limits_kept))]
 pub fn components_keep_rules()
-    ensures flow { (m : Part) → FitsComponent m → IsKept (component_of m) }
-    ensures own { (m : Part) → FitsComponent m → part_calls m ≤ m.header.return_count
+    ensures flow { (m : Program) → FitsComponent m → IsKept (component_of m) }
+    ensures own { (m : Program) → FitsComponent m → part_calls m ≤ m.header.return_count
         → KeepsOwnRules (component_of m) }
-    ensures limits { (m : Part) → FitsComponent m → NamesDiffer m.procs → part_calls m ≤ m.header.return_count
+    ensures limits { (m : Program) → FitsComponent m → NamesDiffer m.procs → part_calls m ≤ m.header.return_count
         → IsComponent (component_of m) }
 {}
 
@@ -31,5 +31,5 @@ pub fn names_differ()
 /// A component has a site for each call of its program.
 #[tactic(auto, using(crate::proofs::Counted::component_sites))]
 pub fn sites_are_counted()
-    ensures { (m : Part) → length (component_of m).sites ≡ part_calls m }
+    ensures { (m : Program) → length (component_of m).sites ≡ part_calls m }
 {}

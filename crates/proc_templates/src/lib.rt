@@ -9,7 +9,7 @@ pub mod laws;
 
 /// A procedure's frame, and where the data of its module begin.
 #[derive(Clone, Copy, Debug, PartialEq, Eq)]
-pub struct Frame {
+pub struct FrameShape {
     /// The words of the frame.
     pub words: u32,
     /// The slot of the first temporary: before it stand the two words of the return, the parameters

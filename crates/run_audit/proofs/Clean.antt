@@ -17,7 +17,7 @@ use Rattle.run_audit.specs.Audit.{followed}
 use Rattle.run_audit.specs.Traces.{InPlace, AreInPlace, lets_pass, IsWide, HasWidth, HaveWidth, LiesBelow}
 use Rattle.run_audit.specs.Traces.{AreApart, entered_by, Spoils, misplaced, call_width, ret_width, overlaps}
 use Rattle.run_audit.specs.Traces.{unopened, differs}
-use Rattle.run_audit.proofs.Same.{told_decides}
+use Rattle.run_audit.proofs.Same.{told_decides, told_same}
 use Rattle.run_audit.proofs.Grammar.{then_leads}
 
 abbrev pub at : List ToldSeen → Bool → OpenSeen
@@ -172,7 +172,7 @@ pub record Clean (calls : List ToldSeen) (entered : Bool) (ls : List Line) (u : 
   pub entered_is : u.entered ≡ entered_by entered ls
 
 -- what is followed by one line that goes
-first_went : (r : Result OpenSeen AuditFault) (f : OpenSeen → Result OpenSeen AuditFault) (u : OpenSeen)
+pub first_went : (r : Result OpenSeen AuditFault) (f : OpenSeen → Result OpenSeen AuditFault) (u : OpenSeen)
     → audit_on r f ≡ Ok u → (s : OpenSeen) × (r ≡ Ok s) × (f s ≡ Ok u)
 first_went (Ok s) f u h = (s, refl, h)
 first_went (Err e) f u h = absurd cc
@@ -251,9 +251,6 @@ newest_above : (t : ToldSeen) (calls : List ToldSeen) → LiesBelow t calls → 
 newest_above t [] h = refl
 newest_above t (g ∷ gs) h = lt-ltb _ _ h.0
 
-same : (t : ToldSeen) → same_told t t ≡ true
-same t = (told_decides t t).1 refl
-
 pub follow_clean : (ls : List Line) (calls now : List ToldSeen) (entered : Bool) (n : ℕ)
     → AreInPlace entered ls → Leads calls ls now → HaveWidth ls → AreApart calls ls
     → followed (at calls entered) n ls ≡ Ok (at now (entered_by entered ls))
@@ -270,7 +267,7 @@ follow_clean (Call t ∷ ls) calls now entered n place (goes_by o r) wide apart 
 follow_clean (Ret t ∷ ls) calls now entered n place (goes_by o r) wide apart = elim o [ ]
 follow_clean (Ret t ∷ ls) _ now entered n place (closes {before = before} r) wide apart =
     let w = wide_true t wide.0 in
-    let b = same t in
+    let b = told_same t in
     rw (w, b)
     (follow_clean ls before now false (n + 1) place.1 r wide.1
     (λ front back u at_now e k. apart (Ret t ∷ front) back u at_now (ap (λ xs. Ret t ∷ xs) e) (closes k)))

@@ -38,3 +38,6 @@ told_decides a b = (
       (texts_decide a.words b.words).1 (ap (λ (t : ToldSeen). t.words) e) in
       rw (part, site, base, last, words) refl,
 )
+
+pub told_same : (t : ToldSeen) → same_told t t ≡ true
+told_same t = (told_decides t t).1 refl

@@ -4,7 +4,7 @@ use Rattle.std.proofs.Common.{Some}
 use Rattle.std.proofs.Common.{None, Result, Ok, Err, refl, sym, ap, ◌∙◌, subst, arith}
 use Rattle.std.specs.Prelude.{if◌then◌else◌}
 use Rattle.line_fields.specs.Fields.{field, lines, is_none_left}
-use Rattle.line_fields.proofs.Offers.{parts_len}
+use Rattle.line_fields.proofs.Offers.{next_line, parts_len}
 use Rattle.run_audit.specs.declared.fault.AuditFault.{AuditFault}
 use Rattle.run_audit.specs.declared.fault.AuditFault.TheVariants.{Form, Width, Overlap, Unopened, Mismatch}
 use Rattle.run_audit.specs.declared.fault.AuditFault.TheVariants.{NoMemory}
@@ -45,15 +45,6 @@ judged_event s n Leave rest f h = refl
 -- ---- what is left, taken line by line
 
 -- the next line, and those behind it
-next_line : (left : List (List ℕ)) (line : List ℕ) (rest : List (List ℕ)) → field left ≡ Some (line, rest)
-    → left ≡ line ∷ rest
-next_line [] line rest h = absurd (let k : None ≡ Some (line, rest) = h in cc)
-next_line (t ∷ ts) line rest h =
-    let both : (t, ts) ≡ (line, rest) = cc in
-    let one : t ≡ line = ap (λ (p : List ℕ × List (List ℕ)). p.0) both in
-    let two : ts ≡ rest = ap (λ (p : List ℕ × List (List ℕ)). p.1) both in
-    λ i. one i ∷ two i
-
 some_left : (ts : List (List ℕ)) → is_none_left ts ≡ false → 0 < length ts
 some_left [] h = absurd cc
 some_left (t ∷ ts) h = omega arith

@@ -15,7 +15,7 @@ mod told;
 pub use auditing::audit;
 pub use fault::AuditFault;
 pub use line::Line;
-pub use told::Told;
+pub use told::FrameLine;
 
 /// The largest count of steps.
 pub(crate) const LAST_COUNT: u64 = 18_446_744_073_709_551_615;

@@ -7,16 +7,16 @@ ghost use Rattle.run_audit.specs.Lines.{registers, told, call, ret, entered, pas
 ghost use Rattle.run_audit.specs.Lines.{failed, running, line_named, one_line, line_in, is_end};
 
 use crate::fields::{address, cause, count, direction, words};
-use crate::told::Told;
+use crate::told::FrameLine;
 use line_fields::{Handed, Parts, is_text};
 
 /// A line of a trace, with what its check asks for.
 #[derive(Debug, Drop)]
 pub enum Line<'a> {
     /// A call.
-    Call(Told<'a>),
+    Call(FrameLine<'a>),
     /// A return.
-    Ret(Told<'a>),
+    Ret(FrameLine<'a>),
     /// Code that isn't trusted entered a trusted part.
     Enter,
     /// What it handed over in pairs of registers.
@@ -41,7 +41,7 @@ fn registers<'a>(is_call: bool, fields: &mut Parts<'a>) -> Option<&'a [u8]>
 
 // What a call line, or a ret line, tells.
 #[tactic(auto, unfolding(crate::specs::Lines::told))]
-fn told<'a>(is_call: bool, fields: &mut Parts<'a>) -> Option<Told<'a>>
+fn told<'a>(is_call: bool, fields: &mut Parts<'a>) -> Option<FrameLine<'a>>
     ensures { GivesAs (λ t. t) result fields.new (told is_call fields.old) }
 {
     direction(fields)?;
@@ -52,7 +52,7 @@ fn told<'a>(is_call: bool, fields: &mut Parts<'a>) -> Option<Told<'a>>
     registers(is_call, fields)?;
     fields.is(":")?;
     let words = words(fields)?;
-    Some(Told {
+    Some(FrameLine {
         part,
         site,
         base,

@@ -4,7 +4,7 @@ ghost use Rattle.run_audit.specs.Audit.{nothing_open, below_newest, opened, clos
 
 use crate::fault::AuditFault;
 use crate::line::Line;
-use crate::told::Told;
+use crate::told::FrameLine;
 use std::alloc::Global;
 use std::marker::Model;
 
@@ -12,7 +12,7 @@ use std::marker::Model;
 /// newest first.
 #[derive(Debug, Drop)]
 pub(crate) struct Open<'a> {
-    calls: Vec<Told<'a>>,
+    calls: Vec<FrameLine<'a>>,
     entered: bool,
 }
 
@@ -37,7 +37,7 @@ impl<'a> Open<'a> {
     }
 
     // Whether the call lies below the newest open one, if any.
-    fn has_above(&self, told: &Told<'_>) -> bool
+    fn has_above(&self, told: &FrameLine<'_>) -> bool
         ensures { result ≡ below_newest told.now self.now.calls }
     {
         match self.calls.last() {
@@ -47,7 +47,7 @@ impl<'a> Open<'a> {
     }
 
     // A call of the line of this number.
-    fn open(&mut self, line: u64, told: Told<'a>) -> Result<(), AuditFault>
+    fn open(&mut self, line: u64, told: FrameLine<'a>) -> Result<(), AuditFault>
         ensures { Leads result self.new (opened self.old line told.entry) }
     {
         if !told.is_wide() {
@@ -62,7 +62,7 @@ impl<'a> Open<'a> {
     }
 
     // A return of the line of this number.
-    fn close(&mut self, line: u64, told: &Told<'_>) -> Result<(), AuditFault>
+    fn close(&mut self, line: u64, told: &FrameLine<'_>) -> Result<(), AuditFault>
         ensures { Leads result self.new (closed self.old line told.now) }
     {
         if !told.is_wide() {

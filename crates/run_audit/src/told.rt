@@ -8,7 +8,7 @@ use std::marker::Model;
 /// What a call line and its ret line tell of a frame: the name of a part, a site of it, the first and the
 /// last address of a range, and the words. A contract sees the texts of the words.
 #[derive(Debug, Drop)]
-pub struct Told<'a> {
+pub struct FrameLine<'a> {
     pub(crate) part: &'a [u8],
     pub(crate) site: u32,
     pub(crate) base: u32,
@@ -16,7 +16,7 @@ pub struct Told<'a> {
     pub(crate) words: Parts<'a>,
 }
 
-impl<'a> Model for Told<'a> {
+impl<'a> Model for FrameLine<'a> {
     ghost use Rattle.run_audit.specs.Told.{ToldSeen};
 
     ghost Value = { ToldSeen };
@@ -45,7 +45,7 @@ fn are_same(words: &Parts<'_>, others: &Parts<'_>) -> bool
     theirs.is_over()
 }
 
-impl<'a> Told<'a> {
+impl<'a> FrameLine<'a> {
     /// Whether there is a word for each address of its range, which has none where it ends right below its
     /// base.
     pub(crate) fn is_wide(&self) -> bool
@@ -64,26 +64,26 @@ impl<'a> Told<'a> {
     }
 
     /// Whether its range lies below that of another.
-    pub(crate) fn is_below(&self, other: &Told<'_>) -> bool
+    pub(crate) fn is_below(&self, other: &FrameLine<'_>) -> bool
         ensures { result ≡ is_below self.now other.now }
     {
         self.last < other.base
     }
 
-    fn is_same_site(&self, other: &Told<'_>) -> bool
+    fn is_same_site(&self, other: &FrameLine<'_>) -> bool
         ensures { result ≡ same_site self.now other.now }
     {
         self.part == other.part && self.site == other.site
     }
 
-    fn is_same_range(&self, other: &Told<'_>) -> bool
+    fn is_same_range(&self, other: &FrameLine<'_>) -> bool
         ensures { result ≡ same_range self.now other.now }
     {
         self.base == other.base && self.last == other.last
     }
 
     /// Whether both tell the same.
-    pub(crate) fn is_same(&self, other: &Told<'_>) -> bool
+    pub(crate) fn is_same(&self, other: &FrameLine<'_>) -> bool
         ensures { result ≡ same_told self.now other.now }
     {
         if !self.is_same_site(other) {

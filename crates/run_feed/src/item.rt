@@ -8,7 +8,7 @@ ghost use Rattle.run_feed.specs.Feed.{left_of, pairs_of, pairs_next, entered_ite
 use crate::line::{FeedLine, seen};
 use crate::seen::{Answered, Entered, Passed};
 use cap_words::{Cap, Items, Perm, Word};
-use line_fields::{Back, Handed, Parts, integer_in, word_in};
+use line_fields::{Handed, Parts, WayBack, integer_in, word_in};
 use source_events::{FeedBack, FeedPair, Item};
 use std::alloc::{AllocError, Global};
 
@@ -19,17 +19,17 @@ fn owned(alloc: Global, text: &[u8]) -> Result<Items<u8>, AllocError>
 }
 
 // What a return would do.
-fn back_of(alloc: Global, back: &Back<'_>) -> Result<FeedBack, AllocError>
+fn back_of(alloc: Global, back: &WayBack<'_>) -> Result<FeedBack, AllocError>
     ensures { IfOk result (λ b. b ≡ back_seen back.now) }
 {
     match back {
-        Back::Out => Ok(FeedBack::Out),
-        Back::Bad => Ok(FeedBack::Bad),
-        Back::Hop(entry) => {
+        WayBack::Out => Ok(FeedBack::Out),
+        WayBack::Bad => Ok(FeedBack::Bad),
+        WayBack::Hop(entry) => {
             let part = owned(alloc, entry.part)?;
             Ok(FeedBack::Hop(part, owned(alloc, entry.name)?))
         }
-        Back::Pair(call) => Ok(FeedBack::Pair(owned(alloc, call.part)?, call.site, call.base)),
+        WayBack::Pair(call) => Ok(FeedBack::Pair(owned(alloc, call.part)?, call.site, call.base)),
     }
 }
 

@@ -1,7 +1,7 @@
 //! What lines of a feed tell, field by field.
 ghost use Rattle.std.specs.Prelude.{◌≡◌};
 
-use line_fields::{Back, Handed};
+use line_fields::{Handed, WayBack};
 use std::marker::Model;
 
 /// What an `enter` line tells. Of words it has the fields.
@@ -14,7 +14,7 @@ pub(crate) struct Entered<'a> {
     pub(crate) a1: &'a [u8],
     pub(crate) a2: &'a [u8],
     pub(crate) a3: &'a [u8],
-    pub(crate) back: Back<'a>,
+    pub(crate) back: WayBack<'a>,
 }
 
 impl<'a> Model for Entered<'a> {

@@ -18,9 +18,7 @@ use Rattle.source_events.specs.Left.{left_in}
 use Rattle.trace_tool.specs.Feed as line
 use Rattle.line_fields.specs.Numbers.{natural_in, integer_in}
 use Rattle.line_fields.specs.Words.{word_in}
-use Rattle.line_fields.specs.Forms.{back_in, handed_in}
 use Rattle.line_fields.proofs.Offers.{number_again, integer_again, integer_is, fits_has_text, text_is_word}
-use Rattle.line_fields.proofs.Offers.{text_is_back, text_is_handed}
 use Rattle.run_feed.specs.Feed.{left_of}
 use Rattle.run_items.proofs.High.{IsHigh, high_join, decimal_high, name_high}
 
@@ -71,15 +69,7 @@ integer_read (Sealed n x) h = no_integer (Sealed n x) h refl
 pub left_read : (base : ℕ) (w : Word) → WordFits w → left_of base (word_text_of w) ≡ left_in base w
 left_read base w h = ap (option_and_then (left_in base)) (word_again w h)
 
--- ---- where jumps lead
-
-pub back_read : (b : FeedBack) → BackFits b → back_in (back_text b) ≡ Some b
-back_read b h = text_is_back b (back_text b) (h, refl)
-
-pub pair_read : (p : FeedPair) → PairFits p → handed_in (pair_text p) ≡ Some p
-pair_read p h = text_is_handed p (pair_text p) (h, refl)
-
--- ---- and what bytes they have
+-- ---- the bytes of where jumps lead
 
 colon : IsHigh (codes ":")
 colon = record { all = refl }

@@ -17,10 +17,11 @@ use Rattle.line_fields.specs.Fields.{meant, tested, whole}
 use Rattle.run_feed.specs.Lines.{LineSeen, enter_line as Enter, ret_line as Ret, pass_line as Pass}
 use Rattle.run_feed.specs.Lines.{other_line as Other}
 use Rattle.run_feed.specs.Lines.{begun, entered, answered, passed, enter_in, ret_in, pass_in, seen}
+use Rattle.line_fields.proofs.Offers.{text_is_back, text_is_handed}
 use Rattle.run_items.proofs.High.{IsHigh, decimal_high, word_high, name_high, name_is, IsOneLine, line_join}
 use Rattle.run_items.proofs.High.{high_line}
 use Rattle.run_items.proofs.Spaced.{spaced, AllHigh, fields_are, spaced_line, words_spaced, words_high}
-use Rattle.run_items.proofs.FieldsRead.{natural_again, back_read, pair_read, back_high, pair_high}
+use Rattle.run_items.proofs.FieldsRead.{natural_again, back_high, pair_high}
 
 -- what a line is seen as, right behind an enter line or not
 abbrev pub line_told : Bool → Line → LineSeen
@@ -241,7 +242,7 @@ entered_in part export stk a back h =
     let fs = fields_are part (enter_fields export stk a back) (name_high part h.0) all in
     let p : is_name part ≡ true = name_is part h.0 in
     let e : is_name export ≡ true = name_is export h.1 in
-    let b = back_read back h.4 in
+    let b = text_is_back back (back_text back) (h.4, refl) in
     ap (λ ts. whole (entered ts)) fs ∙ rw (p, e, b) refl
 
 enter_seen : (part export : List ℕ) (stk : Word) (a : Args) (back : FeedBack)
@@ -283,9 +284,9 @@ unfolding pass_in passed meant
 passed_in p0 p1 p2 h =
     let all : AllHigh (pass_fields p1 p2) = (pair_high p1 h.1, (pair_high p2 h.2, tt)) in
     let fs = fields_are (pair_text p0) (pass_fields p1 p2) (pair_high p0 h.0) all in
-    let x0 = pair_read p0 h.0 in
-    let x1 = pair_read p1 h.1 in
-    let x2 = pair_read p2 h.2 in
+    let x0 = text_is_handed p0 (pair_text p0) (h.0, refl) in
+    let x1 = text_is_handed p1 (pair_text p1) (h.1, refl) in
+    let x2 = text_is_handed p2 (pair_text p2) (h.2, refl) in
     ap (λ ts. whole (passed ts)) fs ∙ rw (x0, x1, x2) refl
 
 pass_read : (entry : Bool) (p0 p1 p2 : FeedPair) → LineFits (pass p0 p1 p2)

@@ -3,9 +3,9 @@
 -- no byte of a name, a number or a word is below 40, so none is a blank or a newline
 pub use Rattle.run_items.proofs.High.{IsHigh, decimal_high, name_high, name_is, word_high}
 -- fields, each behind a blank, and the lines of a text
-pub use Rattle.run_items.proofs.Spaced.{AllHigh, fields_are, no_rest, spaced, words_high, words_spaced}
+pub use Rattle.run_items.proofs.Spaced.{AllHigh, fields_are, spaced, words_high, words_spaced}
 -- what fields of lines are read as
-pub use Rattle.run_items.proofs.FieldsRead.{back_high, back_read, natural_again, pair_high, pair_read}
+pub use Rattle.run_items.proofs.FieldsRead.{back_high, natural_again, pair_high}
 pub use Rattle.run_items.proofs.FieldsRead.{signed_fits}
 -- the lines of runs, as a feed's reader sees them
 pub use Rattle.run_items.proofs.LinesSeen.{body, line_text_is}

@@ -1,4 +1,5 @@
 -- Fields, each behind a blank, and the lines of a text.
+use Rattle.std.proofs.Common.{append-nil}
 use Rattle.std.proofs.Common.{◌≡◌, ℕ, true, false, List, [], ◌∷◌, ◌++◌, length, None}
 use Rattle.std.proofs.Common.{refl, sym, ap, ◌∙◌, arith}
 use Rattle.std.specs.Prelude.{map, codes, nat_lt, not, ◌==◌}
@@ -20,10 +21,6 @@ spaced (t ∷ ts) = 32 ∷ (t ++ spaced ts)
 abbrev pub AllHigh : List (List ℕ) → Type 0
 AllHigh [] = Unit {0}
 AllHigh (t ∷ ts) = IsHigh t × AllHigh ts
-
-pub no_rest : (t : List ℕ) → t ++ [] ≡ t
-no_rest [] = refl
-no_rest (x ∷ t) = ap (λ u. x ∷ u) (no_rest t)
 
 len_whole : (mark : ℕ) (text : List ℕ) → is_free mark text ≡ true
     → position_or_len (is_mark mark) text ≡ length text
@@ -47,7 +44,7 @@ cut_free mark text h =
 
 pub fields_are : (t : List ℕ) (ts : List (List ℕ)) → IsHigh t → AllHigh ts → fields (t ++ spaced ts) ≡ t ∷ ts
 fields_are t [] h all =
-    ap fields (no_rest t) ∙ parts_none 32 t (sym (cut_free 32 t (high_free 32 t (omega arith) h)))
+    ap fields (append-nil t) ∙ parts_none 32 t (sym (cut_free 32 t (high_free 32 t (omega arith) h)))
 fields_are t (u ∷ us) h all =
     parts_at 32 (t ++ 32 ∷ (u ++ spaced us)) t (u ++ spaced us)
     (sym (cut_front 32 t (u ++ spaced us) (high_free 32 t (omega arith) h)))

@@ -5,7 +5,7 @@ use Rattle.component_linker.specs.Standing.{placed}
 use Rattle.overlay_machine.specs.declared.words.OWord.{OWord}
 use Rattle.proc_names.specs.Names.{variable_named, callee_named, passed_named}
 use Rattle.proc_program.specs.Lower.{part_of}
-use Rattle.proc_program.specs.declared.program.Part.{Part}
+use Rattle.proc_program.specs.declared.program.Program.{Program}
 use Rattle.source_events.specs.declared.FeedBack.TheVariants as way
 use Rattle.source_events.specs.declared.FeedPair.{FeedPair}
 use Rattle.source_events.specs.declared.FeedPair.TheVariants.{Nothing}
@@ -33,7 +33,7 @@ abbrev pub much : ℕ → ℕ
 much k = suc (suc (suc (suc (suc (suc (suc (suc (suc (suc (suc (suc (suc (suc (suc (suc k)))))))))))))))
 
 abbrev globals : Store
-globals = map (λ (u : Part). u.globals) W.parts
+globals = map (λ (u : Program). u.globals) W.parts
 
 abbrev low_at : ℕ → Report → Option (Option ℕ)
 low_at n r = option_map low_of (slice_get r.events n)

@@ -5,6 +5,7 @@ use Rattle.source_laws.specs.Good as good
 use Rattle.source_laws.specs.Trace as lines
 use Rattle.proc_semantics.specs.Meaning as plain
 use Rattle.source_laws.specs.Words.{WordsTold}
+use Rattle.source_laws.proofs.Scenes.{Scene}
 use Rattle.source_laws.proofs.Forgets.{Starts, forgets, traces, words_told}
 use Rattle.std.specs.Prelude.{map}
 use Rattle.std.proofs.lemmas.Bool.{cases_eq}
@@ -20,16 +21,14 @@ use Rattle.component_linker.specs.Started.{StartSeen}
 use Rattle.trace_tool.specs.Layout.{layout}
 use Rattle.flow_check.specs.Holds.{data_cap}
 use Rattle.overlay_machine.specs.State.{OState}
-use Rattle.overlay_machine.specs.Link.{Link, ranges_of}
-use Rattle.overlay_machine.specs.Linked.{Linked}
+use Rattle.overlay_machine.specs.Link.{ranges_of}
 use Rattle.component_linker.specs.Parts.{PartSeen}
-use Rattle.source_laws.proofs.Refined.{World, main_of, Comp, ends, meaning, Registers, no_registers, on_item}
+use Rattle.source_laws.proofs.Refined.{main_of, Comp, ends, meaning, no_registers, on_item}
 use Rattle.source_laws.proofs.Refined.{start, whole, recursive, starts}
-use Rattle.proc_semantics.specs.Values.{Store}
 use Rattle.proc_semantics.specs.declared.value.Target.{Target}
-use Rattle.proc_program.specs.declared.program.Part.{Part}
+use Rattle.proc_program.specs.declared.program.Program.{Program}
 use Rattle.proc_program.specs.declared.program.Procedure.{Procedure}
-use Rattle.source_events.specs.declared.End.TheVariants.{Fail as Fails, OutOfFuel}
+use Rattle.source_events.specs.declared.MeaningEnd.TheVariants.{Fail as Fails, OutOfFuel}
 use Rattle.proc_semantics.specs.declared.value.Value.{Value}
 use Rattle.source_laws.specs.Seen.{standing, trace, Trace, events_of}
 use Rattle.template_runs.specs.Runs.{is_inside}
@@ -52,40 +51,42 @@ use Rattle.source_laws.proofs.Procs.{Proc, proc_law}
 use Rattle.source_laws.proofs.Waiting.{Meets, WaitLaw, LeaveLaw, wait_law}
 use Rattle.source_laws.proofs.Leaving.{Rest, leave_law}
 
-module _ (world : World) (g : Link) (linked : Linked g) (Begins : Target → PartSeen → ℕ → Type 0)
-    (StoreIs : Store → (ℕ → OWord) → Type 0) (RegsAre : Registers → OState → Type 0) where
+module _ (scene : Scene) where
+  open scene use {world, g, linked, Begins, StoreIs, RegsAre}
+
   -- the overlay of a start: in the first shared main of the modules, with the whole stack, or outside
   pub data Starting (stack : ℕ) (mem : ℕ → OWord) (o : OState) : Type 0 where
     in_main : (t : Target) (p : PartSeen) (e : ℕ) → main_of world ≡ Some t → Begins t p e → Valid g linked o
         → At g linked p e o → look o.maps.regs.dat ≡ Mem (data_cap (ranges_of p) (pos p.component.data_base))
-        → IsSafe g o.frames o.maps.regs.stk → EntryPublic world g linked Begins StoreIs RegsAre o
-        → RegsAre (no_registers world) o → left_now world g linked Begins StoreIs RegsAre o ≡ Some stack
+        → IsSafe g o.frames o.maps.regs.stk → EntryPublic scene o
+        → RegsAre (no_registers world) o → left_now scene o ≡ Some stack
         → o.maps.regs.rcode ≡ Plain (Int (pos 0)) → o.maps.regs.rdata ≡ Plain (Int (pos 0))
         → Starting stack mem o
     outside_main : main_of world ≡ None → Out g linked o → o.frames ≡ [] → Starting stack mem o
 
-module _ (world : World) (g : Link) (linked : Linked g) (Begins : Target → PartSeen → ℕ → Type 0)
-    (StoreIs : Store → (ℕ → OWord) → Type 0) (RegsAre : Registers → OState → Type 0)
+module _ (scene : Scene)
     (EnvIs : Procedure → List (Option OWord) → List Value → List OWord → Type 0)
-    (named : Named g) (meets : Meets world g linked Begins StoreIs RegsAre named)
-    (rest : Rest world g linked Begins StoreIs RegsAre named) where
+    (named : Named scene.g) (meets : Meets scene named)
+    (rest : Rest scene named) where
+  open scene use {world, g, linked, Begins, StoreIs, RegsAre}
+
   pub record Laws (n : ℕ) : Type 0 where
-    pub procs : ProcLaw world g linked Begins StoreIs RegsAre n
-    pub waits : WaitLaw world g linked Begins StoreIs RegsAre n
-    pub leaves : LeaveLaw world g linked Begins StoreIs RegsAre n
-    pub idles : IdleLaw world g linked Begins StoreIs RegsAre n
-    pub idle_leaves : IdleLeaveLaw world g linked Begins StoreIs RegsAre n
+    pub procs : ProcLaw scene n
+    pub waits : WaitLaw scene n
+    pub leaves : LeaveLaw scene n
+    pub idles : IdleLaw scene n
+    pub idle_leaves : IdleLeaveLaw scene n
 
   -- each procedure's checks and body, where all laws hold of fewer steps
   abbrev pub Bodies : Type 0
   Bodies = (n : ℕ) → ((m : ℕ) → m < n → Laws m) → (t : Target) (p : PartSeen) (e : ℕ) → Begins t p e
-      → Proc world g linked Begins StoreIs RegsAre EnvIs n t p e
+      → Proc scene EnvIs n t p e
 
   trace_zero : (o : OState) → trace g.layout zero o ≡ standing g.layout (is_inside g.layout o)
   unfolding trace
   trace_zero o = refl
 
-  wait_none : WaitLaw world g linked Begins StoreIs RegsAre zero
+  wait_none : WaitLaw scene zero
   wait_none c w f fs ow st mem o h fr globs store for back =
       record { by = by; quiet = quiet_none g (Shows g.layout) (GivesBack g.layout) o ow.owes; wiped = wiped }
     where
@@ -101,11 +102,11 @@ module _ (world : World) (g : Link) (linked : Linked g) (Begins : Target → Par
           ((recursive world).waits (Some w) st))
       by (suc k) le = absurd (omega (arith, le))
 
-  leave_none : LeaveLaw world g linked Begins StoreIs RegsAre zero
+  leave_none : LeaveLaw scene zero
   leave_none c w f fs ow st mem t p en o q v entry fr for a store names back =
       none_inside g (c + 100) q _ (inside_here g linked a.part a.offset q a.at)
 
-  idle_none : IdleLaw world g linked Begins StoreIs RegsAre zero
+  idle_none : IdleLaw scene zero
   idle_none c st mem o h fr globs store =
       record { by = by; quiet = quiet_none g (Shows g.layout) (GivesBack g.layout) o []; wiped = wiped }
     where
@@ -121,7 +122,7 @@ module _ (world : World) (g : Link) (linked : Linked g) (Begins : Target → Par
           ((recursive world).waits None st))
       by (suc k) le = absurd (omega (arith, le))
 
-  idle_leave_none : IdleLeaveLaw world g linked Begins StoreIs RegsAre zero
+  idle_leave_none : IdleLeaveLaw scene zero
   idle_leave_none c st mem t p en o q v entry fr a store names =
       none_inside g (c + 100) q _ (inside_here g linked a.part a.offset q a.at)
 
@@ -142,7 +143,7 @@ module _ (world : World) (g : Link) (linked : Linked g) (Begins : Target → Par
       record {
         below = none;
         here = record {
-          procs = proc_law world g linked Begins StoreIs RegsAre EnvIs zero (bodies zero none);
+          procs = proc_law scene EnvIs zero (bodies zero none);
           waits = wait_none;
           leaves = leave_none;
           idles = idle_none;
@@ -156,12 +157,12 @@ module _ (world : World) (g : Link) (linked : Linked g) (Begins : Target → Par
       record {
         below = below;
         here = record {
-          procs = proc_law world g linked Begins StoreIs RegsAre EnvIs (suc n) (bodies (suc n) below);
-          waits = wait_law world g linked Begins StoreIs RegsAre named meets n l.procs l.leaves l.waits;
-          leaves = leave_law world g linked Begins StoreIs RegsAre named n rest meets l.procs l.leaves
+          procs = proc_law scene EnvIs (suc n) (bodies (suc n) below);
+          waits = wait_law scene named meets n l.procs l.leaves l.waits;
+          leaves = leave_law scene named n rest meets l.procs l.leaves
               l.waits;
-          idles = idle_law world g linked Begins StoreIs RegsAre named meets n l.procs l.idle_leaves l.idles;
-          idle_leaves = idle_leave_law world g linked Begins StoreIs RegsAre named meets n l.procs
+          idles = idle_law scene named meets n l.procs l.idle_leaves l.idles;
+          idle_leaves = idle_leave_law scene named meets n l.procs
               l.idle_leaves l.idles;
         };
       }
@@ -174,7 +175,7 @@ module _ (world : World) (g : Link) (linked : Linked g) (Begins : Target → Par
 
   agrees_start : (stack : ℕ) (t : Trace)
       → Agrees 0 t (start world (whole world) stack (main_of world)
-      (map (λ (u : Part). u.globals) world.parts))
+      (map (λ (u : Program). u.globals) world.parts))
       → Starts world stack t
   agrees_start stack t a = record {
     enough = a.enough;
@@ -186,7 +187,7 @@ module _ (world : World) (g : Link) (linked : Linked g) (Begins : Target → Par
 
   -- the return of main fails
   main_ends : (n : ℕ) (p : PartSeen) (o q : OState) (v : ℤ) (mem : ℕ → OWord)
-      → (a : AtEnd world g linked Begins StoreIs RegsAre p o q v mem) → o.maps.regs.rcode
+      → (a : AtEnd scene p o q v mem) → o.maps.regs.rcode
       ≡ Plain (Int (pos 0))
       → o.maps.regs.rdata ≡ Plain (Int (pos 0)) → UpTo g [] (ended a.top) n 100 q (ends Fails)
   main_ends n p o q v mem a ec ed =
@@ -207,36 +208,36 @@ module _ (world : World) (g : Link) (linked : Linked g) (Begins : Target → Par
           bad_hop part j e = let z : Bad ≡ Hop part j = e in cc
 
   abbrev begun : ℕ → Comp
-  begun stack = start world (whole world) stack (main_of world) (map (λ (u : Part). u.globals) world.parts)
+  begun stack = start world (whole world) stack (main_of world) (map (λ (u : Program). u.globals) world.parts)
 
   -- what is live at the start: nothing
   abbrev live_at : {stack : ℕ} {mem : ℕ → OWord} {o : OState}
-      → Starting world g linked Begins StoreIs RegsAre stack mem o → Live
+      → Starting scene stack mem o → Live
   live_at {o = o} (in_main t p e is begins v at dat safe public regs left ec ed) = untold 0 (stack_top g o)
   live_at (outside_main is h fr) = none
 
   pub upto_start : Bodies → (stack : ℕ) (mem : ℕ → OWord) (o : OState) → DataIs g linked mem o.maps.cells
-      → StoreIs (map (λ (u : Part). u.globals) world.parts) mem
-      → (s : Starting world g linked Begins StoreIs RegsAre stack mem o) → (n : ℕ)
+      → StoreIs (map (λ (u : Program). u.globals) world.parts) mem
+      → (s : Starting scene stack mem o) → (n : ℕ)
       → UpTo g [] (live_at s) n 0 o (begun stack)
   upto_start bodies stack mem o globs store (in_main t p e is begins v at dat safe public regs left ec ed) n =
       let u = (all bodies n).procs t p e 0
-      (λ v st. ends Fails) (no_registers world) (map (λ (u : Part). u.globals) world.parts) mem o
+      (λ v st. ends Fails) (no_registers world) (map (λ (u : Program). u.globals) world.parts) mem o
       (record { owes = []; deep = λ a m. absurd m }) begins v at dat safe public
       globs store regs (λ val st' mem' q a store'. main_ends n p o q val mem' a ec ed) in
       subst (λ x. UpTo g [] (untold 0 (stack_top g o)) n 0 o
-      (start world (whole world) stack x (map (λ (u : Part). u.globals) world.parts))) (sym is)
+      (start world (whole world) stack x (map (λ (u : Program). u.globals) world.parts))) (sym is)
       (subst (λ l. UpTo g [] (untold 0 (stack_top g o)) n 0 o
       ((whole world).proc t l (no_registers world) (λ v st. ends Fails)
-      (map (λ (u : Part). u.globals) world.parts))) left u)
+      (map (λ (u : Program). u.globals) world.parts))) left u)
   upto_start bodies stack mem o globs store (outside_main is h fr) n =
       subst (λ x. UpTo g [] none n 0 o
-      (start world (whole world) stack x (map (λ (u : Part). u.globals) world.parts))) (sym is)
-      ((all bodies n).idles 0 (map (λ (u : Part). u.globals) world.parts) mem o h fr globs store)
+      (start world (whole world) stack x (map (λ (u : Program). u.globals) world.parts))) (sym is)
+      ((all bodies n).idles 0 (map (λ (u : Program). u.globals) world.parts) mem o h fr globs store)
 
   pub from_start : Bodies → (stack : ℕ) (mem : ℕ → OWord) (o : OState) → DataIs g linked mem o.maps.cells
-      → StoreIs (map (λ (u : Part). u.globals) world.parts) mem
-      → Starting world g linked Begins StoreIs RegsAre stack mem o
+      → StoreIs (map (λ (u : Program). u.globals) world.parts) mem
+      → Starting scene stack mem o
       → (k : ℕ) → Starts world stack (trace g.layout k o)
   from_start bodies stack mem o globs store s k =
       agrees_start stack (trace g.layout k o)
@@ -245,8 +246,8 @@ module _ (world : World) (g : Link) (linked : Linked g) (Begins : Target → Par
   -- the theorem of sources of a start
   pub source_law : Bodies → (stack : ℕ) (s : StartSeen) (mem : ℕ → OWord) → g.layout ≡ layout s
       → DataIs g linked mem (overlay_at s).state.maps.cells
-      → StoreIs (map (λ (u : Part). u.globals) world.parts) mem
-      → Starting world g linked Begins StoreIs RegsAre stack mem (overlay_at s).state
+      → StoreIs (map (λ (u : Program). u.globals) world.parts) mem
+      → Starting scene stack mem (overlay_at s).state
       → MeansAlways world.parts stack s
   source_law bodies stack s mem same globs store st =
       agreeing_runs world.parts stack s
@@ -260,8 +261,8 @@ module _ (world : World) (g : Link) (linked : Linked g) (Begins : Target → Par
   -- whom sources call, with which words
   pub words_law : Bodies → (stack : ℕ) (s : StartSeen) (mem : ℕ → OWord) → g.layout ≡ layout s
       → DataIs g linked mem (overlay_at s).state.maps.cells
-      → StoreIs (map (λ (u : Part). u.globals) world.parts) mem
-      → Starting world g linked Begins StoreIs RegsAre stack mem (overlay_at s).state
+      → StoreIs (map (λ (u : Program). u.globals) world.parts) mem
+      → Starting scene stack mem (overlay_at s).state
       → WordsTold world.marks world.parts stack s
   words_law bodies stack s mem same globs store st =
       words_told world stack s
@@ -270,15 +271,15 @@ module _ (world : World) (g : Link) (linked : Linked g) (Begins : Target → Par
 
   -- what a run of any number of steps from a start shows
   pub quiet_start : Bodies → (stack : ℕ) (mem : ℕ → OWord) (o : OState) → DataIs g linked mem o.maps.cells
-      → StoreIs (map (λ (u : Part). u.globals) world.parts) mem
-      → Starting world g linked Begins StoreIs RegsAre stack mem o
+      → StoreIs (map (λ (u : Program). u.globals) world.parts) mem
+      → Starting scene stack mem o
       → (n : ℕ) → Quiet g (Shows g.layout) (GivesBack g.layout) [] n o
   quiet_start bodies stack mem o globs store s n = (upto_start bodies stack mem o globs store s n).quiet
 
   -- and what it wipes
   pub wipes_start : Bodies → (stack : ℕ) (mem : ℕ → OWord) (o : OState) → DataIs g linked mem o.maps.cells
-      → StoreIs (map (λ (u : Part). u.globals) world.parts) mem
-      → Starting world g linked Begins StoreIs RegsAre stack mem o
+      → StoreIs (map (λ (u : Program). u.globals) world.parts) mem
+      → Starting scene stack mem o
       → (k : ℕ) → Wipes g (crossings g.layout k o o) (trace g.layout k o).items
       (λ f feed. meaning world stack feed f)
   wipes_start bodies stack mem o globs store s k =
@@ -291,7 +292,7 @@ module _ (world : World) (g : Link) (linked : Linked g) (Begins : Target → Par
             (w.told f le);
       }
     where
-      since : (s : Starting world g linked Begins StoreIs RegsAre stack mem o) → Since g o None (live_at s) o
+      since : (s : Starting scene stack mem o) → Since g o None (live_at s) o
       since (in_main t p e is begins v at dat safe public regs left ec ed) =
           record { inside = λ i. clean_first g o o (stack_top g o) refl; outside = λ i. refl }
       since (outside_main is h fr) = record {
@@ -302,8 +303,8 @@ module _ (world : World) (g : Link) (linked : Linked g) (Begins : Target → Par
   -- code outside learns nothing but the events
   pub secrets_law : Bodies → (stack : ℕ) (s : StartSeen) (mem : ℕ → OWord) → g.layout ≡ layout s
       → DataIs g linked mem (overlay_at s).state.maps.cells
-      → StoreIs (map (λ (u : Part). u.globals) world.parts) mem
-      → Starting world g linked Begins StoreIs RegsAre stack mem (overlay_at s).state
+      → StoreIs (map (λ (u : Program). u.globals) world.parts) mem
+      → Starting scene stack mem (overlay_at s).state
       → LeavesNothing g s
   secrets_law bodies stack s mem same globs store st =
       leaves_nothing g s same (quiet_start bodies stack mem (overlay_at s).state globs store st) world stack
@@ -312,8 +313,8 @@ module _ (world : World) (g : Link) (linked : Linked g) (Begins : Target → Par
   -- the cells are wiped that are told of
   pub wiped_law : Bodies → (stack : ℕ) (s : StartSeen) (mem : ℕ → OWord) → g.layout ≡ layout s
       → DataIs g linked mem (overlay_at s).state.maps.cells
-      → StoreIs (map (λ (u : Part). u.globals) world.parts) mem
-      → Starting world g linked Begins StoreIs RegsAre stack mem (overlay_at s).state
+      → StoreIs (map (λ (u : Program). u.globals) world.parts) mem
+      → Starting scene stack mem (overlay_at s).state
       → WipedAlways g world.parts stack s
   wiped_law bodies stack s mem same globs store st =
       wiped_always g s same (quiet_start bodies stack mem (overlay_at s).state globs store st) world stack

@@ -7,15 +7,16 @@ use Rattle.lcm_isa.specs.declared.Reg.TheVariants.{C1, C2}
 use Rattle.component_file.specs.declared.component.ComponentFields.{ComponentFields}
 use Rattle.proc_language.specs.declared.tree.Op.{Op}
 use Rattle.proc_language.specs.declared.tree.Op.TheVariants as operator
-use Rattle.proc_program.specs.declared.program.Place.{Place}
-use Rattle.proc_program.specs.declared.program.Place.TheVariants.{Local, Global}
+use Rattle.proc_program.specs.declared.program.Location.{Location}
+use Rattle.proc_program.specs.declared.program.Location.TheVariants.{Local, Global}
 use Rattle.proc_program.specs.declared.program.Handle.{Handle}
 use Rattle.proc_program.specs.declared.program.Handle.TheVariants.{Given, Own, Imported}
 use Rattle.proc_program.specs.Limits.{arg_registers}
 use Rattle.proc_program.specs.Program.{Exp, Number, Load, Element, Call, Binary, Args, no_args, value, pass}
-use Rattle.proc_program.specs.Program.{Step, Set, SetAt, Do, If, While, Return, Halt, Block, no_steps, step}
+use Rattle.proc_program.specs.Program.{Statement, Set, SetAt, Do, If, While, Return, Halt}
+use Rattle.proc_program.specs.Program.{Block, no_steps, step}
 use Rattle.proc_program.specs.Calls.{calls, args_calls, step_calls, block_calls}
-use Rattle.proc_templates.specs.declared.Frame.{Frame}
+use Rattle.proc_templates.specs.declared.FrameShape.{FrameShape}
 use Rattle.proc_templates.specs.Items.{Item}
 use Rattle.proc_templates.specs.Free.{behind, after}
 use Rattle.proc_templates.specs.Templates.{code, args_code, call_items, load_args, zeros, arguments, argument}
@@ -35,15 +36,15 @@ count-append j (x ∷ a) b = count-append (next_count j x) a b
 pub count_both : (j n : ℕ) (a b : List Item) → count j a ≡ n → count j (a ++ b) ≡ count n b
 count_both j n a b e = count-append j a b ∙ ap (λ i. count i b) e
 
-var_count : (f : Frame) (x : Place) (j : ℕ) → count j (load_var f x) ≡ j
+var_count : (f : FrameShape) (x : Location) (j : ℕ) → count j (load_var f x) ≡ j
 var_count f (Local i) j = refl
 var_count f (Global o) j = refl
 
-set_count : (f : Frame) (x : Place) (j : ℕ) → count j (store_var f x) ≡ j
+set_count : (f : FrameShape) (x : Location) (j : ℕ) → count j (store_var f x) ≡ j
 set_count f (Local i) j = refl
 set_count f (Global o) j = refl
 
-pair_count : (f : Frame) (h : Handle) (r q : Reg) (j : ℕ) → count j (load_pair f h r q) ≡ j
+pair_count : (f : FrameShape) (h : Handle) (r q : Reg) (j : ℕ) → count j (load_pair f h r q) ≡ j
 pair_count f (Given i) r q j = refl
 pair_count f (Own i) r q j = refl
 pair_count f (Imported i) r q j = refl
@@ -58,7 +59,7 @@ zeros_count : (rs : List Reg) (j : ℕ) → count j (zeros rs) ≡ j
 zeros_count [] j = refl
 zeros_count (r ∷ rs) j = zeros_count rs j
 
-loads_count : (f : Frame) (xs : Args) (t i j : ℕ) → count j (load_args f t i xs) ≡ j
+loads_count : (f : FrameShape) (xs : Args) (t i j : ℕ) → count j (load_args f t i xs) ≡ j
 loads_count f no_args t i j = refl
 loads_count f (value e xs) t i j = loads_count f xs t (i + 1) j
 loads_count f (pass h xs) t i j =
@@ -66,7 +67,7 @@ loads_count f (pass h xs) t i j =
     _ (pair_count f h (argument i) (argument (i + 1)) j)
     ∙ loads_count f xs t (i + 2) j
 
-call_count : (f : Frame) (h : Handle) (xs : Args) (t j : ℕ) → count j (call_items f t h xs) ≡ suc j
+call_count : (f : FrameShape) (h : Handle) (xs : Args) (t j : ℕ) → count j (call_items f t h xs) ≡ suc j
 call_count f h xs t j =
     count_both j j (load_args f t 0 xs) _ (loads_count f xs t 0 j)
     ∙ count_both j j (zeros (drop (arg_registers xs) arguments))
@@ -83,7 +84,7 @@ push_count [] j = refl
 push_count (r ∷ rs) j = push_count rs j
 
 mutual
-  exp_count : (f : Frame) (e : Exp) (t j : ℕ) → count j (code f t e) ≡ j + calls e
+  exp_count : (f : FrameShape) (e : Exp) (t j : ℕ) → count j (code f t e) ≡ j + calls e
   exp_count f (Number n) t j = omega arith
   exp_count f (Load x) t j = var_count f x j ∙ omega arith
   exp_count f (Element r e) t j = count_both j (j + calls e) (code f t e) _ (exp_count f e t j)
@@ -96,7 +97,7 @@ mutual
       _ (exp_count f b (t + 1) (j + calls a))
       ∙ op_count o (j + calls a + calls b) ∙ omega arith
 
-  args_count : (f : Frame) (xs : Args) (t i j : ℕ) → count j (args_code f t i xs) ≡ j + args_calls xs
+  args_count : (f : FrameShape) (xs : Args) (t i j : ℕ) → count j (args_code f t i xs) ≡ j + args_calls xs
   args_count f no_args t i j = omega arith
   args_count f (value e xs) t i j =
       count_both j (j + calls e) (code f (t + i) e) _ (exp_count f e (t + i) j)
@@ -104,7 +105,7 @@ mutual
   args_count f (pass h xs) t i j = args_count f xs t (i + 2) j
 
 mutual
-  step_count : (f : Frame) (s : Step) (j : ℕ) → count j (step_code f s) ≡ j + step_calls s
+  step_count : (f : FrameShape) (s : Statement) (j : ℕ) → count j (step_code f s) ≡ j + step_calls s
   step_count f (Set x e) j =
       count_both j (j + calls e) (code f f.temps e) _ (exp_count f e f.temps j) ∙ set_count f x (j + calls e)
   step_count f (SetAt r i e) j =
@@ -127,7 +128,7 @@ mutual
   step_count f (Return e) j = count_both j (j + calls e) (code f f.temps e) _ (exp_count f e f.temps j)
   step_count f (Halt e) j = count_both j (j + calls e) (code f f.temps e) _ (exp_count f e f.temps j)
 
-  pub block_count : (f : Frame) (b : Block) (j : ℕ) → count j (block_code f b) ≡ j + block_calls b
+  pub block_count : (f : FrameShape) (b : Block) (j : ℕ) → count j (block_code f b) ≡ j + block_calls b
   block_count f no_steps j = omega arith
   block_count f (step s b) j =
       count_both j (j + step_calls s) (step_code f s) (block_code f b) (step_count f s j)
@@ -135,7 +136,7 @@ mutual
 
 -- ---- the calls of a program
 
-module _ (c : ComponentFields) (f : Frame) where
+module _ (c : ComponentFields) (f : FrameShape) where
   abbrev mutual
     -- of an expression at an offset, with its first free slot
     pub CallsAt : ℕ → ℕ → Exp → Type 0
@@ -155,7 +156,7 @@ module _ (c : ComponentFields) (f : Frame) where
     ArgsCallsAt k t i (pass h xs) = ArgsCallsAt k t (i + 2) xs
 
   abbrev mutual
-    pub StepCallsAt : ℕ → Step → Type 0
+    pub StepCallsAt : ℕ → Statement → Type 0
     StepCallsAt k (Set x e) = CallsAt k f.temps e
     StepCallsAt k (SetAt r i e) =
         CallsAt k f.temps i × CallsAt (k + words_in (code f f.temps i) + 1 + 1 + 1) (f.temps + 1) e
@@ -227,7 +228,8 @@ module _ (c : ComponentFields) (f : Frame) where
     args_at (pass h xs) t i j k num at = args_at xs t (i + 2) j k num at
 
   mutual
-    step_calls_at : (s : Step) (j k : ℕ) → StepNumbered j s → SitesAt c j k (step_code f s) → StepCallsAt k s
+    step_calls_at : (s : Statement) (j k : ℕ) → StepNumbered j s → SitesAt c j k (step_code f s)
+        → StepCallsAt k s
     step_calls_at (Set x e) j k num h = calls_at e f.temps j k num (sites_front j k (code f f.temps e) _ h)
     step_calls_at (SetAt r i e) j k num h =
         let s1 = sites_back j (j + calls i) k (code f f.temps i) _ (exp_count f i f.temps j) h in

@@ -1,4 +1,6 @@
 -- A call of any pair, from its site on, once the arguments stand in their registers.
+use Rattle.call_sequence.specs.declared.TheConstants.{CALL_WORDS, SITE_WORDS}
+use Rattle.source_laws.proofs.Scenes.{Scene}
 use Rattle.source_laws.proofs.Refined.{Way, Event, Entry, handed, World, Comp, ends, Registers, Then, Wait}
 use Rattle.source_laws.proofs.Refined.{with_place, call, call_by, part_of, stack_of, Frame, whole}
 use Rattle.source_laws.specs.Seen.{Shown, shown_of, arg_shown, args_shown, call_shown}
@@ -49,7 +51,7 @@ use Rattle.proc_semantics.specs.Values.{Store}
 use Rattle.proc_semantics.specs.declared.value.Target.{Target}
 use Rattle.proc_semantics.specs.declared.value.Pair.{Pair}
 use Rattle.proc_semantics.specs.declared.value.Pair.TheVariants.{Runs, Bad, Outside}
-use Rattle.source_events.specs.declared.End.TheVariants.{Fail as Fails}
+use Rattle.source_events.specs.declared.MeaningEnd.TheVariants.{Fail as Fails}
 use Rattle.proc_semantics.specs.declared.value.Value.{Value}
 use Rattle.proc_semantics.specs.declared.value.Value.TheVariants.{Num, Closure, Other}
 use Rattle.proc_templates.specs.Templates.{argument}
@@ -63,7 +65,8 @@ use Rattle.source_laws.proofs.CallsIn.{int_public, ProcLaw, call_in_law}
 use Rattle.source_laws.proofs.CallsOut.{call_out_law}
 use Rattle.template_runs.specs.Public.{ArePublic, IsPublic}
 use Rattle.source_laws.proofs.Waiting.{WaitLaw, IsFor}
-use Rattle.source_laws.proofs.Arguments.{Half, Holding}
+use Rattle.source_laws.proofs.AtWork.{Half}
+use Rattle.source_laws.proofs.Arguments.{Holding}
 use Rattle.trace_tool.specs.Feed.{integer_in}
 use Rattle.cap_words.specs.declared.Sealable.{Sealable}
 
@@ -226,6 +229,16 @@ module _ (g : Link) (linked : Linked g) (Begins : Target → PartSeen → ℕ �
       (passes : (wy : Way) (vs : List Value) (ws : List OWord) (q : OState) → Passed vs wy.words ws
       → length ws ≤ 4
       → Holding (filled ws) q → RegsAre (handed world wy vs) q) where
+    abbrev scene : Scene
+    scene = record {
+      world = world;
+      g = g;
+      linked = linked;
+      Begins = Begins;
+      StoreIs = StoreIs;
+      RegsAre = RegsAre;
+    }
+
     module _ (n b site : ℕ) (kk : Then) (st : Store) (words : List OWord) (mem : ℕ → OWord) (o : OState)
         (h : Here g linked p w top words mem fs o)
         (k : ℕ) (end : ℕ) (at : At g linked p k o) (there : Called g linked p end k site)
@@ -241,17 +254,17 @@ module _ (g : Link) (linked : Linked g) (Begins : Target → PartSeen → ℕ �
 
       -- ---- where it fails
 
-      light : weight_of g.layout o ≤ 17
+      light : weight_of g.layout o ≤ CALL_WORDS + 1
       unfolding weight_of
-      light = subst (λ x. weight_by o.maps x ≤ 17)
+      light = subst (λ x. weight_by o.maps x ≤ CALL_WORDS + 1)
           (sym (case_call g linked p w top words mem fs o h k I U at there.here))
           (by (is_ret_code o.maps.regs.c1))
         where
-          by : (r : Bool) → (if r then 17 else 16) ≤ 17
+          by : (r : Bool) → (if r then CALL_WORDS + 1 else CALL_WORDS) ≤ CALL_WORDS + 1
           by true = omega arith
           by false = omega arith
 
-      fails_by : call_step g.layout I o ≡ failing_step → 17 ≤ b
+      fails_by : call_step g.layout I o ≡ failing_step → (CALL_WORDS + 1) ≤ b
           → UpTo g ow.owes (used w top) n b o (ends Fails)
       unfolding overlay_step
       fails_by e le = go_fail g n b o inside
@@ -301,245 +314,250 @@ module _ (g : Link) (linked : Linked g) (Begins : Target → PartSeen → ℕ �
         module _ (c : ℕ) (x y : OWord) (ex : o.maps.regs.c1 ≡ x) (ey : o.maps.regs.c2 ≡ y) (vs : List Value)
             (ws : List OWord) (wy : Way) (ef : wy.first ≡ Some x) (es : wy.second ≡ Some y)
             (passed : Passed vs wy.words ws) (few : length ws ≤ 4) (holds : Holding (filled ws) o)
-            (cleared : Cleared o) (behind : Placed g linked p (k + 26) (Plus G0 A0 (Imm (pos 0)))) where
-          abbrev Cont : ℕ → Type 0
-          Cont n = (v : ℤ) (st' : Store) (mem' : ℕ → OWord) (q : OState)
-              → Here g linked p w top words mem' fs q → At g linked p (k + 26 + 1) q
-              → q.maps.regs.g0 ≡ Plain (Int v) → fits_64 v ≡ true → StoreIs st' mem'
-              → UpTo g ow.owes (used w top) n c q (kk v st')
+            (cleared : Cleared o) (behind : Placed g linked p (k + SITE_WORDS) (Plus G0 A0 (Imm (pos 0))))
+          where
+            abbrev Cont : ℕ → Type 0
+            Cont n = (v : ℤ) (st' : Store) (mem' : ℕ → OWord) (q : OState)
+                → Here g linked p w top words mem' fs q → At g linked p (k + SITE_WORDS + 1) q
+                → q.maps.regs.g0 ≡ Plain (Int v) → fits_64 v ≡ true → StoreIs st' mem'
+                → UpTo g ow.owes (used w top) n c q (kk v st')
 
-          pair_here : (c : CapFields) (d : Sealable) (seal : ℕ) → Sealing c d seal x y
-              → PairHere g linked c d seal o
-          pair_here c d seal z =
-              record {
-                code = ex ∙ z.code;
-                half = ey ∙ z.half;
-                normal = z.normal;
-                runs = z.runs;
-                half_normal = z.half_normal;
-                half_rests = z.half_rests;
-                foreign = z.foreign;
-              }
+            pair_here : (c : CapFields) (d : Sealable) (seal : ℕ) → Sealing c d seal x y
+                → PairHere g linked c d seal o
+            pair_here c d seal z =
+                record {
+                  code = ex ∙ z.code;
+                  half = ey ∙ z.half;
+                  normal = z.normal;
+                  runs = z.runs;
+                  half_normal = z.half_normal;
+                  half_rests = z.half_rests;
+                  foreign = z.foreign;
+                }
 
-          given_is : top - w - g.layout.stack.base ≡ f.left - f.need - 1
-          given_is = omega (arith, need_is, left_is, room)
+            given_is : top - w - g.layout.stack.base ≡ f.left - f.need - 1
+            given_is = omega (arith, need_is, left_is, room)
 
-          -- the four registers are the words of the arguments
-          four_are : (xs : List OWord) (q : OState) → length xs ≡ 4 → Holding xs q
-              → xs ≡ q.maps.regs.a0 ∷ q.maps.regs.a1 ∷ q.maps.regs.a2 ∷ q.maps.regs.a3 ∷ []
-          four_are [] q len hd = absurd (omega (arith, len))
-          four_are (x0 ∷ []) q len hd = absurd (omega (arith, len))
-          four_are (x0 ∷ x1 ∷ []) q len hd = absurd (omega (arith, len))
-          four_are (x0 ∷ x1 ∷ x2 ∷ []) q len hd = absurd (omega (arith, len))
-          four_are (x0 ∷ x1 ∷ x2 ∷ x3 ∷ []) q len hd =
-              sym (ap (λ z. z ∷ q.maps.regs.a1 ∷ q.maps.regs.a2 ∷ q.maps.regs.a3 ∷ []) (hd 0 x0 refl)
-              ∙ ap (λ z. x0 ∷ z ∷ q.maps.regs.a2 ∷ q.maps.regs.a3 ∷ []) (hd 1 x1 refl)
-              ∙ ap (λ z. x0 ∷ x1 ∷ z ∷ q.maps.regs.a3 ∷ []) (hd 2 x2 refl)
-              ∙ ap (λ z. x0 ∷ x1 ∷ x2 ∷ z ∷ []) (hd 3 x3 refl))
-          four_are (x0 ∷ x1 ∷ x2 ∷ x3 ∷ x4 ∷ xs) q len hd = absurd (omega (arith, len))
+            -- the four registers are the words of the arguments
+            four_are : (xs : List OWord) (q : OState) → length xs ≡ 4 → Holding xs q
+                → xs ≡ q.maps.regs.a0 ∷ q.maps.regs.a1 ∷ q.maps.regs.a2 ∷ q.maps.regs.a3 ∷ []
+            four_are [] q len hd = absurd (omega (arith, len))
+            four_are (x0 ∷ []) q len hd = absurd (omega (arith, len))
+            four_are (x0 ∷ x1 ∷ []) q len hd = absurd (omega (arith, len))
+            four_are (x0 ∷ x1 ∷ x2 ∷ []) q len hd = absurd (omega (arith, len))
+            four_are (x0 ∷ x1 ∷ x2 ∷ x3 ∷ []) q len hd =
+                sym (ap (λ z. z ∷ q.maps.regs.a1 ∷ q.maps.regs.a2 ∷ q.maps.regs.a3 ∷ []) (hd 0 x0 refl)
+                ∙ ap (λ z. x0 ∷ z ∷ q.maps.regs.a2 ∷ q.maps.regs.a3 ∷ []) (hd 1 x1 refl)
+                ∙ ap (λ z. x0 ∷ x1 ∷ z ∷ q.maps.regs.a3 ∷ []) (hd 2 x2 refl)
+                ∙ ap (λ z. x0 ∷ x1 ∷ x2 ∷ z ∷ []) (hd 3 x3 refl))
+            four_are (x0 ∷ x1 ∷ x2 ∷ x3 ∷ x4 ∷ xs) q len hd = absurd (omega (arith, len))
 
-          filled_is : filled ws ≡ o.maps.regs.a0 ∷ o.maps.regs.a1 ∷ o.maps.regs.a2 ∷ o.maps.regs.a3 ∷ []
-          filled_is = four_are (filled ws) o
-              (let l = length-append ws (replicate (4 - length ws) (Plain (Int (pos 0)))) in
-              let r = length-replicate (4 - length ws) (Plain (Int (pos 0))) in omega (arith, l, r, few))
-              holds
+            filled_is : filled ws ≡ o.maps.regs.a0 ∷ o.maps.regs.a1 ∷ o.maps.regs.a2 ∷ o.maps.regs.a3 ∷ []
+            filled_is = four_are (filled ws) o
+                (let l = length-append ws (replicate (4 - length ws) (Plain (Int (pos 0)))) in
+                let r = length-replicate (4 - length ws) (Plain (Int (pos 0))) in omega (arith, l, r, few))
+                holds
 
-          args_public : ArePublic g (o.maps.regs.a0 ∷ o.maps.regs.a1 ∷ o.maps.regs.a2 ∷ o.maps.regs.a3 ∷ [])
-          args_public = subst (ArePublic g) filled_is (words_shown vs wy.words ws (4 - length ws) passed)
+            args_public : ArePublic g (o.maps.regs.a0 ∷ o.maps.regs.a1 ∷ o.maps.regs.a2 ∷ o.maps.regs.a3 ∷ [])
+            args_public = subst (ArePublic g) filled_is (words_shown vs wy.words ws (4 - length ws) passed)
 
-          pub runs_law : (n : ℕ) (t : Target) → MeantBy (Runs t) x y
-              → ProcLaw world g linked Begins StoreIs RegsAre n → Cont (suc n) → 18 + c ≤ b
-              → UpTo g ow.owes (used w top) (suc n) b o
-              (call_by world (whole world) f.home (f.left - f.need - 1) site wy (Runs t) vs kk st)
-          runs_law n t m law cont le =
-              let r = m.0 in
-              let e = m.1 in
-              let pr = pair_here _ _ m.2 m.5 in
-              subst (λ l. UpTo g ow.owes (used w top) (suc n) b o
-              ((whole world).proc t (Some l) (handed world wy vs) kk st)) given_is
-              (call_in_law world g linked Begins StoreIs RegsAre p w top words mem fs o h k I U at there.here
-              room t m.0 m.1 (code_at (ranges_of m.0) m.1)
-              (MemIn (data_cap (ranges_of m.0) (pos m.0.component.data_base))) m.2 pr m.4 m.3 refl refl
-              ow n (1 + c) b kk (handed world wy vs) st law
-              (record {
-                code = tt;
-                half = tt;
-                a0 = args_public.0;
-                a1 = args_public.1.0;
-                a2 = args_public.1.1.0;
-                a3 = args_public.1.1.1.0;
-              }) store
-              (passes wy vs ws _ passed few (λ j z g1. held j z g1))
-              (λ v st' mem' q h2 at2 e2 f2 store2. fewer g n (1 + c) q (kk v st')
-              (take_law g linked p (k + 26) q h2.valid at2 behind
-              (upto g ow.owes (used w top) (suc n) (kk v st')) v (1 + c)
-              c (ap look e2) f2
-              (λ v3 at3. cont v st' mem' (took g linked p (k + 26) q h2.valid at2 behind v)
-              (record {
-                valid = v3;
-                at = h2.at;
-                stk = h2.stk;
-                cursor = h2.cursor;
-                dat = h2.dat;
-                slots = h2.slots;
-                fit = h2.fit;
-                globs = h2.globs;
-                frames = h2.frames;
-                low = h2.low;
-                high = h2.high;
-                free = h2.free;
-              }) at3 refl f2 store2) (omega arith))) (omega (arith, le)))
-            where
-              held : (j : ℕ) (z : OWord) → slice_get (filled ws) j ≡ Some z
-                  → reg (called_to g linked p w top words mem fs o h k I U at there.here room
-                  (code_at (ranges_of m.0) m.1)
-                  (MemIn (data_cap (ranges_of m.0) (pos m.0.component.data_base))) m.2
-                  (pair_here _ _ m.2 m.5)).maps.regs (argument j) ≡ z
-              held zero z g1 = holds zero z g1
-              held (suc zero) z g1 = holds (suc zero) z g1
-              held (suc (suc zero)) z g1 = holds (suc (suc zero)) z g1
-              held (suc (suc (suc zero))) z g1 = holds (suc (suc (suc zero))) z g1
-              held (suc (suc (suc (suc j)))) z g1 = holds (suc (suc (suc (suc j)))) z g1
+            pub runs_law : (n : ℕ) (t : Target) → MeantBy (Runs t) x y
+                → ProcLaw scene n → Cont (suc n) → 18 + c ≤ b
+                → UpTo g ow.owes (used w top) (suc n) b o
+                (call_by world (whole world) f.home (f.left - f.need - 1) site wy (Runs t) vs kk st)
+            runs_law n t m law cont le =
+                let r = m.0 in
+                let e = m.1 in
+                let pr = pair_here _ _ m.2 m.5 in
+                subst (λ l. UpTo g ow.owes (used w top) (suc n) b o
+                ((whole world).proc t (Some l) (handed world wy vs) kk st)) given_is
+                (call_in_law scene p w top words mem fs o h k I U at there.here
+                room t m.0 m.1 (code_at (ranges_of m.0) m.1)
+                (MemIn (data_cap (ranges_of m.0) (pos m.0.component.data_base))) m.2 pr m.4 m.3 refl refl
+                ow n (1 + c) b kk (handed world wy vs) st law
+                (record {
+                  code = tt;
+                  half = tt;
+                  a0 = args_public.0;
+                  a1 = args_public.1.0;
+                  a2 = args_public.1.1.0;
+                  a3 = args_public.1.1.1.0;
+                }) store
+                (passes wy vs ws _ passed few (λ j z g1. held j z g1))
+                (λ v st' mem' q h2 at2 e2 f2 store2. fewer g n (1 + c) q (kk v st')
+                (take_law g linked p (k + SITE_WORDS) q h2.valid at2 behind
+                (upto g ow.owes (used w top) (suc n) (kk v st')) v (1 + c)
+                c (ap look e2) f2
+                (λ v3 at3. cont v st' mem' (took g linked p (k + SITE_WORDS) q h2.valid at2 behind v)
+                (record {
+                  valid = v3;
+                  at = h2.at;
+                  stk = h2.stk;
+                  cursor = h2.cursor;
+                  dat = h2.dat;
+                  slots = h2.slots;
+                  fit = h2.fit;
+                  globs = h2.globs;
+                  frames = h2.frames;
+                  low = h2.low;
+                  high = h2.high;
+                  free = h2.free;
+                }) at3 refl f2 store2) (omega arith))) (omega (arith, le)))
+              where
+                held : (j : ℕ) (z : OWord) → slice_get (filled ws) j ≡ Some z
+                    → reg (called_to g linked p w top words mem fs o h k I U at there.here room
+                    (code_at (ranges_of m.0) m.1)
+                    (MemIn (data_cap (ranges_of m.0) (pos m.0.component.data_base))) m.2
+                    (pair_here _ _ m.2 m.5)).maps.regs (argument j) ≡ z
+                held zero z g1 = holds zero z g1
+                held (suc zero) z g1 = holds (suc zero) z g1
+                held (suc (suc zero)) z g1 = holds (suc (suc zero)) z g1
+                held (suc (suc (suc zero))) z g1 = holds (suc (suc (suc zero))) z g1
+                held (suc (suc (suc (suc j)))) z g1 = holds (suc (suc (suc (suc j)))) z g1
 
-          pub outside_call_law : (n : ℕ) → MeantBy Outside x y
-              → WaitLaw world g linked Begins StoreIs RegsAre n → Cont (suc n) → 18 + c ≤ b
-              → UpTo g ow.owes (used w top) (suc n) b o
-              (call_by world (whole world) f.home (f.left - f.need - 1) site wy Outside vs kk st)
-          unfolding faces
-          outside_call_law n m law cont le =
-              call_out_law g linked world Begins StoreIs RegsAre p w top words mem fs o h k I U at there.here
-              room m.0 m.1 m.2 pr behind cleared.g0 cleared.g1 cleared.g2 ow n c b wt st told_call
-              (call_shown g.layout Q I (top - w)) law m.4
-              all_public store for alike (λ low. refl) refl
-              (λ j lj v st' mem' q h2 at2 e2 f2 store2. fewest n j c q (kk v st') lj
-              (cont v st' mem' q h2 at2 e2 f2 store2)) (omega (arith, le))
-            where
-              pr : PairHere g linked m.0 m.1 m.2 o
-              pr = pair_here m.0 m.1 m.2 m.3
+            pub outside_call_law : (n : ℕ) → MeantBy Outside x y
+                → WaitLaw scene n → Cont (suc n) → 18 + c ≤ b
+                → UpTo g ow.owes (used w top) (suc n) b o
+                (call_by world (whole world) f.home (f.left - f.need - 1) site wy Outside vs kk st)
+            unfolding faces
+            outside_call_law n m law cont le =
+                call_out_law scene p w top words mem fs o h k I U at there.here
+                room m.0 m.1 m.2 pr behind cleared.g0 cleared.g1 cleared.g2 ow n c b wt st told_call
+                (call_shown g.layout Q I (top - w)) law m.4
+                all_public store for alike (λ low. refl) refl
+                (λ j lj v st' mem' q h2 at2 e2 f2 store2. fewest n j c q (kk v st') lj
+                (cont v st' mem' q h2 at2 e2 f2 store2)) (omega (arith, le))
+              where
+                pr : PairHere g linked m.0 m.1 m.2 o
+                pr = pair_here m.0 m.1 m.2 m.3
 
-              Q : OState
-              Q = called_to g linked p w top words mem fs o h k I U at there.here room m.0 m.1 m.2 pr
+                Q : OState
+                Q = called_to g linked p w top words mem fs o h k I U at there.here room m.0 m.1 m.2 pr
 
-              all_public : (r : Reg) → IsPublic g (reg Q.maps.regs r)
-              all_public Pc = λ a b e0 e1. cc
-              all_public Rcode = tt
-              all_public Rdata = tt
-              all_public Stk = λ a b e0 e1. cc
-              all_public Dat = unsealed_public g (content_of m.1)
-              all_public T1 = λ a b e0 e1. cc
-              all_public T2 = λ a b e0 e1. cc
-              all_public C1 = subst (IsPublic g) (sym ex) (outside_public m.0 m.1 m.2 x y m.3 m.4).0
-              all_public C2 = subst (IsPublic g) (sym ey) (outside_public m.0 m.1 m.2 x y m.3 m.4).1
-              all_public A0 = args_public.0
-              all_public A1 = args_public.1.0
-              all_public A2 = args_public.1.1.0
-              all_public A3 = args_public.1.1.1.0
-              all_public G0 = subst (IsPublic g) (sym cleared.g0) (int_public g (pos 0))
-              all_public G1 = subst (IsPublic g) (sym cleared.g1) (int_public g (pos 0))
-              all_public G2 = subst (IsPublic g) (sym cleared.g2) (int_public g (pos 0))
+                all_public : (r : Reg) → IsPublic g (reg Q.maps.regs r)
+                all_public Pc = λ a b e0 e1. cc
+                all_public Rcode = tt
+                all_public Rdata = tt
+                all_public Stk = λ a b e0 e1. cc
+                all_public Dat = unsealed_public g (content_of m.1)
+                all_public T1 = λ a b e0 e1. cc
+                all_public T2 = λ a b e0 e1. cc
+                all_public C1 = subst (IsPublic g) (sym ex) (outside_public m.0 m.1 m.2 x y m.3 m.4).0
+                all_public C2 = subst (IsPublic g) (sym ey) (outside_public m.0 m.1 m.2 x y m.3 m.4).1
+                all_public A0 = args_public.0
+                all_public A1 = args_public.1.0
+                all_public A2 = args_public.1.1.0
+                all_public A3 = args_public.1.1.1.0
+                all_public G0 = subst (IsPublic g) (sym cleared.g0) (int_public g (pos 0))
+                all_public G1 = subst (IsPublic g) (sym cleared.g1) (int_public g (pos 0))
+                all_public G2 = subst (IsPublic g) (sym cleared.g2) (int_public g (pos 0))
 
-              wt : Wait world
-              wt = record {
-                part = part_of world f.home;
-                site = site;
-                base = stack_of world f.home + (f.left - f.need - 1);
-                given = f.left - f.need - 1;
-                resume = kk;
-              }
+                wt : Wait world
+                wt = record {
+                  part = part_of world f.home;
+                  site = site;
+                  base = stack_of world f.home + (f.left - f.need - 1);
+                  given = f.left - f.need - 1;
+                  resume = kk;
+                }
 
-              frame_base : (new_frame I (top - w) top o).base ≡ stack_of world f.home + (f.left - f.need - 1)
-              frame_base = (let z : top - w ≡ stack_of world f.home + (f.left - f.need - 1) =
-                  omega (arith, need_is, left_is, stack_is, room) in z)
+                frame_base : (new_frame I (top - w) top o).base
+                    ≡ stack_of world f.home + (f.left - f.need - 1)
+                frame_base = (let z : top - w ≡ stack_of world f.home + (f.left - f.need - 1) =
+                    omega (arith, need_is, left_is, stack_is, room) in z)
 
-              for : IsFor world g linked Begins StoreIs RegsAre wt (new_frame I (top - w) top o)
-              for = record {
-                part = subst (λ z. bytes_eq z (part_of world f.home) ≡ true)
-                    (sym (site_part k I U there.here))
-                    ((bytes_eq-Decides (part_of world f.home) (part_of world f.home)).1 refl);
-                site = there.index_is;
-                base = frame_base;
-                given = given_is;
-              }
+                for : IsFor scene wt (new_frame I (top - w) top o)
+                for = record {
+                  part = subst (λ z. bytes_eq z (part_of world f.home) ≡ true)
+                      (sym (site_part k I U there.here))
+                      ((bytes_eq-Decides (part_of world f.home) (part_of world f.home)).1 refl);
+                  site = there.index_is;
+                  base = frame_base;
+                  given = given_is;
+                }
 
-              told_call : Option ℕ → Event
-              told_call low = call_event OWord Entry (part_of world f.home) site
-                  (stack_of world f.home + (f.left - f.need - 1)) wy vs low
+                told_call : Option ℕ → Event
+                told_call low = call_event OWord Entry (part_of world f.home) site
+                    (stack_of world f.home + (f.left - f.need - 1)) wy vs low
 
-              fewest : (n j c : ℕ) (q : OState) (m : Comp) → j ≤ n → UpTo g ow.owes (used w top) (suc n) c q m
-                  → UpTo g ow.owes (used w top) j c q m
-              fewest n j c q m lj u = record {
-                by = λ i li. u.by i (omega (arith, lj, li));
-                quiet = quiet_fewer g (Shows g.layout) (GivesBack g.layout) q ow.owes j (suc n)
-                    (omega (arith, lj)) u.quiet;
-                wiped = λ x low s i li. u.wiped x low s i (omega (arith, lj, li));
-              }
+                fewest : (n j c : ℕ) (q : OState) (m : Comp) → j ≤ n
+                    → UpTo g ow.owes (used w top) (suc n) c q m
+                    → UpTo g ow.owes (used w top) j c q m
+                fewest n j c q m lj u = record {
+                  by = λ i li. u.by i (omega (arith, lj, li));
+                  quiet = quiet_fewer g (Shows g.layout) (GivesBack g.layout) q ow.owes j (suc n)
+                      (omega (arith, lj)) u.quiet;
+                  wiped = λ x low s i li. u.wiped x low s i (omega (arith, lj, li));
+                }
 
-              valid_q : Valid g linked Q
-              valid_q = called_valid g linked p w top words mem fs o h k I U at there.here room m.0 m.1 m.2 pr
+                valid_q : Valid g linked Q
+                valid_q = called_valid g linked p w top words mem fs o h k I U at there.here room m.0 m.1 m.2
+                    pr
 
-              a_is : (d : Reg) → integer_in (flat g.layout Q.frames (reg Q.maps.regs d)) ≡ integer_in
-                  (look (reg Q.maps.regs d))
-              a_is d = flat_reg Q valid_q d
+                a_is : (d : Reg) → integer_in (flat g.layout Q.frames (reg Q.maps.regs d)) ≡ integer_in
+                    (look (reg Q.maps.regs d))
+                a_is d = flat_reg Q valid_q d
 
-              word_is : (d : Reg) (i : ℕ) → slice_index_or (o.maps.regs.a0 ∷ o.maps.regs.a1 ∷ o.maps.regs.a2
-                  ∷ o.maps.regs.a3 ∷ []) i (Plain (Int (pos 0))) ≡ reg Q.maps.regs d
-                  → arg_at OWord Entry vs wy.words i ≡ arg_shown
-                  (integer_in (flat g.layout Q.frames (reg Q.maps.regs d))) (reg Q.maps.regs d)
-              word_is d i e =
-                  sym (shown_at vs wy.words ws (4 - length ws) i passed)
-                  ∙ ap (λ z. word_shown (slice_index_or z i (Plain (Int (pos 0))))) filled_is
-                  ∙ ap word_shown e
-                  ∙ ap (λ z. arg_shown z (reg Q.maps.regs d)) (sym (a_is d))
+                word_is : (d : Reg) (i : ℕ) → slice_index_or (o.maps.regs.a0 ∷ o.maps.regs.a1 ∷ o.maps.regs.a2
+                    ∷ o.maps.regs.a3 ∷ []) i (Plain (Int (pos 0))) ≡ reg Q.maps.regs d
+                    → arg_at OWord Entry vs wy.words i ≡ arg_shown
+                    (integer_in (flat g.layout Q.frames (reg Q.maps.regs d))) (reg Q.maps.regs d)
+                word_is d i e =
+                    sym (shown_at vs wy.words ws (4 - length ws) i passed)
+                    ∙ ap (λ z. word_shown (slice_index_or z i (Plain (Int (pos 0))))) filled_is
+                    ∙ ap word_shown e
+                    ∙ ap (λ z. arg_shown z (reg Q.maps.regs d)) (sym (a_is d))
 
-              args_are : marked_args OWord Entry vs wy.words ≡ args_shown g.layout Q
-              args_are =
-                  ap (λ z. z ∷ arg_at OWord Entry vs wy.words 1 ∷ arg_at OWord Entry vs wy.words 2
-                  ∷ arg_at OWord Entry vs wy.words 3 ∷ []) (word_is A0 0 refl)
-                  ∙ ap (λ z. arg_shown (integer_in (flat g.layout Q.frames Q.maps.regs.a0)) Q.maps.regs.a0 ∷ z
-                  ∷ arg_at OWord Entry vs wy.words 2
-                  ∷ arg_at OWord Entry vs wy.words 3 ∷ []) (word_is A1 1 refl)
-                  ∙ ap (λ z. arg_shown (integer_in (flat g.layout Q.frames Q.maps.regs.a0)) Q.maps.regs.a0
-                  ∷ arg_shown (integer_in (flat g.layout Q.frames Q.maps.regs.a1)) Q.maps.regs.a1 ∷ z
-                  ∷ arg_at OWord Entry vs wy.words 3 ∷ []) (word_is A2 2 refl)
-                  ∙ ap (λ z. arg_shown (integer_in (flat g.layout Q.frames Q.maps.regs.a0)) Q.maps.regs.a0
-                  ∷ arg_shown (integer_in (flat g.layout Q.frames Q.maps.regs.a1)) Q.maps.regs.a1
-                  ∷ arg_shown (integer_in (flat g.layout Q.frames Q.maps.regs.a2)) Q.maps.regs.a2 ∷ z ∷ [])
-                  (word_is A3 3 refl)
+                args_are : marked_args OWord Entry vs wy.words ≡ args_shown g.layout Q
+                args_are =
+                    ap (λ z. z ∷ arg_at OWord Entry vs wy.words 1 ∷ arg_at OWord Entry vs wy.words 2
+                    ∷ arg_at OWord Entry vs wy.words 3 ∷ []) (word_is A0 0 refl)
+                    ∙ ap (λ z. arg_shown (integer_in (flat g.layout Q.frames Q.maps.regs.a0)) Q.maps.regs.a0 ∷
+                    z
+                    ∷ arg_at OWord Entry vs wy.words 2
+                    ∷ arg_at OWord Entry vs wy.words 3 ∷ []) (word_is A1 1 refl)
+                    ∙ ap (λ z. arg_shown (integer_in (flat g.layout Q.frames Q.maps.regs.a0)) Q.maps.regs.a0
+                    ∷ arg_shown (integer_in (flat g.layout Q.frames Q.maps.regs.a1)) Q.maps.regs.a1 ∷ z
+                    ∷ arg_at OWord Entry vs wy.words 3 ∷ []) (word_is A2 2 refl)
+                    ∙ ap (λ z. arg_shown (integer_in (flat g.layout Q.frames Q.maps.regs.a0)) Q.maps.regs.a0
+                    ∷ arg_shown (integer_in (flat g.layout Q.frames Q.maps.regs.a1)) Q.maps.regs.a1
+                    ∷ arg_shown (integer_in (flat g.layout Q.frames Q.maps.regs.a2)) Q.maps.regs.a2 ∷ z ∷ [])
+                    (word_is A3 3 refl)
 
-              call_line : List ℕ → ℕ → ℕ → Option OWord → Option OWord → List (Arg OWord) → Shown
-              call_line part i base x y xs = shown_of (Calls part i base None x y xs)
+                call_line : List ℕ → ℕ → ℕ → Option OWord → Option OWord → List (Arg OWord) → Shown
+                call_line part i base x y xs = shown_of (Calls part i base None x y xs)
 
-              alike : (low : Option ℕ) → shown_of (told_call low) ≡ call_shown g.layout Q I (top - w)
-              alike low =
-                  let args = marked_args OWord Entry vs wy.words in
-                  let part = part_of world f.home in
-                  let at = stack_of world f.home + (f.left - f.need - 1) in
-                  let J = site_of g.layout I in
-                  ap (λ z. call_line z site at wy.first wy.second args) (sym (site_part k I U there.here))
-                  ∙ ap (λ z. call_line (part_name g.layout J.part) z at wy.first wy.second args)
-                  (sym there.index_is)
-                  ∙ ap (λ z. call_line (part_name g.layout J.part) J.index z wy.first wy.second args)
-                  (sym frame_base)
-                  ∙ ap (λ z. call_line (part_name g.layout J.part) J.index (top - w) z wy.second args)
-                  (ef ∙ ap Some (sym ex))
-                  ∙ ap (λ z. call_line (part_name g.layout J.part) J.index (top - w)
-                  (Some Q.maps.regs.c1) z args)
-                  (es ∙ ap Some (sym ey))
-                  ∙ ap (call_line (part_name g.layout J.part) J.index (top - w) (Some Q.maps.regs.c1)
-                  (Some Q.maps.regs.c2)) args_are
+                alike : (low : Option ℕ) → shown_of (told_call low) ≡ call_shown g.layout Q I (top - w)
+                alike low =
+                    let args = marked_args OWord Entry vs wy.words in
+                    let part = part_of world f.home in
+                    let at = stack_of world f.home + (f.left - f.need - 1) in
+                    let J = site_of g.layout I in
+                    ap (λ z. call_line z site at wy.first wy.second args) (sym (site_part k I U there.here))
+                    ∙ ap (λ z. call_line (part_name g.layout J.part) z at wy.first wy.second args)
+                    (sym there.index_is)
+                    ∙ ap (λ z. call_line (part_name g.layout J.part) J.index z wy.first wy.second args)
+                    (sym frame_base)
+                    ∙ ap (λ z. call_line (part_name g.layout J.part) J.index (top - w) z wy.second args)
+                    (ef ∙ ap Some (sym ex))
+                    ∙ ap (λ z. call_line (part_name g.layout J.part) J.index (top - w)
+                    (Some Q.maps.regs.c1) z args)
+                    (es ∙ ap Some (sym ey))
+                    ∙ ap (call_line (part_name g.layout J.part) J.index (top - w) (Some Q.maps.regs.c1)
+                    (Some Q.maps.regs.c2)) args_are
 
     -- a call of any pair
     pub call_law : (n b c site : ℕ) (kk : Then) (st : Store) (words : List OWord) (mem : ℕ → OWord)
         (o : OState) (h : Here g linked p w top words mem fs o) (k end : ℕ) (at : At g linked p k o)
         → Called g linked p end k site → StoreIs st mem
-        → ((m : ℕ) → m < n → ProcLaw world g linked Begins StoreIs RegsAre m)
-        → ((m : ℕ) → m < n → WaitLaw world g linked Begins StoreIs RegsAre m)
+        → ((m : ℕ) → m < n → ProcLaw scene m)
+        → ((m : ℕ) → m < n → WaitLaw scene m)
         → (r : Pair) (x y : OWord) → o.maps.regs.c1 ≡ x → o.maps.regs.c2 ≡ y → IsCalled r x y
         → (vs : List Value) (ws : List OWord) (wy : Way) → wy.first ≡ Some x → wy.second ≡ Some y
         → Passed vs wy.words ws → length ws ≤ 4 → Holding (filled ws) o
-        → Cleared o → Placed g linked p (k + 26) (Plus G0 A0 (Imm (pos 0)))
+        → Cleared o → Placed g linked p (k + SITE_WORDS) (Plus G0 A0 (Imm (pos 0)))
         → ((v : ℤ) (st' : Store) (mem' : ℕ → OWord) (q : OState) → Here g linked p w top words mem' fs q
-        → At g linked p (k + 26 + 1) q → q.maps.regs.g0 ≡ Plain (Int v) → fits_64 v ≡ true
+        → At g linked p (k + SITE_WORDS + 1) q → q.maps.regs.g0 ≡ Plain (Int v) → fits_64 v ≡ true
         → StoreIs st' mem' → UpTo g ow.owes (used w top) n c q (kk v st'))
         → 18 + c ≤ b → UpTo g ow.owes (used w top) n b o (call world (whole world) f site wy r vs kk st)
     call_law zero b c site kk st words mem o h k end at there store procs waits r x y ex ey pair vs ws

@@ -21,9 +21,9 @@ use Rattle.overlay_machine.specs.State.{OpenFrame, OState}
 use Rattle.overlay_machine.specs.Step.{own_stack, new_frame}
 use Rattle.overlay_machine.specs.Link.{Link, IsTrusted, ranges_of}
 use Rattle.overlay_machine.specs.Safe.{IsSafe}
-use Rattle.overlay_machine.specs.Linked.{Linked}
 use Rattle.overlay_machine.proofs.Offers.{own_from, length-words_from}
-use Rattle.source_laws.proofs.Refined.{World, Registers, Then, whole}
+use Rattle.source_laws.proofs.Scenes.{Scene}
+use Rattle.source_laws.proofs.Refined.{Registers, Then, whole}
 use Rattle.proc_semantics.specs.Values.{Store}
 use Rattle.proc_semantics.specs.declared.value.Target.{Target}
 use Rattle.template_runs.specs.Runs.{is_inside, Makes}
@@ -34,6 +34,7 @@ use Rattle.template_runs.proofs.Offers.{clean_wiped, used, Keeps, back_valid, re
 use Rattle.template_runs.proofs.Offers.{back_returned, given_there, Out, Owing, Valid, At, Placed}
 use Rattle.template_runs.proofs.Offers.{inside_here, Here, DataIs, called_valid, called_stk, called_data}
 use Rattle.template_runs.proofs.Offers.{called_own, SiteHere, Pair, called_to, call_makes, here_back, at_back}
+use Rattle.call_sequence.specs.declared.TheConstants.{CALL_WORDS, SITE_WORDS}
 use Rattle.call_sequence.specs.SequenceRuns.{stack_cap as stack_part}
 use Rattle.template_runs.specs.Border.{Opened, code_word, half_word, content_of as content_in, ShowsLeave}
 use Rattle.template_runs.specs.Border.{GivesBack, Wiped, content_of}
@@ -45,10 +46,9 @@ use Rattle.cap_words.specs.declared.Sealable.TheVariants.{Mem as MemIn, Seal as 
 pub int_public : (g : Link) (v : ℤ) → IsPublic g (Plain (Int v))
 int_public g v p k ip e = cc
 
-module _ (world : World) (g : Link) (linked : Linked g)
-    -- how the world shows in the machine: which entry a procedure has, and what globals and registers hold
-    (Begins : Target → PartSeen → ℕ → Type 0) (StoreIs : Store → (ℕ → OWord) → Type 0)
-    (RegsAre : Registers → OState → Type 0) where
+module _ (scene : Scene) where
+  open scene use {world, g, linked, Begins, StoreIs, RegsAre}
+
   -- at the jump that ends a procedure of a part that was entered in o, with its value and the words of all
   -- trusted data
   pub record AtEnd (p : PartSeen) (o q : OState) (v : ℤ) (mem : ℕ → OWord) : Type 0 where
@@ -245,7 +245,7 @@ module _ (world : World) (g : Link) (linked : Linked g)
     abbrev F : OpenFrame
     F = new_frame i (top - w) top o
 
-    makes : Makes g.layout 16 (Some (Called (is_inside g.layout Q) i (top - w) top)) o Q
+    makes : Makes g.layout CALL_WORDS (Some (Called (is_inside g.layout Q) i (top - w) top)) o Q
     makes = call_makes g linked p w top words mem fs o h k i u at s room c d seal pair
 
     q_at : At g linked r e Q
@@ -266,14 +266,16 @@ module _ (world : World) (g : Link) (linked : Linked g)
         → EntryPublic Q
         → StoreIs st mem → RegsAre rs Q
         → ((v : ℤ) (st' : Store) (mem' : ℕ → OWord) (q : OState) → Here g linked p w top words mem' fs q
-        → At g linked p (k + 26) q → q.maps.regs.a0 ≡ Plain (Int v) → fits_64 v ≡ true → StoreIs st' mem'
+        → At g linked p (k + SITE_WORDS) q → q.maps.regs.a0 ≡ Plain (Int v) → fits_64 v ≡ true
+        → StoreIs st' mem'
         → UpTo g ow.owes (used w top) n b q (kk v st'))
-        → 16 + b ≤ cr → UpTo g ow.owes (used w top) (suc n) cr o
+        → CALL_WORDS + b ≤ cr → UpTo g ow.owes (used w top) (suc n) cr o
         ((whole world).proc t (Some (top - w - g.layout.stack.base)) rs kk st)
     call_in_law ow n b cr kk rs st law public store regs cont le =
-        spend g (suc n) (16 + b) cr o _ le
-        (subst (λ l. UpTo g ow.owes (used w top) (suc n) (16 + b) o ((whole world).proc t l rs kk st)) q_left
-        (go_silent g n 16 b (Some (Called true i (top - w) top)) o Q
+        spend g (suc n) (CALL_WORDS + b) cr o _ le
+        (subst (λ l. UpTo g ow.owes (used w top) (suc n) (CALL_WORDS + b) o ((whole world).proc t l rs kk st))
+        q_left
+        (go_silent g n CALL_WORDS b (Some (Called true i (top - w) top)) o Q
         ((whole world).proc t (left_now Q) rs kk st) silent_call refl refl (inside_here g linked r e Q q_at)
         begins_below (λ a m. inl m)
         (law t r e b kk rs st mem Q inner begins
@@ -282,8 +284,8 @@ module _ (world : World) (g : Link) (linked : Linked g)
         (called_stk g linked p w top words mem fs o h k i u at s room c d seal pair).0 public
         (called_data g linked p w top words mem fs o h k i u at s room c d seal pair) store regs after)))
       where
-        silent_call : Makes g.layout 16 (Some (Called true i (top - w) top)) o Q
-        silent_call = subst (λ x. Makes g.layout 16 (Some (Called x i (top - w) top)) o Q)
+        silent_call : Makes g.layout CALL_WORDS (Some (Called true i (top - w) top)) o Q
+        silent_call = subst (λ x. Makes g.layout CALL_WORDS (Some (Called x i (top - w) top)) o Q)
             (inside_here g linked r e Q q_at) makes
 
         -- the stack of the procedure is what lies below the frame
@@ -339,5 +341,6 @@ module _ (world : World) (g : Link) (linked : Linked g)
             spend g n (11 + b) (b + 100) q (kk v st') less
             (fewer g n (11 + b) q (kk v st')
             (go_silent g n 11 b (Some (ReturnedTo true i (top - w) top)) q q3 (kk v st') back refl
-            refl (inside_here g linked p (k + 26) q3 at3) (brings q q3 a.top joins refl) (λ a m. inl m)
+            refl (inside_here g linked p (k + SITE_WORDS) q3 at3) (brings q q3 a.top joins refl)
+            (λ a m. inl m)
             (cont v st' mem' q3 here at3 a.value a.fits store')))

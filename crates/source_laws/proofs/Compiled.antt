@@ -1,5 +1,7 @@
 -- A procedure of the modules does what it means, given where its compiled code stands and what its names lead
 -- to.
+use Rattle.call_sequence.specs.declared.TheConstants.{ENTRY_WORDS}
+use Rattle.source_laws.proofs.Scenes.{Scene}
 use Rattle.source_laws.proofs.Refined.{Registers, taken_marks, World, proc_at, Comp, ends, Then, block}
 use Rattle.source_laws.proofs.Refined.{part_of, stack_of, Frame, whole}
 use Rattle.source_laws.proofs.Variables.{AtPlace, EnvIn}
@@ -34,10 +36,10 @@ use Rattle.proc_program.specs.StepView.{block_of}
 use Rattle.proc_semantics.specs.Values.{Store, taken}
 use Rattle.proc_semantics.specs.declared.value.Target.{Target}
 use Rattle.proc_program.specs.declared.program.Procedure.{Procedure}
-use Rattle.source_events.specs.declared.End.TheVariants.{Fail as Fails}
+use Rattle.source_events.specs.declared.MeaningEnd.TheVariants.{Fail as Fails}
 use Rattle.proc_semantics.specs.declared.value.Value.{Value}
 use Rattle.proc_semantics.specs.declared.value.Value.TheVariants.{Num}
-use Rattle.proc_templates.specs.declared.Frame.{Frame as Shape}
+use Rattle.proc_templates.specs.declared.FrameShape.{FrameShape as Shape}
 use Rattle.proc_templates.specs.Items.{Item, does, label, zero_of}
 use Rattle.proc_templates.specs.Templates as templates
 use Rattle.proc_templates.specs.Templates.{block_code, argument, check_params, push, pushed, before_epilogue}
@@ -54,11 +56,10 @@ use Rattle.source_laws.proofs.PieceSizes.{block_size}
 use Rattle.source_laws.proofs.Placings.{called_of}
 use Rattle.source_laws.proofs.Procedures.{checks_size, checks_few, push_size, pushed_are, prologue_of}
 use Rattle.source_laws.proofs.Procedures.{epilogue_of}
-use Rattle.source_laws.proofs.Evals.{Globals}
-use Rattle.source_laws.proofs.Arguments.{Pairs}
+use Rattle.source_laws.proofs.AtWork.{Globals, Pairs}
 use Rattle.source_laws.proofs.Callings.{IsPair, IsCalled, passed_public}
 use Rattle.source_laws.proofs.CallsIn.{EntryPublic}
-use Rattle.source_laws.proofs.Language.{Below, does_block}
+use Rattle.source_laws.proofs.Language.{Enacting, Below, does_block}
 use Rattle.source_laws.proofs.Parameters.{RegsAre, passes, checks_fail, checks_go}
 use Rattle.source_laws.proofs.Procs.{Proc, ArgsKept}
 use Rattle.source_laws.proofs.Bodies.{argument_regs, reads_all, kinds_length, rests, matches, env_in}
@@ -80,6 +81,16 @@ module _ (world : World) (g : Link) (linked : Linked g) (Begins : Target → Par
     (StoreIs : Store → (ℕ → OWord) → Type 0) where
   abbrev pub Regs : Registers → OState → Type 0
   Regs = RegsAre g linked Begins
+
+  abbrev pub InScene : Scene
+  InScene = record {
+    world = world;
+    g = g;
+    linked = linked;
+    Begins = Begins;
+    StoreIs = StoreIs;
+    RegsAre = Regs;
+  }
 
   -- the values of a procedure's places stand in the slots behind the first two
   abbrev pub EnvIs : Procedure → List (Option OWord) → List Value → List OWord → Type 0
@@ -156,10 +167,10 @@ module _ (world : World) (g : Link) (linked : Linked g) (Begins : Target → Par
 
     -- where the prologue begins, and the body
     abbrev Push : ℕ
-    Push = e + 20 + words_in Checked
+    Push = e + ENTRY_WORDS + words_in Checked
 
     abbrev Begin : ℕ
-    Begin = e + 20 + words_in Checked + 2 * c.what.need
+    Begin = e + ENTRY_WORDS + words_in Checked + 2 * c.what.need
 
     few : places c.what.callbacks ≤ 4
     few = subst (λ n. n ≤ 4) (places_are c.what.callbacks) c.few
@@ -197,12 +208,12 @@ module _ (world : World) (g : Link) (linked : Linked g) (Begins : Target → Par
         let sl = saved_length in
         push_size Pushed ∙ omega (arith, l, sl)
 
-    checks_stand : Stand g linked p End (e + 20) Checked
-    checks_stand = stand_front g linked p End (e + 20) Checked _ c.stands.1
+    checks_stand : Stand g linked p End (e + ENTRY_WORDS) Checked
+    checks_stand = stand_front g linked p End (e + ENTRY_WORDS) Checked _ c.stands.1
 
     from_push : Stand g linked p End Push
         (push Pushed ++ (block_code Fr Body ++ (does (zero_of A0) ∷ label ∷ templates.epilogue c.what.need)))
-    from_push = stand_back g linked p End (e + 20) Checked _ c.stands.1
+    from_push = stand_back g linked p End (e + ENTRY_WORDS) Checked _ c.stands.1
 
     prologue_stands : (ip : IsTrusted g p) (top : ℕ) (mem : ℕ → OWord) (fs : List OpenFrame)
         → Code g linked p Push (prologue g linked p ip top mem fs (Rcode ∷ Rdata ∷ Saved))
@@ -250,7 +261,7 @@ module _ (world : World) (g : Link) (linked : Linked g) (Begins : Target → Par
 
     calls_there : BlockCallsAt p.component Fr Begin Body
     calls_there =
-        let s1 = sites_back p.component Fr c.first c.first (e + 20) Checked
+        let s1 = sites_back p.component Fr c.first c.first (e + ENTRY_WORDS) Checked
         _ (checks_count c.what.callbacks 0 c.first) c.sites.1 in
         let s2 = sites_back p.component Fr c.first c.first Push (push Pushed) _ (push_count Pushed c.first)
         s1 in
@@ -272,7 +283,7 @@ module _ (world : World) (g : Link) (linked : Linked g) (Begins : Target → Par
         let fw = few in
         omega (arith, s1, s2, fw)
 
-    held_args : (o q : OState) → ArgsKept world g linked Begins StoreIs Regs EnvIs o q → (j : ℕ) (x : OWord)
+    held_args : (o q : OState) → ArgsKept InScene EnvIs o q → (j : ℕ) (x : OWord)
         → slice_get (o.maps.regs.a0 ∷ o.maps.regs.a1 ∷ o.maps.regs.a2 ∷ o.maps.regs.a3 ∷ []) j ≡ Some x
         → reg q.maps.regs (argument (0 + j)) ≡ x
     held_args o q k zero x is = let s : o.maps.regs.a0 ≡ x = cc in k.a0 ∙ s
@@ -297,25 +308,49 @@ module _ (world : World) (g : Link) (linked : Linked g) (Begins : Target → Par
         (set_goes look Plain A0 (pos 0) _ r.maps refl) (λ h1 at1.
         u _ h1 at1 refl) (omega arith)
 
+    -- the procedure at work, from a top of the stack on
+    abbrev pub Enacts : ℕ → List (Option OWord) → (fs : List OpenFrame) → Owing fs → Enacting
+    Enacts top ms fs ow = record {
+      scene = InScene;
+      p = p;
+      ip = c.part.trusted;
+      failing = c.part.failing;
+      top = top;
+      fs = fs;
+      ow = ow;
+      f = frame_of t c.what top ms;
+      s = Fr;
+      end = End;
+      end_in = end_in;
+      kinds = Kinds;
+      rests = rests c.what.callbacks c.what.locals;
+      temps = temps_in;
+      slots = slots_in;
+      globals = c.part.globals;
+      pairs = c.part.pairs;
+      need_is = refl;
+      left_is = refl;
+      stack_is = c.part.stack_is;
+      site_part = c.part.site_part;
+      passes = passes g linked Begins world;
+      called = called_there;
+    }
+
     module _ (laws : (top : ℕ) (ms : List (Option OWord)) (fs : List OpenFrame) (ow : Owing fs)
-        → Below world g linked Begins StoreIs Regs p c.part.trusted c.part.failing top fs ow
-        (frame_of t c.what top ms) Fr End Kinds (rests c.what.callbacks c.what.locals) c.part.globals end_in
-        temps_in slots_in c.part.pairs refl refl c.part.stack_is c.part.site_part
-        (passes g linked Begins world)
-        called_there n) where
+        → Below (Enacts top ms fs ow) n) where
       checks_done : (top d b : ℕ) (mem : ℕ → OWord) (rs : Registers) (o q : OState) (ow : Owing o.frames)
           (m : Comp)
-          → IsTrusted g p → Regs rs o → EntryPublic world g linked Begins StoreIs Regs o
-          → Here g linked p 0 top [] mem o.frames q → At g linked p (e + 20) q
+          → IsTrusted g p → Regs rs o → EntryPublic InScene o
+          → Here g linked p 0 top [] mem o.frames q → At g linked p (e + ENTRY_WORDS) q
           → q.maps.regs.rcode ≡ o.maps.regs.rcode → q.maps.regs.rdata ≡ o.maps.regs.rdata
-          → ArgsKept world g linked Begins StoreIs Regs EnvIs o q → q.maps.regs.t1 ≡ Plain (Int (pos 0))
+          → ArgsKept InScene EnvIs o q → q.maps.regs.t1 ≡ Plain (Int (pos 0))
           → (taken [] c.what.callbacks rs.registers ≡ None → words_in Checked ≤ d
           → UpTo g ow.owes (used c.what.need top) n d q (ends Fails))
           × ((env : List Value) → taken [] c.what.callbacks rs.registers ≡ Some env → words_in Checked + b ≤ d
           → ((ws : List OWord) (r : OState) (ip : IsTrusted g p) → length ws ≡ length Saved
           → EnvIs c.what (taken_marks c.what.callbacks rs.words)
           (env ++ replicate c.what.locals (Num (pos 0))) ws
-          → Here g linked p 0 top [] mem o.frames r → At g linked p (e + 20 + words_in Checked) r
+          → Here g linked p 0 top [] mem o.frames r → At g linked p (e + ENTRY_WORDS + words_in Checked) r
           → Reads g linked p ip top mem o.frames r.maps.regs (Rcode ∷ Rdata ∷ Saved)
           (o.maps.regs.rcode ∷ o.maps.regs.rdata ∷ ws) → UpTo g ow.owes (used c.what.need top) n b r m)
           → UpTo g ow.owes (used c.what.need top) n d q m)
@@ -323,13 +358,15 @@ module _ (world : World) (g : Link) (linked : Linked g) (Begins : Target → Par
           let size = refl in (
             (λ e1 le. checks_fail g linked Begins p c.part.trusted c.part.failing top o.frames End n mem
                 ow.owes (used c.what.need top)
-                c.what.callbacks 0 (e + 20) d rs.registers rs.words _ q regs refl (omega (arith, few))
+                c.what.callbacks 0 (e + ENTRY_WORDS) d rs.registers rs.words _ q regs refl
+                (omega (arith, few))
                 (held_args o q same)
                 (checks_stand) h at t1 (sym (taken_handed c.what.callbacks rs.registers) ∙ e1)
                 (omega (arith, size, le))),
             (λ env e1 le u. checks_go g linked Begins p c.part.trusted c.part.failing top o.frames End n mem
                 ow.owes (used c.what.need top) m
-                c.what.callbacks 0 (e + 20) d b rs.registers rs.words _ env q regs refl (omega (arith, few))
+                c.what.callbacks 0 (e + ENTRY_WORDS) d b rs.registers rs.words _ env q regs refl
+                (omega (arith, few))
                 (held_args o q same)
                 (checks_stand) h at t1 (sym (taken_handed c.what.callbacks rs.registers) ∙ e1)
                 (omega (arith, size, le))
@@ -339,7 +376,7 @@ module _ (world : World) (g : Link) (linked : Linked g) (Begins : Target → Par
                 (replicate (c.what.need - 2 - places c.what.callbacks) (Plain (Int (pos 0)))) in
                 let l3 = length-replicate (c.what.need - 2 - places c.what.callbacks) (Plain (Int (pos 0))) in
                 let sl = saved_length in
-                let e2 = ap (λ y. e + 20 + y) size in
+                let e2 = ap (λ y. e + ENTRY_WORDS + y) size in
                 u (xs ++ replicate (c.what.need - 2 - places c.what.callbacks) (Plain (Int (pos 0)))) r
                 c.part.trusted (omega (arith, l1, l3, lx, sl, en))
                 (λ rc rd. env_in g linked Begins c.what.callbacks c.what.locals
@@ -360,7 +397,7 @@ module _ (world : World) (g : Link) (linked : Linked g) (Begins : Target → Par
           (env : List Value) (ms : List (Option OWord)) (st : Store) (o q : OState) (back : Then)
           → o.frames ≡ fs
           → Here g linked p c.what.need top (rc ∷ rd ∷ ws) mem fs q → length ws ≡ length Saved
-          → At g linked p (e + 20 + words_in Checked + 2 * c.what.need) q → EnvIs c.what ms env ws
+          → At g linked p (e + ENTRY_WORDS + words_in Checked + 2 * c.what.need) q → EnvIs c.what ms env ws
           → StoreIs st mem
           → ((v : ℤ) (st' : Store) (mem' : ℕ → OWord) (ws' : List OWord) (r : OState)
           → Here g linked p c.what.need top (rc ∷ rd ∷ ws') mem' fs r → length ws' ≡ length Saved
@@ -371,14 +408,12 @@ module _ (world : World) (g : Link) (linked : Linked g) (Begins : Target → Par
       body_done top d mem fs ow rc rd ws env ms st o q back fr h len at env_is store u =
           let sl = saved_length in
           let ei = end_is in
-          does_block world g linked Begins StoreIs Regs p c.part.trusted c.part.failing top fs ow
-          (frame_of t c.what top ms) Fr End Kinds (rests c.what.callbacks c.what.locals) c.part.globals
-          end_in temps_in slots_in c.part.pairs refl refl c.part.stack_is c.part.site_part
-          (passes g linked Begins world) called_there
-          Body c.fits n (laws top ms fs ow) (e + 20 + words_in Checked + 2 * c.what.need) (1 + d)
+          does_block (Enacts top ms fs ow) Body c.fits n (laws top ms fs ow)
+          (e + ENTRY_WORDS + words_in Checked + 2 * c.what.need) (1 + d)
           (rc ∷ rd ∷ ws) env
           st mem back (λ x. back (pos 0)) q (omega (arith, ei))
-          (stand_front g linked p End (e + 20 + words_in Checked + 2 * c.what.need) (block_code Fr Body)
+          (stand_front g linked p End (e + ENTRY_WORDS + words_in Checked + 2 * c.what.need)
+          (block_code Fr Body)
           _ from_body) calls_there (omega (arith, len, sl)) at h (env_is rc rd) store
           (λ v st' mem' words' r at1 h1 same a0 fit store'.
           let s = two_front words' rc rd (same.each 0 (omega arith)) (same.each 1 (omega arith)) in
@@ -391,22 +426,22 @@ module _ (world : World) (g : Link) (linked : Linked g) (Begins : Target → Par
           let s = two_front words' rc rd (same.each 0 (omega arith)) (same.each 1 (omega arith)) in
           let l1 = ap length s.1 in
           let l2 = same.count in
-          let k1 = e + 20 + words_in Checked + 2 * c.what.need + words_in (block_code Fr Body) in
-          let last = stand_back g linked p End (e + 20 + words_in Checked + 2 * c.what.need)
+          let k1 = e + ENTRY_WORDS + words_in Checked + 2 * c.what.need + words_in (block_code Fr Body) in
+          let last = stand_back g linked p End (e + ENTRY_WORDS + words_in Checked + 2 * c.what.need)
           (block_code Fr Body) _ from_body in
           one_more_step top fs ow d k1 words' mem' r (back (pos 0) st') last.0 at1 h1 (λ q2 h2 at2 a2.
           u (pos 0) st' mem' s.0 q2 (subst (λ y. Here g linked p c.what.need top y mem' fs q2) s.1 h2)
           (omega (arith, l1, l2, len)) (subst (λ y. At g linked p y q2) ei at2) a2 refl store'))
 
       -- the whole procedure
-      pub compiled : Proc world g linked Begins StoreIs Regs EnvIs n t p e
+      pub compiled : Proc InScene EnvIs n t p e
       compiled = record {
         what = c.what;
         what_is = c.what_is;
         entry = c.stands.0;
         checks = words_in Checked;
         regs = Saved;
-        body = e + 20 + words_in Checked + 2 * c.what.need;
+        body = e + ENTRY_WORDS + words_in Checked + 2 * c.what.need;
         end = End;
         small = small;
         slots = saved_length;

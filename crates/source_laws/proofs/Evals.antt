@@ -1,9 +1,10 @@
 -- Expressions other than calls: their values come into g0.
+use Rattle.source_laws.proofs.AtWork.{AtWork}
 use Rattle.source_laws.proofs.Variables.{AtPlace, EnvIn, NumberAt, env_same, index_is}
 use Rattle.source_laws.proofs.CallsIn.{int_public}
-use Rattle.template_runs.proofs.Offers.{Owing, used, fits_small, with_at, length-with_at, SameBelow, get_with}
-use Rattle.template_runs.proofs.Offers.{get_other, At, Placed, next_pc, Here, load_law, store_law, loaded}
-use Rattle.template_runs.proofs.Offers.{with_reg, set_law, dat_law, load_data_law, mem_with, Stand}
+use Rattle.template_runs.proofs.Offers.{used, fits_small, with_at, length-with_at, SameBelow, get_with}
+use Rattle.template_runs.proofs.Offers.{get_other, At, next_pc, Here, load_law, store_law, loaded}
+use Rattle.template_runs.proofs.Offers.{with_reg, set_law, dat_law, load_data_law, Stand}
 use Rattle.template_runs.proofs.Offers.{stand_front, stand_back, words-append, words_in, free_g0, free_g1}
 use Rattle.template_runs.proofs.Offers.{from_element}
 use Rattle.source_laws.proofs.Upto.{upto, UpTo, tick_up}
@@ -15,55 +16,37 @@ use Rattle.cap_words.specs.declared.Word.TheVariants.{Int, Mem}
 use Rattle.cap_words.specs.Linear.{is_linear}
 use Rattle.lcm_isa.specs.declared.Reg.TheVariants.{Dat, G0, G1}
 use Rattle.lcm_isa.specs.declared.Operand.TheVariants.{R as InReg, Imm}
-use Rattle.lcm_isa.specs.declared.Instr.TheVariants.{Fail, Move, Load}
+use Rattle.lcm_isa.specs.declared.Instr.TheVariants.{Move, Load}
 use Rattle.lcm_machine.specs.declared.Place.TheVariants.{R}
 use Rattle.lcm_machine.specs.Places.{reg}
 use Rattle.lcm_machine.specs.Table.{fits_64}
 use Rattle.lcm_machine.proofs.Offers.{stays, set_goes, move_goes}
 use Rattle.flow_check.specs.Holds.{data_cap}
-use Rattle.component_linker.specs.Parts.{PartSeen}
 use Rattle.overlay_machine.specs.declared.words.OWord.{OWord}
 use Rattle.overlay_machine.specs.declared.words.OWord.TheVariants.{Plain}
 use Rattle.overlay_machine.specs.Words.{look}
-use Rattle.overlay_machine.specs.State.{OpenFrame, OState}
-use Rattle.overlay_machine.specs.Link.{Link, IsTrusted, ranges_of, data_region}
-use Rattle.overlay_machine.specs.Linked.{Linked}
+use Rattle.overlay_machine.specs.State.{OState}
+use Rattle.overlay_machine.specs.Link.{ranges_of, data_region}
 use Rattle.proc_program.specs.Program as run
-use Rattle.source_laws.proofs.Refined.{World, Comp, tick, Then, expr, operated, element, Frame, whole}
-use Rattle.proc_semantics.specs.Values.{Store, variable, number_in, global_word, set_word}
-use Rattle.proc_semantics.specs.declared.value.Pair.{Pair}
-use Rattle.proc_program.specs.declared.program.Place.TheVariants.{Local, Global}
-use Rattle.proc_program.specs.declared.program.Row.{Row}
+use Rattle.source_laws.proofs.Refined.{Comp, tick, Then, expr, operated, element, whole}
+use Rattle.proc_semantics.specs.Values.{Store, variable, number_in, global_word}
+use Rattle.proc_program.specs.declared.program.Location.TheVariants.{Local, Global}
+use Rattle.proc_program.specs.declared.program.Array.{Array}
 use Rattle.proc_language.specs.declared.tree.Op.{Op}
 use Rattle.proc_program.specs.Program.{Exp, Number, Element, Binary}
 use Rattle.proc_semantics.specs.declared.value.Value.{Value}
 use Rattle.proc_semantics.specs.declared.value.Value.TheVariants.{Num, Other}
-use Rattle.proc_templates.specs.declared.Frame.{Frame as Shape}
 use Rattle.proc_templates.specs.Items.{Item, does}
 use Rattle.proc_templates.specs.Templates.{code, at_row, op_code, load_slot, store_slot}
 use Rattle.source_laws.proofs.CallSites.{CallsAt}
-use Rattle.source_laws.specs.Fits.{Kind, AsNumber, AsPair, AsRest}
+use Rattle.source_laws.specs.Fits.{AsNumber}
 use Rattle.source_laws.proofs.ValueRows.{index_law, operator_law, reach_law}
 use Rattle.template_runs.specs.Public.{IsPublic}
 
--- how a part's globals stand in its data, before which the words of pairs stand
-pub record Globals (StoreIs : Store → (ℕ → OWord) → Type 0) (p : PartSeen) (home pairs : ℕ) : Type 0 where
-  pub count : ℕ
-  pub room : pairs + count ≤ length p.component.data_words
-  pub reads : (st : Store) (mem : ℕ → OWord) (o : ℕ) → StoreIs st mem → o < count
-      → mem (p.component.data_base + (pairs + o)) ≡ Plain (Int (global_word st home o))
-  pub fits : (st : Store) (mem : ℕ → OWord) (o : ℕ) → StoreIs st mem → o < count
-      → fits_64 (global_word st home o) ≡ true
-  pub sets : (st : Store) (mem : ℕ → OWord) (o : ℕ) (v : ℤ) → StoreIs st mem → o < count → fits_64 v ≡ true
-      → StoreIs (set_word st home o v) (mem_with mem (p.component.data_base + (pairs + o)) (Plain (Int v)))
+module _ (at_work : AtWork) where
+  open at_work use {world, g, linked, StoreIs, p, ip, failing, top, fs, ow, f, s, end, kinds, IsPair, rests}
+  open at_work use {globals}
 
-module _ (world : World) (g : Link) (linked : Linked g) (StoreIs : Store → (ℕ → OWord) → Type 0)
-    (p : PartSeen) (ip : IsTrusted g p) (failing : Placed g linked p 0 Fail) (top : ℕ) (fs : List OpenFrame)
-    (ow : Owing fs)
-    (f : Frame) (s : Shape) (end : ℕ)
-    (kinds : List Kind) (IsPair : Pair → OWord → OWord → Type 0)
-    (rests : (i : ℕ) → slice_get kinds i ≡ Some AsPair → slice_get kinds (i + 1) ≡ Some AsRest)
-    (globals : Globals StoreIs p f.home s.pairs) where
   abbrev pub In : List OWord → (ℕ → OWord) → OState → Type 0
   In words mem o = Here g linked p s.words top words mem fs o
 
@@ -172,7 +155,7 @@ module _ (world : World) (g : Link) (linked : Linked g) (StoreIs : Store → (�
         (next_pc g linked p (k + 1 + 1)))) e3 at3) h3
         (same_below t words) refl (globals.fits st mem d store lt) store) le3) le2) le1)
 
-    pub element_law : (a : Row) (b : Exp) (t : ℕ) → a.first + a.length ≤ globals.count
+    pub element_law : (a : Array) (b : Exp) (t : ℕ) → a.first + a.length ≤ globals.count
         → LawOf n env b (code s t b) t → LawOf n env (Element a b) (code s t (Element a b)) t
     element_law a b t room lb k c words st mem kk o st1 cs len at h e store u =
         tick_up g n c o

@@ -24,19 +24,19 @@ use Rattle.overlay_machine.specs.State.{OpenFrame, OState, frame_of}
 use Rattle.overlay_machine.specs.Step.{fails, own_stack, overlay_step}
 use Rattle.overlay_machine.specs.Flat.{flat}
 use Rattle.overlay_machine.specs.Events.{owner_now, step_event}
-use Rattle.overlay_machine.specs.Link.{Link, IsTrusted, ranges_of}
+use Rattle.overlay_machine.specs.Link.{IsTrusted, ranges_of}
 use Rattle.overlay_machine.specs.Safe.{IsMet, IsSafe}
-use Rattle.overlay_machine.specs.Linked.{Linked}
 use Rattle.overlay_machine.proofs.Offers.{own_from, frame_none, Returned}
 use Rattle.trace_tool.specs.Layout.{part_name}
 use Rattle.trace_tool.specs.Views.{flat_view}
 use Rattle.source_laws.specs.Seen.{words_of, left_shown, left_with, back_here}
-use Rattle.source_laws.proofs.Refined.{single, World, registers_fed, Comp, ends, Registers, Then, hopped}
+use Rattle.source_laws.proofs.Scenes.{Scene}
+use Rattle.source_laws.proofs.Refined.{single, registers_fed, Comp, ends, Then, hopped}
 use Rattle.source_laws.proofs.Refined.{left_by, part_of, on_item, entered, whole, recursive}
 use Rattle.proc_semantics.specs.Values.{Store}
 use Rattle.proc_semantics.specs.declared.value.Target.{Target}
 use Rattle.proc_semantics.specs.Marked.{Leaves}
-use Rattle.source_events.specs.declared.End.TheVariants.{Fail as Fails}
+use Rattle.source_events.specs.declared.MeaningEnd.TheVariants.{Fail as Fails}
 use Rattle.flow_check.specs.Places.{begins_entry}
 use Rattle.template_runs.specs.Border.{GivesBack, Shows, by_leave}
 use Rattle.template_runs.proofs.Offers.{none, untold, ended, shows_leave, pair_left, half_is, outside_here}
@@ -58,8 +58,9 @@ use Rattle.source_events.specs.declared.OutArg.TheVariants as arg
 use Rattle.source_events.specs.declared.OutEvent.TheVariants.{LeaveOut}
 use Rattle.source_events.specs.Outs.{out_arg}
 
-module _ (world : World) (g : Link) (linked : Linked g) (Begins : Target → PartSeen → ℕ → Type 0)
-    (StoreIs : Store → (ℕ → OWord) → Type 0) (RegsAre : Registers → OState → Type 0) where
+module _ (scene : Scene) where
+  open scene use {world, g, linked, Begins, StoreIs, RegsAre}
+
   abbrev pub IdleLaw : ℕ → Type 0
   IdleLaw n = (c : ℕ) (st : Store) (mem : ℕ → OWord) (o : OState) → Out g linked o → o.frames ≡ []
       → DataIs g linked mem o.maps.cells → StoreIs st mem → UpTo g [] none n c o ((whole world).wait None st)
@@ -67,12 +68,12 @@ module _ (world : World) (g : Link) (linked : Linked g) (Begins : Target → Par
   abbrev pub IdleLeaveLaw : ℕ → Type 0
   IdleLeaveLaw n =
       (c : ℕ) (st : Store) (mem : ℕ → OWord) (t : Target) (p : PartSeen) (en o q : OState) (v : ℤ)
-      → SameEntry world g linked Begins StoreIs RegsAre en o → o.frames ≡ []
-      → (a : AtEnd world g linked Begins StoreIs RegsAre p o q v mem) → StoreIs st mem
+      → SameEntry scene en o → o.frames ≡ []
+      → (a : AtEnd scene p o q v mem) → StoreIs st mem
       → ((w : Owner) → owner_now g.layout q ≡ Some w → part_name g.layout w.part ≡ part_of world t.home)
       → UpTo g (en ∷ []) (ended a.top) n (c + 100) q
       (left_by world (whole world) (part_of world t.home) None (back_here g.layout en)
-      (left_now world g linked Begins StoreIs RegsAre o)
+      (left_now scene o)
       (feed_back g.layout (back_of g.layout ((flat_view g.layout o).reg Rcode)
       ((flat_view g.layout o).reg Rdata))) v st)
 
@@ -83,8 +84,8 @@ module _ (world : World) (g : Link) (linked : Linked g) (Begins : Target → Par
   no_frame : (f : OpenFrame) (fs : List OpenFrame) → [] ≡ f ∷ fs → ⊥
   no_frame f fs e = cc
 
-  module _ (named : Named g) (meets : Meets world g linked Begins StoreIs RegsAre named) where
-    pub idle_law : (n : ℕ) → ProcLaw world g linked Begins StoreIs RegsAre n → IdleLeaveLaw n → IdleLaw n
+  module _ (named : Named g) (meets : Meets scene named) where
+    pub idle_law : (n : ℕ) → ProcLaw scene n → IdleLeaveLaw n → IdleLaw n
         → IdleLaw (suc n)
     idle_law n procs leave idle c st mem o h fr globs store =
         outside_law g linked named [] o h n c ((whole world).wait None st)
@@ -116,13 +117,13 @@ module _ (world : World) (g : Link) (linked : Linked g) (Begins : Target → Par
             (feed_pairs g.layout (pairs_of g.layout vw)) in
             let bk = feed_back g.layout (back_of g.layout (vw.reg Rcode) (vw.reg Rdata)) in
             let kk : Then = left_by world (whole world) (part_of world x.0.home) None (back_here g.layout q)
-            (left_now world g linked Begins StoreIs RegsAre q) bk in
+            (left_now scene q) bk in
             let at : At g linked p k q = record { trusted = ip; pc = pc } in
             let kept : DataIs g linked mem q.maps.cells =
             λ r d ir lt. ap (λ m. cell m (r.component.data_base + d)) cells ∙ globs r d ir lt in
             let done = procs x.0 p k c kk rs st mem q (record { owes = q ∷ []; deep = only q }) x.2 v at dat
             (safe Stk (λ e. cc) (λ e. cc)).0
-            (shown_public world g linked Begins StoreIs RegsAre q safe) kept store
+            (shown_public scene q safe) kept store
             (meets.registers q v safe)
             (λ val st' mem' r a store'. leave c st' mem' x.0 p q q r val
             (record {
@@ -140,9 +141,9 @@ module _ (world : World) (g : Link) (linked : Linked g) (Begins : Target → Par
             (subst (λ l. UpTo g (q ∷ []) (untold 0 (stack_top g q)) n c q
             ((whole world).proc x.0 l rs (left_by world (whole world) (part_of world x.0.home) None
             (back_here g.layout q) l bk)
-            st)) (sym (left_same world g linked Begins StoreIs RegsAre q)) done)
+            st)) (sym (left_same scene q)) done)
 
-    pub idle_leave_law : (n : ℕ) → ProcLaw world g linked Begins StoreIs RegsAre n → IdleLeaveLaw n
+    pub idle_leave_law : (n : ℕ) → ProcLaw scene n → IdleLeaveLaw n
         → IdleLaw n → IdleLeaveLaw (suc n)
     unfolding flat
     idle_leave_law n procs leaving idle c st mem t p en o q v entry fr a store names =
@@ -151,7 +152,7 @@ module _ (world : World) (g : Link) (linked : Linked g) (Begins : Target → Par
       where
         told : Back → Comp
         told b = left_by world (whole world) (part_of world t.home) None (back_here g.layout en)
-            (left_now world g linked Begins StoreIs RegsAre o) (feed_back g.layout b) v st
+            (left_now scene o) (feed_back g.layout b) v st
 
         B : Back
         B = back_of g.layout (flat g.layout q.frames q.maps.regs.rcode)
@@ -219,7 +220,7 @@ module _ (world : World) (g : Link) (linked : Linked g) (Begins : Target → Par
             → depth q' ≡ depth z → GivesBack g.layout z q'
         paid x y ex ey q' l z (inl s) part ev d =
             subst (λ y. GivesBack g.layout y q') (sym s)
-            (given_back world g linked Begins StoreIs RegsAre p en o q q' v mem a entry l.keeps
+            (given_back scene p en o q q' v mem a entry l.keeps
             (shows_leave g linked a.part a.at.trusted a.top q q' x y ex ey a.stk a.clean l.crossed
             l.keeps).stk)
         paid x y ex ey q' l z (inr m) part ev d = absurd m
@@ -239,7 +240,7 @@ module _ (world : World) (g : Link) (linked : Linked g) (Begins : Target → Par
             let t' = (meets.target r e ir bg l.shared).0 in
             let fd = (meets.target r e ir bg l.shared).1 in
             let bs = (meets.target r e ir bg l.shared).2 in
-            let left = left_now world g linked Begins StoreIs RegsAre o in
+            let left = left_now scene o in
             let kk : Then = (whole world).hop None left t' in
             let hopped_is : told (Hop (named.owner r ir).part (named.entry r ir e bg)) ≡ (whole world).hop
             None left t' v st = ap (λ z. hopped world (whole world) None left z v st) fd in
@@ -249,7 +250,7 @@ module _ (world : World) (g : Link) (linked : Linked g) (Begins : Target → Par
             let own' : own_stack g.layout q'.maps ≡ Some (stack_at (ranges_of a.part) a.top (pos a.top)) =
             own_from g.layout q'.maps (stack_at (ranges_of a.part) a.top (pos a.top))
             (ap look l.keeps.stk ∙ a.stk) refl refl (linked.stack_bases a.part a.at.trusted) in
-            let left' : left_now world g linked Begins StoreIs RegsAre q' ≡ left =
+            let left' : left_now scene q' ≡ left =
             ap (option_map (λ (c : CapFields). c.end + 1 - c.base)) own'
             ∙ ap (λ z. Some (a.top + 1 - z)) (linked.stack_bases a.part a.at.trusted) ∙ sym a.left in
             let at' : At g linked r e q' = record { trusted = ir; pc = l.pc } in
@@ -268,25 +269,25 @@ module _ (world : World) (g : Link) (linked : Linked g) (Begins : Target → Par
             (flat g.layout q.frames q'.maps.regs.rdata)) l.keeps.rcode
             ∙ ap (λ z. back_of g.layout (flat g.layout q.frames q.maps.regs.rcode) (flat g.layout q.frames z))
             l.half ∙ eb ∙ b in
-            let entry' = hopped_entry world g linked Begins StoreIs RegsAre p en o q q' v mem a entry
+            let entry' = hopped_entry scene p en o q q' v mem a entry
             l.keeps.rcode l.half l.frames (stack_at (ranges_of a.part) a.top (pos a.top)) own' refl in
             let regs = meets.single v q' (l.keeps.a0 ∙ a.value) a.fits (l.keeps.a1 ∙ a.a1) (l.keeps.a2 ∙ a.a2)
             (l.keeps.a3 ∙ a.a3) in
             let done : UpTo g (en ∷ []) (untold 0 (stack_top g q')) n c q'
-            ((whole world).proc t' (left_now world g linked Begins StoreIs RegsAre q')
+            ((whole world).proc t' (left_now scene q')
             (single world v) kk st) =
             procs t' r e c kk (single world v) st mem q' (owing_now q' (l.frames ∙ a.frames)) bs l.valid
             at' l.dat safe'
-            (kept_public world g linked Begins StoreIs RegsAre q q' l.keeps.rcode l.half l.keeps.a0
+            (kept_public scene q q' l.keeps.rcode l.half l.keeps.a0
             l.keeps.a1 l.keeps.a2 l.keeps.a3
-            (shown_public world g linked Begins StoreIs RegsAre q a.safe)) kept store regs
+            (shown_public scene q a.safe)) kept store regs
             (λ v2 st2 mem2 q2 a2 store2.
             let lv = leaving c st2 mem2 t' r en q' q2 v2 entry' fr' a2 store2
             (meets.told t' r e q' q2 v2 mem2 bs a2) in
             subst (UpTo g (en ∷ []) (ended a2.top) n (c + 100) q2)
             (ap (λ z. left_by world (whole world) (part_of world t'.home) None (back_here g.layout en)
-            (left_now world g linked Begins StoreIs RegsAre q') (feed_back g.layout z) v2 st2) again
-            ∙ ap (λ z. hopped world (whole world) None (left_now world g linked Begins StoreIs RegsAre q') z
+            (left_now scene q') (feed_back g.layout z) v2 st2) again
+            ∙ ap (λ z. hopped world (whole world) None (left_now scene q') z
             v2 st2) fd
             ∙ ap (λ z. (whole world).hop None z t' v2 st2) left') lv) in
             let less : 1 + c ≤ c + 100 = omega arith in
@@ -295,7 +296,7 @@ module _ (world : World) (g : Link) (linked : Linked g) (Begins : Target → Par
             (spend g (suc n) (1 + c) (c + 100) q _ less
             (go_on g n 1 c q q' ((whole world).proc t' left (single world v) kk st)
             l.makes (inside_here g linked r e q' at')
-            (hops world g linked Begins StoreIs RegsAre q q' a.top l.cells (ap end_of own'))
+            (hops scene q q' a.top l.cells (ap end_of own'))
             (subst (λ z. UpTo g (en ∷ []) (untold 0 (stack_top g q')) n c q'
             ((whole world).proc t' z (single world v) kk st))
             left' done))))
@@ -309,7 +310,7 @@ module _ (world : World) (g : Link) (linked : Linked g) (Begins : Target → Par
             (names l.owner l.owner_is)
             ∙ ap (λ z. left_shown (LeaveOut (part_of world t.home) z) (left_with q')) value
             ∙ ap (left_shown (LeaveOut (part_of world t.home) (arg.Int v)))
-            (gives_same world g linked Begins StoreIs RegsAre p en o q q' v mem a entry l.keeps
+            (gives_same scene p en o q q' v mem a entry l.keeps
             (pair_left g linked a.part a.at.trusted a.top q q' x y ex ey a.stk a.clean l.crossed l.keeps)
             (shows_leave g linked a.part a.at.trusted a.top q q' x y ex ey a.stk a.clean l.crossed l.keeps)
             (half_is g linked a.part a.at.trusted a.top q q' x y ex ey a.stk a.clean l.crossed l.keeps)
@@ -328,7 +329,7 @@ module _ (world : World) (g : Link) (linked : Linked g) (Begins : Target → Par
             }) q q'
             ((whole world).wait None st) l.makes (λ low. refl) (λ low. refl) shows refl
             (outside_here g linked q' l.out) (shown_left x y ex ey q' l)
-            (leaves_wiped world g linked Begins StoreIs RegsAre p o q q' v mem a l.cells
+            (leaves_wiped scene p o q q' v mem a l.cells
             (shows_leave g linked a.part a.at.trusted a.top q q' x y ex ey a.stk a.clean l.crossed
             l.keeps).stk l.out)
             (paid x y ex ey q' l) (still_owed q' (l.frames ∙ frames))

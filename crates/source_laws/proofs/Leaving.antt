@@ -39,16 +39,15 @@ use Rattle.overlay_machine.proofs.Offers.{own_from, contains_first, frame_in, fr
 use Rattle.overlay_machine.proofs.Offers.{below_all}
 use Rattle.trace_tool.specs.Layout.{part_name, site_of}
 use Rattle.trace_tool.specs.Views.{flat_view}
-use Rattle.source_laws.proofs.Refined.{single, wipes, World, Comp, ends, Registers, Then, resumed, returned}
+use Rattle.source_laws.proofs.Scenes.{Scene}
+use Rattle.source_laws.proofs.Refined.{single, wipes, Comp, ends, Then, resumed, returned}
 use Rattle.source_laws.proofs.Refined.{hopped, left_by, part_of, whole, recursive}
-use Rattle.proc_semantics.specs.Values.{Store}
-use Rattle.proc_semantics.specs.declared.value.Target.{Target}
 use Rattle.proc_semantics.specs.Marked.{Leaves}
 use Rattle.source_laws.specs.Seen.{left_shown, left_with, back_here}
-use Rattle.source_events.specs.declared.End.TheVariants.{Fail as Fails}
+use Rattle.source_events.specs.declared.MeaningEnd.TheVariants.{Fail as Fails}
 use Rattle.trace_tool.specs.Lines.{feed_back}
 use Rattle.template_runs.specs.Runs.{is_inside}
-use Rattle.call_sequence.specs.declared.TheConstants.{CALL_WORDS, RETURN_WORDS}
+use Rattle.call_sequence.specs.declared.TheConstants.{CALL_WORDS, RETURN_WORDS, SITE_WORDS}
 use Rattle.lcm_machine.specs.Runs.{code_cap}
 use Rattle.template_runs.proofs.Offers.{Owing, Among, depth, untold, ended, clean_pending, shows_leave}
 use Rattle.template_runs.proofs.Offers.{pair_left, half_is, outside_here, TrustedOut, Tells, fails_bad}
@@ -104,9 +103,10 @@ module _ (g : Link) (linked : Linked g) (p : PartSeen) (k : ℕ) (q : OState) (v
     unfolding flat ask need
     seals_same e s = rw (iu, fk) (rw iuh (rw (e, s) refl))
 
-module _ (world : World) (g : Link) (linked : Linked g) (Begins : Target → PartSeen → ℕ → Type 0)
-    (StoreIs : Store → (ℕ → OWord) → Type 0) (RegsAre : Registers → OState → Type 0) (named : Named g)
+module _ (scene : Scene) (named : Named scene.g)
   where
+    open scene use {world, g, linked, Begins, StoreIs, RegsAre}
+
     -- what is left: the number of a site by its seal
     pub record Rest : Type 0 where
       pub sealed : (i : ℕ) (u : SiteCode) → site_code g.layout i ≡ Some u
@@ -118,10 +118,10 @@ module _ (world : World) (g : Link) (linked : Linked g) (Begins : Target → Par
     older_frames : (f h : OpenFrame) (fs gs : List OpenFrame) → f ∷ fs ≡ h ∷ gs → fs ≡ gs
     older_frames f h fs gs e = cc
 
-    pub leave_law : (n : ℕ) → Rest → Meets world g linked Begins StoreIs RegsAre named
-        → ProcLaw world g linked Begins StoreIs RegsAre n → LeaveLaw world g linked Begins StoreIs RegsAre n
-        → WaitLaw world g linked Begins StoreIs RegsAre n
-        → LeaveLaw world g linked Begins StoreIs RegsAre (suc n)
+    pub leave_law : (n : ℕ) → Rest → Meets scene named
+        → ProcLaw scene n → LeaveLaw scene n
+        → WaitLaw scene n
+        → LeaveLaw scene (suc n)
     unfolding flat
     leave_law n rest meets procs leaving waiting c w f fs ow st mem t p en o q v entry fr for a
         store names back =
@@ -130,7 +130,7 @@ module _ (world : World) (g : Link) (linked : Linked g) (Begins : Target → Par
       where
         told : Back → Comp
         told b = left_by world (whole world) (part_of world t.home) (Some w) (back_here g.layout en)
-            (left_now world g linked Begins StoreIs RegsAre o) (feed_back g.layout b) v st
+            (left_now scene o) (feed_back g.layout b) v st
 
         B : Back
         B = back_of g.layout (flat g.layout q.frames q.maps.regs.rcode)
@@ -164,11 +164,12 @@ module _ (world : World) (g : Link) (linked : Linked g) (Begins : Target → Par
         is_in q3 i u e pc =
             let s = linked.sites i u e in
             let a = s.3.at_is in
-            let k : u.at + 26 ≡ s.0.component.code_base + (s.3.offset + 26) = omega (arith, a) in
-            inside_here g linked s.0 (s.3.offset + 26) q3 (record {
+            let k : u.at + SITE_WORDS
+            ≡ s.0.component.code_base + (s.3.offset + SITE_WORDS) = omega (arith, a) in
+            inside_here g linked s.0 (s.3.offset + SITE_WORDS) q3 (record {
               trusted = s.2;
-              pc = ap look pc ∙ ap (λ y. Mem (code_cap y u.end (u.at + 26))) s.3.base_is
-                  ∙ ap (λ y. Mem (code_cap (ranges_of s.0).code_base y (u.at + 26))) s.3.end_is
+              pc = ap look pc ∙ ap (λ y. Mem (code_cap y u.end (u.at + SITE_WORDS))) s.3.base_is
+                  ∙ ap (λ y. Mem (code_cap (ranges_of s.0).code_base y (u.at + SITE_WORDS))) s.3.end_is
                   ∙ ap (λ y. Mem (code_cap (ranges_of s.0).code_base (ranges_of s.0).code_last y)) k;
             })
 
@@ -245,7 +246,7 @@ module _ (world : World) (g : Link) (linked : Linked g) (Begins : Target → Par
             → depth q' ≡ depth z → GivesBack g.layout z q'
         paid x y ex ey q' l z (inl s) part ev d =
             subst (λ y. GivesBack g.layout y q') (sym s)
-            (given_back world g linked Begins StoreIs RegsAre p en o q q' v mem a entry l.keeps
+            (given_back scene p en o q q' v mem a entry l.keeps
             (shows_leave g linked a.part a.at.trusted a.top q q' x y ex ey a.stk a.clean l.crossed
             l.keeps).stk)
         paid x y ex ey q' l z (inr m) part ev d = absurd
@@ -267,7 +268,7 @@ module _ (world : World) (g : Link) (linked : Linked g) (Begins : Target → Par
             let t' = (meets.target r e ir bg l.shared).0 in
             let fd = (meets.target r e ir bg l.shared).1 in
             let bs = (meets.target r e ir bg l.shared).2 in
-            let left = left_now world g linked Begins StoreIs RegsAre o in
+            let left = left_now scene o in
             let kk : Then = (whole world).hop (Some w) left t' in
             let hopped_is : told (Hop (named.owner r ir).part (named.entry r ir e bg)) ≡ (whole world).hop
             (Some w) left t' v st = ap (λ z. hopped world (whole world) (Some w) left z v st) fd in
@@ -277,7 +278,7 @@ module _ (world : World) (g : Link) (linked : Linked g) (Begins : Target → Par
             let own' : own_stack g.layout q'.maps ≡ Some (stack_at (ranges_of a.part) a.top (pos a.top)) =
             own_from g.layout q'.maps (stack_at (ranges_of a.part) a.top (pos a.top))
             (ap look l.keeps.stk ∙ a.stk) refl refl (linked.stack_bases a.part a.at.trusted) in
-            let left' : left_now world g linked Begins StoreIs RegsAre q' ≡ left =
+            let left' : left_now scene q' ≡ left =
             ap (option_map (λ (c : CapFields). c.end + 1 - c.base)) own'
             ∙ ap (λ z. Some (a.top + 1 - z)) (linked.stack_bases a.part a.at.trusted) ∙ sym a.left in
             let at' : At g linked r e q' = record { trusted = ir; pc = l.pc } in
@@ -298,25 +299,25 @@ module _ (world : World) (g : Link) (linked : Linked g) (Begins : Target → Par
             l.keeps.rcode
             ∙ ap (λ z. back_of g.layout (flat g.layout q.frames q.maps.regs.rcode) (flat g.layout q.frames z))
             l.half ∙ eb ∙ b in
-            let entry' = hopped_entry world g linked Begins StoreIs RegsAre p en o q q' v mem a entry
+            let entry' = hopped_entry scene p en o q q' v mem a entry
             l.keeps.rcode l.half l.frames (stack_at (ranges_of a.part) a.top (pos a.top)) own' refl in
             let regs = meets.single v q' (l.keeps.a0 ∙ a.value) a.fits (l.keeps.a1 ∙ a.a1) (l.keeps.a2 ∙ a.a2)
             (l.keeps.a3 ∙ a.a3) in
             let done : UpTo g (en ∷ ow.owes) (untold 0 (stack_top g q')) n c q'
-            ((whole world).proc t' (left_now world g linked Begins StoreIs RegsAre q')
+            ((whole world).proc t' (left_now scene q')
             (single world v) kk st) =
             procs t' r e c kk (single world v) st mem q' (owing_now q' (l.frames ∙ a.frames)) bs l.valid
             at' l.dat safe'
-            (kept_public world g linked Begins StoreIs RegsAre q q' l.keeps.rcode l.half l.keeps.a0
-            l.keeps.a1 l.keeps.a2 l.keeps.a3 (shown_public world g linked Begins StoreIs RegsAre q a.safe))
+            (kept_public scene q q' l.keeps.rcode l.half l.keeps.a0
+            l.keeps.a1 l.keeps.a2 l.keeps.a3 (shown_public scene q a.safe))
             kept store regs
             (λ v2 st2 mem2 q2 a2 store2.
             let lv = leaving c w f fs ow st2 mem2 t' r en q' q2 v2 entry' fr' for a2 store2
             (meets.told t' r e q' q2 v2 mem2 bs a2) (λ m le. back m (omega (arith, le))) in
             subst (UpTo g (en ∷ ow.owes) (ended a2.top) n (c + 100) q2)
             (ap (λ z. left_by world (whole world) (part_of world t'.home) (Some w) (back_here g.layout en)
-            (left_now world g linked Begins StoreIs RegsAre q') (feed_back g.layout z) v2 st2) again
-            ∙ ap (λ z. hopped world (whole world) (Some w) (left_now world g linked Begins StoreIs RegsAre q')
+            (left_now scene q') (feed_back g.layout z) v2 st2) again
+            ∙ ap (λ z. hopped world (whole world) (Some w) (left_now scene q')
             z
             v2 st2) fd
             ∙ ap (λ z. (whole world).hop (Some w) z t' v2 st2) left') lv) in
@@ -326,7 +327,7 @@ module _ (world : World) (g : Link) (linked : Linked g) (Begins : Target → Par
             (spend g (suc n) (1 + c) (c + 100) q _ less
             (go_on g n 1 c q q' ((whole world).proc t' left (single world v) kk st) l.makes
             (inside_here g linked r e q' at')
-            (hops world g linked Begins StoreIs RegsAre q q' a.top l.cells (ap end_of own'))
+            (hops scene q q' a.top l.cells (ap end_of own'))
             (subst (λ z. UpTo g (en ∷ ow.owes) (untold 0 (stack_top g q')) n c q'
             ((whole world).proc t' z (single world v) kk st))
             left'
@@ -341,7 +342,7 @@ module _ (world : World) (g : Link) (linked : Linked g) (Begins : Target → Par
             (names l.owner l.owner_is)
             ∙ ap (λ z. left_shown (LeaveOut (part_of world t.home) z) (left_with q')) value
             ∙ ap (left_shown (LeaveOut (part_of world t.home) (arg.Int v)))
-            (gives_same world g linked Begins StoreIs RegsAre p en o q q' v mem a entry l.keeps
+            (gives_same scene p en o q q' v mem a entry l.keeps
             (pair_left g linked a.part a.at.trusted a.top q q' x y ex ey a.stk a.clean l.crossed l.keeps)
             (shows_leave g linked a.part a.at.trusted a.top q q' x y ex ey a.stk a.clean l.crossed l.keeps)
             (half_is g linked a.part a.at.trusted a.top q q' x y ex ey a.stk a.clean l.crossed l.keeps)
@@ -360,7 +361,7 @@ module _ (world : World) (g : Link) (linked : Linked g) (Begins : Target → Par
             }) q q'
             ((whole world).wait (Some w) st) l.makes (λ low. refl) (λ low. refl) shows refl
             (outside_here g linked q' l.out) (shown_left x y ex ey q' l)
-            (leaves_wiped world g linked Begins StoreIs RegsAre p o q q' v mem a l.cells
+            (leaves_wiped scene p o q q' v mem a l.cells
             (shows_leave g linked a.part a.at.trusted a.top q q' x y ex ey a.stk a.clean l.crossed
             l.keeps).stk l.out)
             (paid x y ex ey q' l) (still_owed q' (l.frames ∙ frames))
@@ -373,7 +374,7 @@ module _ (world : World) (g : Link) (linked : Linked g) (Begins : Target → Par
         own = own_from g.layout q.maps (stack_at (ranges_of a.part) a.top (pos a.top)) a.stk refl refl
             (linked.stack_bases a.part a.at.trusted)
 
-        left_is : left_now world g linked Begins StoreIs RegsAre o ≡ Some (a.top + 1 - g.layout.stack.base)
+        left_is : left_now scene o ≡ Some (a.top + 1 - g.layout.stack.base)
         left_is = a.left
 
         lies : FrameLies g.layout q.maps.cells f

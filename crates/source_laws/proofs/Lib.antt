@@ -3,6 +3,7 @@ pub mod Follows
 pub mod Forgets
 pub mod Agreeing
 pub mod Upto
+pub mod Scenes
 mod Integers
 pub mod Sum
 pub mod Handed
@@ -19,6 +20,7 @@ pub mod CallSites
 pub mod PieceSizes
 pub mod Placings
 pub mod Callings
+pub mod AtWork
 pub mod ValueRows
 pub mod Arguments
 pub mod Evals

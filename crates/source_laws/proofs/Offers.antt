@@ -14,10 +14,8 @@ pub use Rattle.source_laws.proofs.CallSites.{block_count, checks_count, count_bo
 pub use Rattle.source_laws.proofs.Placings.{stand_of}
 -- a call of any pair, from its site on, once the arguments stand in their registers
 pub use Rattle.source_laws.proofs.Callings.{FailsBy, IsCalled, IsPair, MeantBy, Sealing}
--- the arguments of a call
-pub use Rattle.source_laws.proofs.Arguments.{DataPair, Half, Slotted}
--- expressions other than calls
-pub use Rattle.source_laws.proofs.Evals.{Globals}
+-- where the globals and the pairs of a procedure at work stand
+pub use Rattle.source_laws.proofs.AtWork.{DataPair, Globals, Half, Slotted}
 -- the checks of a procedure's parameters, over the whole list
 pub use Rattle.source_laws.proofs.Parameters.{PairIs, RegsAre, RegsFrom, nothing_more}
 -- a procedure of the modules does what it means, given where its compiled code stands and what its names lead

@@ -5,13 +5,12 @@ use Rattle.source_laws.proofs.Refined.{ends}
 use Rattle.template_runs.proofs.Offers.{Live, At, Placed, Code, next_pc, stop, Here, Free, is_half}
 use Rattle.template_runs.proofs.Offers.{fail_pc_law, at_fail, half_goes, half_fails, half_tested, Away}
 use Rattle.template_runs.proofs.Offers.{with_reg, set_law, Stand, guarded, words_in, free_t2, free_a0}
-use Rattle.template_runs.proofs.Offers.{free_a1, free_a2, free_a3, none_fits}
+use Rattle.template_runs.proofs.Offers.{free_a1, free_a2, free_a3, none_fits, zero_more}
 use Rattle.source_laws.proofs.Upto.{upto, failing as failing_runs, UpTo, spend}
-use Rattle.std.proofs.Common.{◌≡◌, ◌≢◌, ◌⊎◌, inl, inr, ℕ, zero, suc, ◌+◌, ◌-◌, ◌<◌, ◌≤◌, ℤ, pos, ◌+ℤ◌, List}
+use Rattle.std.proofs.Common.{◌≡◌, ◌≢◌, ◌⊎◌, inl, inr, ℕ, zero, suc, ◌+◌, ◌-◌, ◌<◌, ◌≤◌, ℤ, pos, List}
 use Rattle.std.proofs.Common.{[], ◌∷◌, ◌++◌, length, map, replicate, Option, Some, None, Bool, true, false}
 use Rattle.std.proofs.Common.{refl, sym, ap, ◌∙◌, subst, arith, length-append}
 use Rattle.std.specs.Prelude.{slice_get, ◌&&◌, if◌then◌else◌}
-use Rattle.std.proofs.lemmas.Int.{ints}
 use Rattle.std.proofs.lemmas.List.{length-replicate}
 use Rattle.cap_words.specs.declared.Word.{Word}
 use Rattle.cap_words.specs.declared.Word.TheVariants.{Int, Mem, Seal, Sealed}
@@ -37,7 +36,7 @@ use Rattle.overlay_machine.specs.Link.{Link, IsTrusted}
 use Rattle.overlay_machine.specs.Linked.{Linked}
 use Rattle.proc_semantics.specs.declared.value.Target.{Target}
 use Rattle.proc_semantics.specs.declared.value.Pair.{Pair}
-use Rattle.source_events.specs.declared.End.TheVariants.{Fail as Fails}
+use Rattle.source_events.specs.declared.MeaningEnd.TheVariants.{Fail as Fails}
 use Rattle.proc_semantics.specs.declared.value.Value.{Value}
 use Rattle.proc_semantics.specs.declared.value.Value.TheVariants.{Num, Closure, Other}
 use Rattle.proc_semantics.specs.declared.value.Register.{Register}
@@ -79,9 +78,6 @@ sealed_of (Sealed s x) e = record { seal = s; inner = x; is = refl; normal = by 
     by : (b : Bool) → (if b then false else true) ≡ true → b ≡ false
     by true h = cc
     by false h = refl
-
-zero_more : (z : ℤ) → z +ℤ pos 0 ≡ z
-zero_more z = omega (arith, ints)
 
 module _ (g : Link) (linked : Linked g) (Begins : Target → PartSeen → ℕ → Type 0) where
   -- ---- what registers hold

@@ -1,7 +1,7 @@
 -- How many words the pieces of expressions and of blocks have.
 use Rattle.std.proofs.Common.{◌≡◌, ℕ, ◌+◌, List, [], ◌∷◌, ◌∙◌, arith}
 use Rattle.proc_program.specs.Program.{Exp, Block}
-use Rattle.proc_templates.specs.declared.Frame.{Frame}
+use Rattle.proc_templates.specs.declared.FrameShape.{FrameShape}
 use Rattle.proc_templates.specs.Items.{Item, does, guards, goes, goes_if, finishes, label, site, entry}
 use Rattle.proc_templates.specs.Items.{leaves}
 use Rattle.proc_templates.specs.Free.{behind, after}
@@ -30,8 +30,8 @@ after-words o (x ∷ xs) =
 words_are : (xs : List Item) (n : ℕ) → Long xs n → words_in xs ≡ n
 words_are xs n l = let e = after-words 0 xs in let f = l.by 0 in omega (arith, e, f)
 
-pub exp_size : (f : Frame) (t : ℕ) (e : Exp) → words_in (code f t e) ≡ exp_words e
+pub exp_size : (f : FrameShape) (t : ℕ) (e : Exp) → words_in (code f t e) ≡ exp_words e
 exp_size f t e = words_are (code f t e) (exp_words e) (code-size f e t)
 
-pub block_size : (f : Frame) (b : Block) → words_in (block_code f b) ≡ block_words b
+pub block_size : (f : FrameShape) (b : Block) → words_in (block_code f b) ≡ block_words b
 block_size f b = words_are (block_code f b) (block_words b) (block-size f b)

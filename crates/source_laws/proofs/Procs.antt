@@ -1,5 +1,7 @@
 -- A procedure, from its entry to the `xjmp` that ends it, given its checks and its body.
-use Rattle.source_laws.proofs.Refined.{Frame, taken_marks, wipes, World, proc_at, Comp, ends, ticks}
+use Rattle.call_sequence.specs.declared.TheConstants.{ENTRY_WORDS}
+use Rattle.source_laws.proofs.Scenes.{Scene}
+use Rattle.source_laws.proofs.Refined.{Frame, taken_marks, wipes, proc_at, Comp, ends, ticks}
 use Rattle.source_laws.proofs.Refined.{Registers, Then, with_place, block, begin, body_of, finish, proc_of}
 use Rattle.source_laws.proofs.Refined.{whole, recursive}
 use Rattle.source_laws.proofs.Upto.{wipes_up, upto, failing, UpTo, ticks_up, as_live, MaySet, stack_top}
@@ -26,15 +28,14 @@ use Rattle.overlay_machine.specs.declared.words.OWord.TheVariants.{Plain}
 use Rattle.overlay_machine.specs.Words.{look}
 use Rattle.overlay_machine.specs.State.{OpenFrame, OState}
 use Rattle.overlay_machine.specs.Step.{own_stack}
-use Rattle.overlay_machine.specs.Link.{Link, IsTrusted, ranges_of}
-use Rattle.overlay_machine.specs.Linked.{Linked}
+use Rattle.overlay_machine.specs.Link.{IsTrusted, ranges_of}
 use Rattle.overlay_machine.specs.Safe.{IsSafe}
 use Rattle.overlay_machine.proofs.Offers.{own_is, safe_stk, mem_safe}
 use Rattle.proc_program.specs.StepView.{block_of}
 use Rattle.proc_semantics.specs.Values.{Store, taken}
 use Rattle.proc_semantics.specs.declared.value.Target.{Target}
 use Rattle.proc_program.specs.declared.program.Procedure.{Procedure}
-use Rattle.source_events.specs.declared.End.TheVariants.{Fail as Fails}
+use Rattle.source_events.specs.declared.MeaningEnd.TheVariants.{Fail as Fails}
 use Rattle.proc_semantics.specs.declared.value.Value.{Value}
 use Rattle.proc_semantics.specs.declared.value.Value.TheVariants.{Num}
 use Rattle.lcm_machine.specs.Cells.{cell}
@@ -47,9 +48,10 @@ use Rattle.source_laws.specs.Seen.{Back}
 use Rattle.source_laws.proofs.CallsIn.{EntryPublic, int_public, AtEnd, ProcLaw, left_now}
 use Rattle.template_runs.specs.Public.{IsShown}
 
-module _ (world : World) (g : Link) (linked : Linked g) (Begins : Target → PartSeen → ℕ → Type 0)
-    (StoreIs : Store → (ℕ → OWord) → Type 0) (RegsAre : Registers → OState → Type 0)
+module _ (scene : Scene)
     (EnvIs : Procedure → List (Option OWord) → List Value → List OWord → Type 0) where
+  open scene use {world, g, linked, Begins, StoreIs, RegsAre}
+
   -- the same words in the registers of arguments
   pub record ArgsKept (o q : OState) : Type 0 where
     pub a0 : q.maps.regs.a0 ≡ o.maps.regs.a0
@@ -71,8 +73,8 @@ module _ (world : World) (g : Link) (linked : Linked g) (Begins : Target → Par
     -- the checks fail, or go on to the prologue with the parameters' words in the registers, and 0 in t1
     pub checked : (top c b : ℕ) (mem : ℕ → OWord) (rs : Registers) (o q : OState) (ow : Owing o.frames)
         (m : Comp)
-        → IsTrusted g p → RegsAre rs o → EntryPublic world g linked Begins StoreIs RegsAre o
-        → Here g linked p 0 top [] mem o.frames q → At g linked p (e + 20) q
+        → IsTrusted g p → RegsAre rs o → EntryPublic scene o
+        → Here g linked p 0 top [] mem o.frames q → At g linked p (e + ENTRY_WORDS) q
         → q.maps.regs.rcode ≡ o.maps.regs.rcode → q.maps.regs.rdata ≡ o.maps.regs.rdata
         → ArgsKept o q → q.maps.regs.t1 ≡ zero_word Plain
         → (taken [] what.callbacks rs.registers ≡ None → checks ≤ c
@@ -80,13 +82,14 @@ module _ (world : World) (g : Link) (linked : Linked g) (Begins : Target → Par
         × ((env : List Value) → taken [] what.callbacks rs.registers ≡ Some env → checks + b ≤ c
         → ((ws : List OWord) (r : OState) (ip : IsTrusted g p) → length ws ≡ length regs
         → EnvIs what (taken_marks what.callbacks rs.words) (env ++ replicate what.locals (Num (pos 0))) ws
-        → Here g linked p 0 top [] mem o.frames r → At g linked p (e + 20 + checks) r
+        → Here g linked p 0 top [] mem o.frames r → At g linked p (e + ENTRY_WORDS + checks) r
         → Reads g linked p ip top mem o.frames r.maps.regs (Rcode ∷ Rdata ∷ regs)
         (o.maps.regs.rcode ∷ o.maps.regs.rdata ∷ ws) → UpTo g ow.owes (used what.need top) n b r m)
         → UpTo g ow.owes (used what.need top) n c q m)
     pub begins : (ip : IsTrusted g p) (top : ℕ) (mem : ℕ → OWord) (fs : List OpenFrame)
-        → Code g linked p (e + 20 + checks) (prologue g linked p ip top mem fs (Rcode ∷ Rdata ∷ regs))
-    pub body_at : e + 20 + checks + 2 * what.need ≡ body
+        → Code g linked p (e + ENTRY_WORDS + checks)
+        (prologue g linked p ip top mem fs (Rcode ∷ Rdata ∷ regs))
+    pub body_at : e + ENTRY_WORDS + checks + 2 * what.need ≡ body
     -- the body, with its return and with its end, comes to the epilogue
     pub does : (top c : ℕ) (mem : ℕ → OWord) (fs : List OpenFrame) (ow : Owing fs) (rc rd : OWord)
         (ws : List OWord)
@@ -106,7 +109,7 @@ module _ (world : World) (g : Link) (linked : Linked g) (Begins : Target → Par
         → Code g linked p end (epilogue g linked p ip top mem fs (length regs))
 
   pub proc_law : (n : ℕ) → ((t : Target) (p : PartSeen) (e : ℕ) → Begins t p e → Proc n t p e)
-      → ProcLaw world g linked Begins StoreIs RegsAre n
+      → ProcLaw scene n
   proc_law n all t p e c k rs st mem o ow begins v at dat safe public globs store regs cont =
       subst (UpTo g ow.owes (untold 0 (stack_top g o)) n c o) (sym first)
       (ticks_up g (1 + x.what.need) n c o _ (by_own (own_stack g.layout o.maps) refl))
@@ -117,11 +120,11 @@ module _ (world : World) (g : Link) (linked : Linked g) (Begins : Target → Par
       ip : IsTrusted g p
       ip = at.trusted
 
-      first : (whole world).proc t (left_now world g linked Begins StoreIs RegsAre o) rs k st ≡ ticks
+      first : (whole world).proc t (left_now scene o) rs k st ≡ ticks
           (1 + x.what.need) (begin world (whole world) t.home x.what
-          (left_now world g linked Begins StoreIs RegsAre o) rs k st)
+          (left_now scene o) rs k st)
       first = (recursive world).procs t _ rs k st
-          ∙ ap (λ y. proc_of world (whole world) t.home y (left_now world g linked Begins StoreIs RegsAre o)
+          ∙ ap (λ y. proc_of world (whole world) t.home y (left_now scene o)
           rs k st) x.what_is
 
       credit : ℕ
@@ -179,7 +182,7 @@ module _ (world : World) (g : Link) (linked : Linked g) (Begins : Target → Par
               → Left g linked p ip cap.end mem' o.frames r q kx (2 + length ws') o.maps.regs.rcode
               o.maps.regs.rdata
               → r.maps.regs.a0 ≡ Plain (Int val) → fits_64 val ≡ true
-              → AtEnd world g linked Begins StoreIs RegsAre p o q val mem'
+              → AtEnd scene p o q val mem'
           at_end cap own val mem' r q kx l a0 fit =
               let h = l.here in
               let cu = h.cursor in
@@ -288,7 +291,7 @@ module _ (world : World) (g : Link) (linked : Linked g) (Begins : Target → Par
 
       -- behind the entry
       after_entry : (cap : CapFields) → own_stack g.layout o.maps ≡ Some cap → (q : OState)
-          → Here g linked p 0 cap.end [] mem o.frames q → At g linked p (e + 20) q
+          → Here g linked p 0 cap.end [] mem o.frames q → At g linked p (e + ENTRY_WORDS) q
           → q.maps.regs.rcode ≡ o.maps.regs.rcode → q.maps.regs.rdata ≡ o.maps.regs.rdata → ArgsKept o q
           → q.maps.regs.t1 ≡ zero_word Plain
           → UpTo g ow.owes (untold 0 cap.end) n (c + x.what.need * 200 + 180) q
@@ -310,7 +313,8 @@ module _ (world : World) (g : Link) (linked : Linked g) (Begins : Target → Par
           begun : (m : Comp) → UpTo g ow.owes (used x.what.need cap.end) n (c + x.what.need * 200 + 180) q m
               → UpTo g ow.owes (untold 0 cap.end) n (c + x.what.need * 200 + 180) q (wipes J m)
           begun m u =
-              wipes_up g J n (c + x.what.need * 200 + 180) q m (inside_here g linked p (e + 20) q at20)
+              wipes_up g J n (c + x.what.need * 200 + 180) q m
+              (inside_here g linked p (e + ENTRY_WORDS) q at20)
               (λ b low h. clean_begins g b low x.what.need cap.end J (lower OWord Back low J) q
               (is_lower low J) refl h)
               u
@@ -342,7 +346,7 @@ module _ (world : World) (g : Link) (linked : Linked g) (Begins : Target → Par
               omega (arith, lt, sl, len, lo) in
               let le2 : 2 * length (Rcode ∷ Rdata ∷ x.regs) + 1 ≤ 2 * x.what.need + 1 = omega (arith, sl) in
               prologue_fails g linked p ip' cap.end mem o.frames (Rcode ∷ Rdata ∷ x.regs)
-              (o.maps.regs.rcode ∷ o.maps.regs.rdata ∷ ws) [] (e + 20 + x.checks)
+              (o.maps.regs.rcode ∷ o.maps.regs.rdata ∷ ws) [] (e + ENTRY_WORDS + x.checks)
               (failing g ow.owes (used x.what.need cap.end) n)
               (2 * x.what.need + 1) r (x.begins ip' cap.end mem o.frames) reads atr hr short2
               (λ j lt. may_set cap j (omega (arith, lt, sl, len))) le2))
@@ -360,7 +364,7 @@ module _ (world : World) (g : Link) (linked : Linked g) (Begins : Target → Par
               let le2 : 2 * length (Rcode ∷ Rdata ∷ x.regs) + (1 + c) ≤ 2 * x.what.need + (1 + c) =
               omega (arith, sl) in
               prologue_law g linked p ip' cap.end mem o.frames (Rcode ∷ Rdata ∷ x.regs)
-              (o.maps.regs.rcode ∷ o.maps.regs.rdata ∷ ws) [] (e + 20 + x.checks)
+              (o.maps.regs.rcode ∷ o.maps.regs.rdata ∷ ws) [] (e + ENTRY_WORDS + x.checks)
               (upto g ow.owes (used x.what.need cap.end) n m)
               (2 * x.what.need + (1 + c)) (1 + c) r (x.begins ip' cap.end mem o.frames) reads atr hr room
               (λ j lt. may_set cap j (omega (arith, lt, sl, len)))
@@ -368,7 +372,7 @@ module _ (world : World) (g : Link) (linked : Linked g) (Begins : Target → Par
               let two : length (o.maps.regs.rcode ∷ o.maps.regs.rdata ∷ ws) ≡ x.what.need =
               omega (arith, sl, len) in
               let ba = x.body_at in
-              let be : e + 20 + x.checks + 2 * length (Rcode ∷ Rdata ∷ x.regs) ≡ x.body =
+              let be : e + ENTRY_WORDS + x.checks + 2 * length (Rcode ∷ Rdata ∷ x.regs) ≡ x.body =
               omega (arith, sl, ba) in
               x.does cap.end c mem o.frames ow o.maps.regs.rcode o.maps.regs.rdata ws
               (env ++ replicate x.what.locals (Num (pos 0))) (taken_marks x.what.callbacks rs.words) st o q2
@@ -381,7 +385,7 @@ module _ (world : World) (g : Link) (linked : Linked g) (Begins : Target → Par
 
       by_own : (y : Option CapFields) → own_stack g.layout o.maps ≡ y
           → UpTo g ow.owes (untold 0 (stack_top g o)) n (c + (1 + x.what.need) * 200) o
-          (begin world (whole world) t.home x.what (left_now world g linked Begins StoreIs RegsAre o) rs k st)
+          (begin world (whole world) t.home x.what (left_now scene o) rs k st)
       by_own None own =
           subst (λ l. UpTo g ow.owes (untold 0 (stack_top g o)) n (c + (1 + x.what.need) * 200) o
           (begin world (whole world) t.home x.what l rs k st))
@@ -392,7 +396,7 @@ module _ (world : World) (g : Link) (linked : Linked g) (Begins : Target → Par
       by_own (Some cap) own =
           let is = own_is g.layout o.maps cap own in
           let base : cap.base ≡ g.layout.stack.base = ap (λ x. x.base) is.1 in
-          let left : left_now world g linked Begins StoreIs RegsAre o ≡ Some
+          let left : left_now scene o ≡ Some
           (cap.end + 1 - g.layout.stack.base) =
           ap (option_map (λ (c : CapFields). c.end + 1 - c.base)) own
           ∙ ap (λ b. Some (cap.end + 1 - b)) base in

@@ -5,14 +5,14 @@ use Rattle.std.proofs.Common.{◌≡◌, ℕ, zero, suc, ◌+◌, ◌≤◌, ◌
 use Rattle.std.proofs.Common.{None, refl, sym, ap, ◌∙◌, arith, add-one, Bool}
 use Rattle.overlay_machine.specs.declared.words.OWord.{OWord}
 use Rattle.proc_program.specs.declared.program.Handle.{Handle}
-use Rattle.proc_program.specs.declared.program.Place.{Place}
-use Rattle.proc_program.specs.declared.program.Row.{Row}
+use Rattle.proc_program.specs.declared.program.Location.{Location}
+use Rattle.proc_program.specs.declared.program.Array.{Array}
 use Rattle.proc_program.specs.declared.program.Procedure.{Procedure}
-use Rattle.proc_program.specs.Program.{Exp, Args, Step, Block}
+use Rattle.proc_program.specs.Program.{Exp, Args, Statement, Block}
 use Rattle.proc_language.specs.declared.tree.Op.{Op}
 use Rattle.source_events.specs.declared.FeedBack.{FeedBack}
 use Rattle.source_events.specs.declared.FeedPair.{FeedPair}
-use Rattle.source_events.specs.declared.End.{End}
+use Rattle.source_events.specs.declared.MeaningEnd.{MeaningEnd}
 use Rattle.proc_semantics.specs.declared.value.Target.{Target}
 use Rattle.proc_semantics.specs.declared.value.Pair.{Pair}
 use Rattle.proc_semantics.specs.declared.value.Value.{Value}
@@ -64,7 +64,7 @@ rest_marks = marked.rest_marks OWord Entry
 abbrev pub taken_marks : List Bool → List (Option OWord) → List (Option OWord)
 taken_marks = marked.taken_marks OWord Entry
 
-abbrev pub ends : End → Comp
+abbrev pub ends : MeaningEnd → Comp
 ends = marked.ends OWord Entry
 
 abbrev pub tick : Comp → Comp
@@ -157,10 +157,10 @@ module _ (w : World) where
   abbrev pub with_place : Option ℕ → (ℕ → Comp) → Comp
   with_place = rules.with_place (domain w)
 
-  abbrev pub element : Row → ℤ → (ℕ → Comp) → Comp
+  abbrev pub element : Array → ℤ → (ℕ → Comp) → Comp
   element = rules.element (domain w)
 
-  abbrev pub assigned : ℕ → Place → ℤ → Next → Next
+  abbrev pub assigned : ℕ → Location → ℤ → Next → Next
   assigned = rules.assigned (domain w)
 
   abbrev pub resumed : Option (Wait w) → List ℕ → ℕ → ℕ → Option ℕ → Option ℤ → Store → Comp
@@ -181,7 +181,7 @@ module _ (w : World) where
   abbrev pub args : Level w → Frame → List Value → Args → (List Value → Store → Comp) → Store → Comp
   args = rules.args (domain w) w.parts
 
-  abbrev pub stmt : Level w → Frame → Step → Then → Next → Next
+  abbrev pub stmt : Level w → Frame → Statement → Then → Next → Next
   stmt = rules.stmt (domain w) w.parts
 
   abbrev pub block : Level w → Frame → Block → Then → Next → Next

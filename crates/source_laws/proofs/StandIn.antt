@@ -15,7 +15,7 @@ use Rattle.overlay_machine.specs.Starting.{overlay_at}
 use Rattle.overlay_machine.specs.Link.{Link, IsTrusted}
 use Rattle.overlay_machine.specs.Linked.{Linked}
 use Rattle.trace_tool.specs.Layout.{layout, part_name, entry_name}
-use Rattle.proc_program.specs.declared.program.Part.{Part}
+use Rattle.proc_program.specs.declared.program.Program.{Program}
 use Rattle.proc_semantics.specs.declared.value.Target.{Target}
 use Rattle.source_laws.proofs.Refined.{World, found, part_of}
 use Rattle.proc_semantics.specs.Values.{Store}
@@ -26,7 +26,7 @@ use Rattle.source_laws.proofs.Parameters.{single}
 use Rattle.source_laws.proofs.Feeds.{FedWords, registers_are}
 use Rattle.source_laws.proofs.Waiting.{Meets}
 use Rattle.source_laws.proofs.Leaving.{Rest}
-use Rattle.source_laws.proofs.Compiled.{Stands, Regs, EnvIs, compiled}
+use Rattle.source_laws.proofs.Compiled.{InScene, Stands, EnvIs, compiled}
 use Rattle.source_laws.specs.Secrets.{LeavesNothing}
 use Rattle.source_laws.proofs.All.{Bodies, Starting, source_law, secrets_law, wiped_law, words_law}
 use Rattle.source_laws.specs.Words.{WordsTold}
@@ -59,10 +59,10 @@ module _ (world : World) (g : Link) (linked : Linked g) (Begins : Target → Par
   -- the overlay of a start is in the first shared main of the modules, with the whole stack, or outside
   abbrev pub StartsIn : ℕ → (ℕ → OWord) → OState → Type 0
   StartsIn =
-      Starting world g linked Begins StoreIs (Regs world g linked Begins StoreIs)
+      Starting (InScene world g linked Begins StoreIs)
 
   module _ (s : StandIn) where
-    meets : Meets world g linked Begins StoreIs (Regs world g linked Begins StoreIs) s.named
+    meets : Meets (InScene world g linked Begins StoreIs) s.named
     meets = record {
       target = s.target;
       told = λ t p e o q v mem b a w ow.
@@ -71,11 +71,11 @@ module _ (world : World) (g : Link) (linked : Linked g) (Begins : Target → Par
       registers = registers_are world g linked Begins s.fed;
     }
 
-    rest : Rest world g linked Begins StoreIs (Regs world g linked Begins StoreIs) s.named
+    rest : Rest (InScene world g linked Begins StoreIs) s.named
     rest = record { sealed = s.sealed }
 
     -- each procedure does what it means, where all laws hold of fewer steps
-    bodies : Bodies world g linked Begins StoreIs (Regs world g linked Begins StoreIs)
+    bodies : Bodies (InScene world g linked Begins StoreIs)
         (EnvIs world g linked Begins StoreIs) s.named meets rest
     bodies n laws t p e begins =
         compiled world g linked Begins StoreIs n t p e (s.stands t p e begins)
@@ -83,32 +83,32 @@ module _ (world : World) (g : Link) (linked : Linked g) (Begins : Target → Par
 
     pub sources_mean : (stack : ℕ) (start : StartSeen) (mem : ℕ → OWord) → g.layout ≡ layout start
         → DataIs g linked mem (overlay_at start).state.maps.cells
-        → StoreIs (map (λ (u : Part). u.globals) world.parts) mem
+        → StoreIs (map (λ (u : Program). u.globals) world.parts) mem
         → StartsIn stack mem (overlay_at start).state → MeansAlways world.parts stack start
     sources_mean =
-        source_law world g linked Begins StoreIs (Regs world g linked Begins StoreIs)
+        source_law (InScene world g linked Begins StoreIs)
         (EnvIs world g linked Begins StoreIs) s.named meets rest bodies
 
     pub words_meant : (stack : ℕ) (start : StartSeen) (mem : ℕ → OWord) → g.layout ≡ layout start
         → DataIs g linked mem (overlay_at start).state.maps.cells
-        → StoreIs (map (λ (u : Part). u.globals) world.parts) mem
+        → StoreIs (map (λ (u : Program). u.globals) world.parts) mem
         → StartsIn stack mem (overlay_at start).state → WordsTold world.marks world.parts stack start
     words_meant =
-        words_law world g linked Begins StoreIs (Regs world g linked Begins StoreIs)
+        words_law (InScene world g linked Begins StoreIs)
         (EnvIs world g linked Begins StoreIs) s.named meets rest bodies
 
     pub leave_nothing : (stack : ℕ) (start : StartSeen) (mem : ℕ → OWord) → g.layout ≡ layout start
         → DataIs g linked mem (overlay_at start).state.maps.cells
-        → StoreIs (map (λ (u : Part). u.globals) world.parts) mem
+        → StoreIs (map (λ (u : Program). u.globals) world.parts) mem
         → StartsIn stack mem (overlay_at start).state → LeavesNothing g start
     leave_nothing =
-        secrets_law world g linked Begins StoreIs (Regs world g linked Begins StoreIs)
+        secrets_law (InScene world g linked Begins StoreIs)
         (EnvIs world g linked Begins StoreIs) s.named meets rest bodies
 
     pub wiped_told : (stack : ℕ) (start : StartSeen) (mem : ℕ → OWord) → g.layout ≡ layout start
         → DataIs g linked mem (overlay_at start).state.maps.cells
-        → StoreIs (map (λ (u : Part). u.globals) world.parts) mem
+        → StoreIs (map (λ (u : Program). u.globals) world.parts) mem
         → StartsIn stack mem (overlay_at start).state → WipedAlways g world.parts stack start
     wiped_told =
-        wiped_law world g linked Begins StoreIs (Regs world g linked Begins StoreIs)
+        wiped_law (InScene world g linked Begins StoreIs)
         (EnvIs world g linked Begins StoreIs) s.named meets rest bodies

@@ -15,7 +15,7 @@ use Rattle.overlay_machine.specs.Link.{Link, IsTrusted}
 use Rattle.overlay_machine.specs.Linked.{Linked}
 use Rattle.proc_language.specs.declared.tree.Op.{Op}
 use Rattle.proc_language.specs.declared.tree.Op.TheVariants as operator
-use Rattle.proc_program.specs.declared.program.Row.{Row}
+use Rattle.proc_program.specs.declared.program.Array.{Array}
 use Rattle.proc_templates.specs.Templates.{op_code}
 use Rattle.source_laws.proofs.Refined.{Comp, World, Then, element, with_place, operated, with_number}
 use Rattle.source_laws.proofs.Refined.{result_of}
@@ -45,7 +45,7 @@ module _ (world : World) (g : Link) (linked : Linked g) (p : PartSeen) (ip : IsT
   Inside = Away g linked p ip w top fs
 
   -- the test of an index, which is in g0
-  pub index_law : (fail : Placed g linked p 0 Fail) (a : Row) (k c b : ℕ) (x : ℤ) (words : List OWord)
+  pub index_law : (fail : Placed g linked p 0 Fail) (a : Array) (k c b : ℕ) (x : ℤ) (words : List OWord)
       (mem : ℕ → OWord) (o : OState) (z : ℤ) (kk : ℕ → Comp)
       → Code g linked p k (guarded g linked p 0 k (index_tests a.length)) → At g linked p k o
       → Inside z words mem o

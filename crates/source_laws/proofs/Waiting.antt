@@ -27,13 +27,13 @@ use Rattle.cap_words.specs.Stacks.{is_stack_from}
 use Rattle.overlay_machine.specs.Step.{own_stack}
 use Rattle.overlay_machine.specs.Flat.{flat, flat_code, flat_range, flat_data}
 use Rattle.overlay_machine.specs.Events.{owner_now}
-use Rattle.overlay_machine.specs.Link.{Link, IsTrusted, ranges_of}
-use Rattle.overlay_machine.specs.Linked.{Linked}
+use Rattle.overlay_machine.specs.Link.{IsTrusted, ranges_of}
 use Rattle.overlay_machine.proofs.Offers.{Returned}
 use Rattle.trace_tool.specs.Layout.{part_name, entry_name, site_of}
 use Rattle.trace_tool.specs.Views.{flat_view}
 use Rattle.source_laws.specs.Seen.{words_of, back_here}
-use Rattle.source_laws.proofs.Refined.{single, World, found, registers_fed, Registers, Then, Wait, on_item}
+use Rattle.source_laws.proofs.Scenes.{Scene}
+use Rattle.source_laws.proofs.Refined.{single, found, registers_fed, Then, Wait, on_item}
 use Rattle.source_laws.proofs.Refined.{entered, resumed, left_by, part_of, whole, recursive}
 use Rattle.proc_semantics.specs.Values.{Store}
 use Rattle.proc_semantics.specs.declared.value.Target.{Target}
@@ -56,16 +56,16 @@ range_left : (base : ℕ) (f : OpenFrame) (o : Option SiteCode) → left_in base
 range_left base f None = refl
 range_left base f (Some s) = refl
 
-module _ (world : World) (g : Link) (linked : Linked g) (Begins : Target → PartSeen → ℕ → Type 0)
-    (StoreIs : Store → (ℕ → OWord) → Type 0) (RegsAre : Registers → OState → Type 0) where
+module _ (scene : Scene) where
+  open scene use {world, g, linked, Begins, StoreIs, RegsAre}
+
   data_left : (f : Option OpenFrame) → left_in g.layout.stack.base (flat_data g.layout f) ≡ None
   data_left None = refl
   data_left (Some f) = range_left g.layout.stack.base f (site_code g.layout f.site)
 
   -- the words of an entry are those of its line
   pub left_same : (q : OState)
-      → left_in g.layout.stack.base ((flat_view g.layout q).reg Stk) ≡ left_now world g linked Begins StoreIs
-      RegsAre q
+      → left_in g.layout.stack.base ((flat_view g.layout q).reg Stk) ≡ left_now scene q
   unfolding flat own_stack faces
   left_same q = by q.maps.regs.stk refl
     where
@@ -101,7 +101,7 @@ module _ (world : World) (g : Link) (linked : Linked g) (Begins : Target → Par
         × (found world (part_name g.layout (named.owner p ip).part)
         (entry_name g.layout (named.owner p ip).part (named.entry p ip k b)) ≡ Some t) × Begins t p k
     pub told : (t : Target) (p : PartSeen) (e : ℕ) (o q : OState) (v : ℤ) (mem : ℕ → OWord) → Begins t p e
-        → AtEnd world g linked Begins StoreIs RegsAre p o q v mem → (w : Owner)
+        → AtEnd scene p o q v mem → (w : Owner)
         → owner_now g.layout q ≡ Some w → part_name g.layout w.part ≡ part_of world t.home
     pub single : (v : ℤ) (q : OState) → q.maps.regs.a0 ≡ Plain (Int v) → fits_64 v ≡ true
         → q.maps.regs.a1 ≡ Plain (Int (pos 0)) → q.maps.regs.a2 ≡ Plain (Int (pos 0))
@@ -135,14 +135,14 @@ module _ (world : World) (g : Link) (linked : Linked g) (Begins : Target → Par
   LeaveLaw n =
       (c : ℕ) (w : Wait world) (f : OpenFrame) (fs : List OpenFrame) (ow : Owing fs) (st : Store)
       (mem : ℕ → OWord) (t : Target)
-      (p : PartSeen) (en o q : OState) (v : ℤ) → SameEntry world g linked Begins StoreIs RegsAre en o
+      (p : PartSeen) (en o q : OState) (v : ℤ) → SameEntry scene en o
       → o.frames ≡ f ∷ fs → IsFor w f
-      → (a : AtEnd world g linked Begins StoreIs RegsAre p o q v mem) → StoreIs st mem
+      → (a : AtEnd scene p o q v mem) → StoreIs st mem
       → ((w : Owner) → owner_now g.layout q ≡ Some w → part_name g.layout w.part ≡ part_of world t.home)
       → ((m : ℕ) → m ≤ n → Resumes m c w f fs ow)
       → UpTo g (en ∷ ow.owes) (ended a.top) n (c + 100) q
       (left_by world (whole world) (part_of world t.home) (Some w) (back_here g.layout en)
-      (left_now world g linked Begins StoreIs RegsAre o)
+      (left_now scene o)
       (feed_back g.layout (back_of g.layout ((flat_view g.layout o).reg Rcode)
       ((flat_view g.layout o).reg Rdata))) v st)
 
@@ -153,7 +153,7 @@ module _ (world : World) (g : Link) (linked : Linked g) (Begins : Target → Par
     older_frames : (f h : OpenFrame) (fs gs : List OpenFrame) → f ∷ fs ≡ h ∷ gs → fs ≡ gs
     older_frames f h fs gs e = cc
 
-    pub wait_law : (n : ℕ) → ProcLaw world g linked Begins StoreIs RegsAre n → LeaveLaw n → WaitLaw n
+    pub wait_law : (n : ℕ) → ProcLaw scene n → LeaveLaw n → WaitLaw n
         → WaitLaw (suc n)
     wait_law n procs leave waiting c w f fs ow st mem o h fr globs store for back =
         outside_law g linked named ow.owes o h n c ((whole world).wait (Some w) st)
@@ -206,14 +206,14 @@ module _ (world : World) (g : Link) (linked : Linked g) (Begins : Target → Par
             let bk = feed_back g.layout (back_of g.layout (vw.reg Rcode) (vw.reg Rdata)) in
             let kk : Then = left_by world (whole world) (part_of world x.0.home) (Some w)
             (back_here g.layout q)
-            (left_now world g linked Begins StoreIs RegsAre q) bk in
+            (left_now scene q) bk in
             let at : At g linked p k q = record { trusted = ip; pc = pc } in
             let kept : DataIs g linked mem q.maps.cells =
             λ r d ir lt. ap (λ m. cell m (r.component.data_base + d)) cells ∙ globs r d ir lt in
             let le : n ≤ suc n = omega arith in
             let done = procs x.0 p k c kk rs st mem q (entered_now q (same ∙ fr)) x.2 v at dat
             (safe Stk (λ e. cc) (λ e. cc)).0
-            (shown_public world g linked Begins StoreIs RegsAre q safe) kept store
+            (shown_public scene q safe) kept store
             (meets.registers q v safe)
             (λ val st' mem' r a store'. leave c w f fs ow st' mem' x.0 p q q r val
             (record {

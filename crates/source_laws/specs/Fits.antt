@@ -4,11 +4,12 @@ use Rattle.std.specs.Prelude.{slice_get, Some}
 use Rattle.lcm_machine.specs.Table.{fits_64}
 use Rattle.proc_program.specs.declared.program.Handle.{Handle}
 use Rattle.proc_program.specs.declared.program.Handle.TheVariants.{Given, Own, Imported}
-use Rattle.proc_program.specs.declared.program.Place.{Place}
-use Rattle.proc_program.specs.declared.program.Place.TheVariants.{Local, Global}
-use Rattle.proc_program.specs.declared.program.Row.{Row}
+use Rattle.proc_program.specs.declared.program.Location.{Location}
+use Rattle.proc_program.specs.declared.program.Location.TheVariants.{Local, Global}
+use Rattle.proc_program.specs.declared.program.Array.{Array}
 use Rattle.proc_program.specs.Program.{Exp, Number, Load, Element, Call, Binary, Args, no_args, value, pass}
-use Rattle.proc_program.specs.Program.{Step, Set, SetAt, Do, If, While, Return, Halt, Block, no_steps, step}
+use Rattle.proc_program.specs.Program.{Statement, Set, SetAt, Do, If, While, Return, Halt}
+use Rattle.proc_program.specs.Program.{Block, no_steps, step}
 use Rattle.proc_program.specs.Limits.{arg_registers}
 
 -- what a place of a procedure holds: a number, a pair, or the second half of the pair before it
@@ -26,11 +27,11 @@ kinds_from (true ∷ bs) n = AsPair ∷ AsRest ∷ kinds_from bs n
 -- with these kinds of places, so many words in the frame, of which temporaries begin at `temps`, so many
 -- words of globals, imports, and own procedures, of which some are shared
 module _ (kinds : List Kind) (words temps count imported owned : ℕ) (shared : ℕ → Bool) where
-  abbrev pub PlaceInside : Place → Type 0
+  abbrev pub PlaceInside : Location → Type 0
   PlaceInside (Local i) = slice_get kinds i ≡ Some AsNumber
   PlaceInside (Global d) = d < count
 
-  abbrev pub RowInside : Row → Type 0
+  abbrev pub RowInside : Array → Type 0
   RowInside r = r.first + r.length ≤ count
 
   abbrev pub HandleInside : Handle → Type 0
@@ -59,7 +60,7 @@ module _ (kinds : List Kind) (words temps count imported owned : ℕ) (shared : 
     ArgsFit t i (pass h xs) = PassFits h × ArgsFit t (i + 2) xs
 
   abbrev mutual
-    pub StepFits : Step → Type 0
+    pub StepFits : Statement → Type 0
     StepFits (Set x e) = PlaceInside x × ExpFits temps e
     StepFits (SetAt r i e) = RowInside r × (temps < words) × ExpFits temps i × ExpFits (temps + 1) e
     StepFits (Do e) = ExpFits temps e

@@ -3,7 +3,8 @@ use Rattle.std.specs.Prelude.{◌≡◌, ℕ, suc, ◌+◌, true, List, [], ◌�
 use Rattle.component_file.specs.declared.component.ComponentFields.{ComponentFields}
 use Rattle.flow_check.specs.Places.{begins_site}
 use Rattle.proc_program.specs.Program.{Exp, Number, Load, Element, Call, Binary, Args, no_args, value, pass}
-use Rattle.proc_program.specs.Program.{Step, Set, SetAt, Do, If, While, Return, Halt, Block, no_steps, step}
+use Rattle.proc_program.specs.Program.{Statement, Set, SetAt, Do, If, While, Return, Halt}
+use Rattle.proc_program.specs.Program.{Block, no_steps, step}
 use Rattle.proc_program.specs.Calls.{calls, args_calls, step_calls, block_calls}
 use Rattle.proc_templates.specs.Items.{Item, site}
 use Rattle.proc_templates.specs.Free.{behind}
@@ -47,7 +48,7 @@ abbrev mutual
   ArgsNumbered j (pass h xs) = ArgsNumbered j xs
 
 abbrev mutual
-  pub StepNumbered : ℕ → Step → Type 0
+  pub StepNumbered : ℕ → Statement → Type 0
   StepNumbered j (Set x e) = Numbered j e
   StepNumbered j (SetAt r i e) = Numbered j i × Numbered (j + calls i) e
   StepNumbered j (Do e) = Numbered j e

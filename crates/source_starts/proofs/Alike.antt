@@ -12,7 +12,7 @@ use Rattle.component_file.specs.declared.component.Export.{Export}
 use Rattle.flow_check.specs.Places.{begins_entry, begins_site, declared}
 use Rattle.flow_check.specs.Walk.{instr_at, instr_in}
 use Rattle.component_linker.specs.Placing.{moved_by, moved_word}
-use Rattle.proc_program.specs.declared.program.Part.{Part}
+use Rattle.proc_program.specs.declared.program.Program.{Program}
 use Rattle.proc_templates.specs.Items.{FAIL_AT, Spot, Item, does, guards, goes, goes_if, finishes, label}
 use Rattle.proc_templates.specs.Items.{site, entry, leaves, zero_of, wiped, leading}
 use Rattle.proc_templates.specs.Compiled.{component_of, first_data, imports_of, exports_of, int_word}
@@ -28,7 +28,7 @@ use Rattle.proc_templates.proofs.Offers.{Stands, AtMostLabel, Run, Starts, Here,
 use Rattle.source_laws.specs.Sites.{next_count, SiteAt, SitesAt}
 
 -- the component of a program, but for the numbers at which it stands
-pub record IsPlaced (m : Part) (c : ComponentFields) : Type 0 where
+pub record IsPlaced (m : Program) (c : ComponentFields) : Type 0 where
   pub name : c.name ≡ m.name
   pub stack : c.stack_base ≡ m.stack
   pub code_length : length c.code ≡ length (component_of m).code
@@ -57,13 +57,13 @@ zeros_same : (m : _) (n : ℕ) (ws : List Word)
 zeros_same m zero ws = refl
 zeros_same m (suc n) ws = ap (λ ws. Int (pos 0) ∷ ws) (zeros_same m n ws)
 
-data_same : (v : _) (m : Part) → map (moved_word v) (first_data m) ≡ first_data m
+data_same : (v : _) (m : Program) → map (moved_word v) (first_data m) ≡ first_data m
 unfolding first_data
 data_same v m =
     zeros_same v (pair_count m) (map int_word m.globals)
     ∙ ap (λ ws. replicate (pair_count m) (Int (pos 0)) ++ ws) (ints_same v m.globals)
 
-pub placed_at : (v : _) (m : Part) → IsPlaced m (moved_by v (component_of m))
+pub placed_at : (v : _) (m : Program) → IsPlaced m (moved_by v (component_of m))
 unfolding component_of instr_at
 placed_at None m = record {
   name = refl;
@@ -91,7 +91,7 @@ placed_at (Some v) m = record {
   fails = refl;
 }
 
-module _ (m : Part) (c : ComponentFields) (is : IsPlaced m c) where
+module _ (m : Program) (c : ComponentFields) (is : IsPlaced m c) where
   pub entries_same : (o : ℕ) → begins_entry c o ≡ begins_entry (component_of m) o
   unfolding begins_entry component_of
   entries_same o = ap (λ (es : List Export). list_any (λ (e : Export). e.offset == o) es) is.exports

@@ -4,7 +4,7 @@ use Rattle.std.proofs.Common.{refl, sym, ap, ◌∙◌, subst, arith, length-app
 use Rattle.std.specs.Prelude.{slice_get}
 use Rattle.component_file.specs.declared.TheConstants.{MOST_WORDS}
 use Rattle.component_file.specs.declared.component.ComponentFields.{ComponentFields}
-use Rattle.proc_program.specs.declared.program.Part.{Part}
+use Rattle.proc_program.specs.declared.program.Program.{Program}
 use Rattle.proc_program.specs.declared.program.Procedure.{Procedure}
 use Rattle.proc_program.specs.StepView.{block_of}
 use Rattle.proc_program.specs.Calls.{procedure_calls, block_calls}
@@ -19,7 +19,7 @@ use Rattle.proc_templates.proofs.Offers.{has_it, put-length, Rest, Sound, rest_l
 use Rattle.proc_templates.proofs.Offers.{Carries, ProcReady, AllReady, spot_of, proc_laid, laid-length}
 use Rattle.proc_templates.proofs.Offers.{sound_proc, procs-length, rest_procs, head_sound, rest_whole, ready}
 use Rattle.proc_templates.proofs.Offers.{code-length}
-use Rattle.proc_templates.specs.declared.Frame.{Frame}
+use Rattle.proc_templates.specs.declared.FrameShape.{FrameShape}
 use Rattle.proc_program.specs.Program.{Block}
 use Rattle.proc_program.specs.Limits.{registers_of}
 use Rattle.cap_words.specs.declared.TheConstants.{LAST_PLACE}
@@ -103,7 +103,7 @@ module _ (c : ComponentFields) where
 -- ---- procedure by procedure
 
 -- a procedure's code stands in a component, at an offset, behind so many sites
-pub record ProcStands (m : Part) (c : ComponentFields) (e j : ℕ) (p : Procedure) : Type 0 where
+pub record ProcStands (m : Program) (c : ComponentFields) (e j : ℕ) (p : Procedure) : Type 0 where
   pub carried : Carries c
       (record {
         stack_base = m.stack;
@@ -124,7 +124,7 @@ calls_from n (p ∷ ps) zero = n
 calls_from n (p ∷ ps) (suc i) = calls_from (n + procedure_calls p) ps i
 
 -- what is laid of a procedure has a site for each of its calls
-proc_count : (f : Frame) (params : List Bool) (body : Block) (j : ℕ)
+proc_count : (f : FrameShape) (params : List Bool) (body : Block) (j : ℕ)
     → count j (proc_code f params body) ≡ j + block_calls body
 proc_count f params body j =
     count_both j j (check_params 0 params) _ (checks_count params 0 j)
@@ -143,14 +143,14 @@ lay_count : (spot : Spot) (xs : List Item) (l : Laid)
 lay_count spot [] l = refl
 lay_count spot (x ∷ xs) l = lay_count spot xs (put spot l x) ∙ ap (λ j. count j xs) (counted spot l x)
 
-proc_sites : (m : Part) (l : Laid) (p : Procedure)
+proc_sites : (m : Program) (l : Laid) (p : Procedure)
     → length (lay_proc m l p).sites ≡ length l.sites + procedure_calls p
 proc_sites m l p =
     ap (λ (x : Laid). length x.sites) (proc_laid m l p)
     ∙ lay_count (spot_of m l p) (proc_code (frame_of m p) p.callbacks (block_of p.body)) l
     ∙ proc_count (frame_of m p) p.callbacks (block_of p.body) (length l.sites)
 
-module _ (m : Part) (c : ComponentFields) (fails : c.fail_at ≡ Some FAIL_AT) where
+module _ (m : Program) (c : ComponentFields) (fails : c.fail_at ≡ Some FAIL_AT) where
   one_stands : (l : Laid) (p : Procedure) → ProcReady m p → length (lay_proc m l p).code ≤ MOST_WORDS
       → Sound l
       → Rest (lay_proc m l p) c → Grows (lay_proc m l p) (Lists c)
@@ -200,7 +200,7 @@ module _ (m : Part) (c : ComponentFields) (fails : c.fail_at ≡ Some FAIL_AT) w
       (procs_stand ps (lay_proc m l q) ready.1 most (sound_proc m l q s) r g i p e))
 
 -- the procedures of a module stand in its component, from offset 2 on
-pub all_stand : (m : Part) → FitsComponent m → (i : ℕ) (p : Procedure) → slice_get m.procs i ≡ Some p
+pub all_stand : (m : Program) → FitsComponent m → (i : ℕ) (p : Procedure) → slice_get m.procs i ≡ Some p
     → ProcStands m (component_of m) (offset_from 2 m.procs i) (calls_from 0 m.procs i) p
 unfolding laid_of component_of
 all_stand m fits i p e =

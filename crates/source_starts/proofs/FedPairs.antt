@@ -35,8 +35,8 @@ use Rattle.overlay_machine.specs.Safe.{IsSafeCap}
 use Rattle.overlay_machine.specs.Starting.{overlay_at}
 use Rattle.overlay_machine.proofs.Offers.{index_of, starts_tell_names, Leads_to, to_safe, to_entry, leads_to}
 use Rattle.overlay_machine.proofs.Offers.{whole_data, not_trusted}
-use Rattle.trace_tool.specs.declared.pairs.Pair.{Pair}
-use Rattle.trace_tool.specs.declared.pairs.Pair.TheVariants as pair
+use Rattle.trace_tool.specs.declared.pairs.PassedPair.{PassedPair}
+use Rattle.trace_tool.specs.declared.pairs.PassedPair.TheVariants as pair
 use Rattle.trace_tool.specs.Layout.{is_trusted}
 use Rattle.trace_tool.specs.Pairs.{if_normal, content_linear, pair_to, pair_under, pair_if, own_goes}
 use Rattle.trace_tool.specs.Pairs.{own_pair, pair_of, PairsAreOwn}
@@ -133,7 +133,7 @@ module _ (modules : List ModuleFields) (parts : List PartSeen) (size : ℕ) (s :
       (hw : is_half w ≡ true) (hv : is_half v ≡ true) (code half : Opened) (e1 : opened_of w ≡ Some code)
       (e2 : opened_of v ≡ Some half) (n2 : content_linear half.content ≡ false) (f : JumpFacts code half)
     where
-      abbrev Fed : Pair → Type 0
+      abbrev Fed : PassedPair → Type 0
       Fed k = PairIs G linked Begin (pair_fed W (feed_pair G.layout k)) (Plain w) (Plain v)
 
       code_is : w ≡ Sealed code.seal (MemIn f.cap)

@@ -33,11 +33,11 @@ use Rattle.proc_names.specs.Calls.{calls, stmt_calls, block_calls}
 use Rattle.proc_program.specs.Lower.{words, words_in, first_word_of, param_place, place_by, row_by, handle_by}
 use Rattle.proc_program.specs.Lower.{exp_of, args_of, step_of, steps_of}
 use Rattle.proc_program.specs.Limits.{register_count, registers_of, arg_registers}
-use Rattle.proc_program.specs.declared.program.Place.{Place}
+use Rattle.proc_program.specs.declared.program.Location.{Location}
 use Rattle.proc_program.specs.declared.program.Handle.{Handle}
-use Rattle.proc_program.specs.declared.program.Row.{Row}
+use Rattle.proc_program.specs.declared.program.Array.{Array}
 use Rattle.proc_program.specs.Program as run
-use Rattle.proc_program.specs.Program.{Exp, Step}
+use Rattle.proc_program.specs.Program.{Exp, Statement}
 use Rattle.proc_program.specs.View.{args_of as args_view}
 use Rattle.proc_program.specs.StepView.{block_of as block_view}
 use Rattle.proc_program.proofs.Offers.{row_within, count_same}
@@ -157,10 +157,10 @@ module _ (m : ModuleFields) (limits : IsModule m) (p : Proc) (fits : ProcFits p)
   abbrev pub Count : ℕ
   Count = words_in m.globals
 
-  abbrev pub Placed : Place → Type 0
+  abbrev pub Placed : Location → Type 0
   Placed = PlaceInside Kinds (need p) Temps Count (length m.imports) (length m.procs) (shares m.procs)
 
-  abbrev pub Rowed : Row → Type 0
+  abbrev pub Rowed : Array → Type 0
   Rowed = RowInside Kinds (need p) Temps Count (length m.imports) (length m.procs) (shares m.procs)
 
   abbrev pub Handled : Handle → Type 0
@@ -175,7 +175,7 @@ module _ (m : ModuleFields) (limits : IsModule m) (p : Proc) (fits : ProcFits p)
   abbrev ArgsOf : ℕ → ℕ → run.Args → Type 0
   ArgsOf = ArgsFit Kinds (need p) Temps Count (length m.imports) (length m.procs) (shares m.procs)
 
-  abbrev StepOf : Step → Type 0
+  abbrev StepOf : Statement → Type 0
   StepOf = StepFits Kinds (need p) Temps Count (length m.imports) (length m.procs) (shares m.procs)
 
   abbrev BlockOf : run.Block → Type 0

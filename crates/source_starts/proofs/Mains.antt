@@ -45,7 +45,7 @@ use Rattle.overlay_machine.proofs.Offers.{crossing_code_is as code_is}
 use Rattle.proc_language.specs.declared.module.ModuleFields.{ModuleFields}
 use Rattle.proc_language.specs.Limits.{Each, IsModule}
 use Rattle.proc_names.specs.NameFaults.{name_faults}
-use Rattle.proc_program.specs.declared.program.Part.{Part}
+use Rattle.proc_program.specs.declared.program.Program.{Program}
 use Rattle.proc_program.specs.declared.program.Procedure.{Procedure}
 use Rattle.proc_program.specs.Lower.{part_of}
 use Rattle.proc_semantics.specs.declared.value.Target.{Target}
@@ -239,7 +239,7 @@ module _ (modules : List ModuleFields) (parts : List PartSeen) (size : ℕ) (s :
           ]
 
   -- of a module whose part isn't that of main
-  none_at : (k : ℕ) (v : Part) → slice_get W k ≡ Some v
+  none_at : (k : ℕ) (v : Program) → slice_get W k ≡ Some v
       → ((p : PartSeen) (h : Home modules parts k p) → h.number ≢ there.index) → meaning.has_main v ≡ false
   none_at k v at ne = by (slice_get modules k) refl (sym (slice_get-map part_of modules k) ∙ at)
     where
@@ -307,7 +307,7 @@ module _ (modules : List ModuleFields) (parts : List PartSeen) (size : ℕ) (s :
           by None e = cc
           by (Some k) e = refl
 
-      before : (i : ℕ) (h : Home modules parts i Entry.part) (k : ℕ) (u : Part) → k < i
+      before : (i : ℕ) (h : Home modules parts i Entry.part) (k : ℕ) (u : Program) → k < i
           → slice_get W k ≡ Some u
           → meaning.has_main u ≡ false
       before i h k u lt at = none_at k u at (λ q g e. (

@@ -31,8 +31,8 @@ use Rattle.proc_language.specs.declared.module.ModuleFields.{ModuleFields}
 use Rattle.proc_language.specs.Limits.{Each, IsModule}
 use Rattle.proc_language.proofs.Offers.{each_at}
 use Rattle.proc_names.specs.NameFaults.{name_faults}
-use Rattle.proc_program.specs.declared.program.Import as program
-use Rattle.proc_program.specs.declared.program.Part.{Part}
+use Rattle.proc_program.specs.declared.program.ProgramImport as program
+use Rattle.proc_program.specs.declared.program.Program.{Program}
 use Rattle.proc_program.specs.declared.program.Procedure.{Procedure}
 use Rattle.proc_program.specs.Lower.{part_of}
 use Rattle.proc_program.specs.Limits.{IsPart}
@@ -150,7 +150,7 @@ module _ (modules : List ModuleFields) (parts : List PartSeen) (size : ℕ) (s :
     pub pair_is : linked_to W (import_in (home_part W i) k) ≡ pair
     pub means : IsPair G linked Begin pair code half
 
-  module _ (i : ℕ) (p : PartSeen) (h : Home modules parts i p) (k : ℕ) (im : program.Import)
+  module _ (i : ℕ) (p : PartSeen) (h : Home modules parts i p) (k : ℕ) (im : program.ProgramImport)
       (at : slice_get (part_of h.source).imports k ≡ Some im) (x : Exported)
       (names : imported parts (record { part = im.part; name = im.name; slot = 2 * k }) ≡ Some x)
       (words : PairWords p (2 * k) (Plain (code_half x)) (Plain (data_half x))) where
@@ -256,7 +256,7 @@ module _ (modules : List ModuleFields) (parts : List PartSeen) (size : ℕ) (s :
           );
         }
 
-  pub import_pair : (i : ℕ) (p : PartSeen) (h : Home modules parts i p) (k : ℕ) (im : program.Import)
+  pub import_pair : (i : ℕ) (p : PartSeen) (h : Home modules parts i p) (k : ℕ) (im : program.ProgramImport)
       → slice_get (part_of h.source).imports k ≡ Some im → ImportPair i p k
   import_pair i p h k im at =
       let w = words_of i p h k (2 * k) im.part im.name (import_at (part_of h.source) k im at) in
@@ -281,14 +281,14 @@ module _ (modules : List ModuleFields) (parts : List PartSeen) (size : ℕ) (s :
   module_fits i p h = part_fits h.source (each_at IsModule modules i h.source limits h.source_is)
 
   abbrev pub first_store : Store
-  first_store = map (λ (u : Part). u.globals) W
+  first_store = map (λ (u : Program). u.globals) W
 
   row_is : (i : ℕ) (p : PartSeen) (h : Home modules parts i p)
       → slice_index_or first_store i [] ≡ (part_of h.source).globals
   row_is i p h =
       index_is first_store i (part_of h.source).globals []
-      (slice_get-map (λ (u : Part). u.globals) W i
-      ∙ ap (option_map (λ (u : Part). u.globals))
+      (slice_get-map (λ (u : Program). u.globals) W i
+      ∙ ap (option_map (λ (u : Program). u.globals))
       (part_here modules parts aligned (apart parts size s is) resolved i p h))
 
   pub starts_stored : StoreIs modules parts First first_store First

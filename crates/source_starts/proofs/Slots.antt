@@ -8,20 +8,21 @@ use Rattle.std.proofs.lemmas.Option.{slice_get_within, slice_get-map}
 use Rattle.cap_words.specs.declared.Word.TheVariants.{Int}
 use Rattle.component_file.specs.declared.component.Import.{Import}
 use Rattle.component_file.proofs.Offers.{inside}
-use Rattle.proc_program.specs.declared.program.Import as program
-use Rattle.proc_program.specs.declared.program.Part.{Part}
+use Rattle.proc_program.specs.declared.program.ProgramImport as program
+use Rattle.proc_program.specs.declared.program.Program.{Program}
 use Rattle.proc_program.specs.declared.program.Procedure.{Procedure}
 use Rattle.proc_templates.specs.Compiled.{pair_count, import_slots, own_slots, imports_of, first_data}
 use Rattle.proc_templates.specs.Compiled.{int_word}
 use Rattle.proc_templates.proofs.Offers.{get-left, get-right, imports_length, own_length}
 
-import_slot : (s : ℕ) (is : List program.Import) (k : ℕ) (i : program.Import) → slice_get is k ≡ Some i
+import_slot : (s : ℕ) (is : List program.ProgramImport) (k : ℕ) (i : program.ProgramImport) → slice_get is k
+    ≡ Some i
     → slice_get (import_slots s is) k ≡ Some (record { part = i.part; name = i.name; slot = s + 2 * k })
 import_slot s [] k i e = absurd (let z : None ≡ Some i = e in cc)
 import_slot s (x ∷ is) zero i e =
     let q : x ≡ i = cc in
     let z : s ≡ s + 2 * 0 = omega arith in
-    ap (λ (y : program.Import). Some (record { part = y.part; name = y.name; slot = s })) q
+    ap (λ (y : program.ProgramImport). Some (record { part = y.part; name = y.name; slot = s })) q
     ∙ ap (λ n. Some (record { part = i.part; name = i.name; slot = n })) z
 import_slot s (x ∷ is) (suc k) i e =
     let z : s + 2 + 2 * k ≡ s + 2 * suc k = omega arith in
@@ -39,8 +40,8 @@ own_slot part s (x ∷ ps) (suc j) q e =
     let z : s + 2 + 2 * j ≡ s + 2 * suc j = omega arith in
     own_slot part (s + 2) ps j q e ∙ ap (λ n. Some (record { part = part; name = q.name; slot = n })) z
 
-module _ (m : Part) where
-  pub import_at : (k : ℕ) (i : program.Import) → slice_get m.imports k ≡ Some i
+module _ (m : Program) where
+  pub import_at : (k : ℕ) (i : program.ProgramImport) → slice_get m.imports k ≡ Some i
       → slice_get (imports_of m) k ≡ Some (record { part = i.part; name = i.name; slot = 2 * k })
   unfolding imports_of
   import_at k i e =

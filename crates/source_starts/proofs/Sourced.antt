@@ -12,7 +12,7 @@ use Rattle.proc_names.specs.Calls.{proc_calls}
 use Rattle.proc_names.specs.Need.{need}
 use Rattle.proc_names.specs.NameFaults.{name_faults, procs_faults, proc_faults, block_faults, twice}
 use Rattle.proc_names.specs.NameFaults.{item_names, own_names}
-use Rattle.proc_program.specs.declared.program.Part.{Part}
+use Rattle.proc_program.specs.declared.program.Program.{Program}
 use Rattle.proc_program.specs.declared.program.Procedure.{Procedure}
 use Rattle.proc_program.specs.StepView.{block_of}
 use Rattle.proc_program.specs.Lower.{procedure_of, procedures_of, part_of, words_in}
@@ -112,11 +112,12 @@ module _ (m : ModuleFields) (limits : IsModule m) (resolved : name_faults m ≡ 
 
 -- ---- how many words the code has
 
-frame_fits : (m : Part) (p : Procedure) → ProcedureFits (scope_of m) p → FrameFits (frame_of m p) p.callbacks
+frame_fits : (m : Program) (p : Procedure) → ProcedureFits (scope_of m) p
+    → FrameFits (frame_of m p) p.callbacks
 unfolding frame_of
 frame_fits m p f = let r = f.registers in let g = f.frame in record { few = r; room = omega (arith, g) }
 
-one_length : (m : Part) (l : Laid) (p : Procedure) → ProcedureFits (scope_of m) p
+one_length : (m : Program) (l : Laid) (p : Procedure) → ProcedureFits (scope_of m) p
     → length (lay_proc m l p).code ≡ length l.code + size_of_proc p
 unfolding frame_of
 one_length m l p f =
@@ -124,7 +125,7 @@ one_length m l p f =
     ∙ lay-length (spot_of m l p) (proc_code (frame_of m p) p.callbacks (block_of p.body)) l
     ∙ (proc-size (frame_of m p) p.callbacks (frame_fits m p f) (block_of p.body)).by (length l.code)
 
-all_length : (m : Part) (ps : List Procedure) (l : Laid) → Each (ProcedureFits (scope_of m)) ps
+all_length : (m : Program) (ps : List Procedure) (l : Laid) → Each (ProcedureFits (scope_of m)) ps
     → length (lay_procs m l ps).code ≡ length l.code + sum_by size_of_proc ps
 all_length m [] l f = omega arith
 all_length m (p ∷ ps) l f =
@@ -134,6 +135,6 @@ all_length m (p ∷ ps) l f =
     let e : length (lay_proc m l p).code + n ≡ length l.code + (size_of_proc p + n) = omega (arith, g) in
     h ∙ e ∙ ap (λ k. length l.code + k) (sym (sum_by-cons size_of_proc p ps))
 
-pub code_length : (m : Part) → IsPart m → length (component_of m).code ≡ code_words m
+pub code_length : (m : Program) → IsPart m → length (component_of m).code ≡ code_words m
 unfolding component_of laid_of code_words
 code_length m f = all_length m m.procs (head_of m) f.procs.1

@@ -30,7 +30,7 @@ use Rattle.proc_language.specs.declared.module.ModuleFields.{ModuleFields}
 use Rattle.proc_language.specs.Limits.{Each, IsModule}
 use Rattle.proc_language.proofs.Offers.{each_at}
 use Rattle.proc_names.specs.NameFaults.{name_faults}
-use Rattle.proc_program.specs.declared.program.Part.{Part}
+use Rattle.proc_program.specs.declared.program.Program.{Program}
 use Rattle.proc_program.specs.declared.program.Procedure.{Procedure}
 use Rattle.proc_program.specs.declared.program.Handle.TheVariants.{Own, Imported}
 use Rattle.proc_program.specs.Lower.{part_of, import_of, words_in}
@@ -94,7 +94,7 @@ module _ (modules : List ModuleFields) (parts : List PartSeen) (size : ℕ) (s :
   told = starts_tell_names parts size s is
 
   module _ (i : ℕ) (p : PartSeen) (h : Home modules parts i p) where
-    abbrev U : Part
+    abbrev U : Program
     U = part_of h.source
 
     module_is : IsModule h.source

@@ -19,7 +19,7 @@ use Rattle.proc_language.proofs.Offers.{each_at}
 use Rattle.proc_names.specs.Names.{same}
 use Rattle.proc_names.specs.NameFaults.{name_faults, again, twice, item_names, procs_faults}
 use Rattle.proc_names.specs.Faults.{unless}
-use Rattle.proc_program.specs.declared.program.Import as program
+use Rattle.proc_program.specs.declared.program.ProgramImport as program
 use Rattle.proc_program.specs.declared.program.Procedure.{Procedure}
 use Rattle.proc_program.specs.Lower.{part_of, procedures_of, import_of}
 use Rattle.proc_names.specs.Calls.{proc_calls}
@@ -113,7 +113,8 @@ right_at (y ∷ a) b j x e =
     let z : length (y ∷ a) + j ≡ suc (length a + j) = omega arith in
     ap (slice_get (y ∷ (a ++ b))) z ∙ right_at a b j x e
 
-pub imports_apart : (m : ModuleFields) → name_faults m ≡ [] → (k j : ℕ) (i : program.Import) (q : Procedure)
+pub imports_apart : (m : ModuleFields) → name_faults m ≡ []
+    → (k j : ℕ) (i : program.ProgramImport) (q : Procedure)
     → slice_get (part_of m).imports k ≡ Some i → slice_get (part_of m).procs j ≡ Some q → i.name ≢ q.name
 imports_apart m h k j i q at_i at_q e =
     by (slice_get m.imports k) refl (sym (slice_get-map import_of m.imports k) ∙ at_i)
@@ -125,7 +126,7 @@ imports_apart m h k j i q at_i at_q e =
     by None f g = cc
     by (Some x) f g =
         let s : import_of x ≡ i = cc in
-        let nm : x.name.text ≡ i.name = ap (λ (z : program.Import). z.name) s in
+        let nm : x.name.text ≡ i.name = ap (λ (z : program.ProgramImport). z.name) s in
         let d = twice_between (map (λ i. i.name) m.imports) _ k _ x.name y.0
         (left_none (twice (item_names m)) (procs_faults m m.procs) h)
         (slice_get-map (λ i. i.name) m.imports k ∙ ap (option_map (λ i. i.name)) f)

@@ -16,7 +16,7 @@ use Rattle.component_linker.specs.Start.{same_name}
 use Rattle.component_linker.specs.Standing.{placed, placed_from, placed_part, past, settled, move_of}
 use Rattle.component_linker.proofs.Offers.{in_part, slice_get-take, taken}
 use Rattle.proc_language.specs.declared.module.ModuleFields.{ModuleFields}
-use Rattle.proc_program.specs.declared.program.Part.{Part}
+use Rattle.proc_program.specs.declared.program.Program.{Program}
 use Rattle.proc_program.specs.Lower.{part_of}
 use Rattle.proc_templates.specs.Compiled.{compiled}
 use Rattle.proc_semantics.specs.Values as meaning
@@ -258,7 +258,7 @@ module _ (modules : List ModuleFields) (parts : List PartSeen) (is : Aligned mod
           ∙ ap (bytes_eq p.component.name) (sym h.placed.name) ∙ names_same p.component.name)
           before
         where
-          before : (k : ℕ) (u : Part) → k < i → slice_get (map part_of modules) k ≡ Some u
+          before : (k : ℕ) (u : Program) → k < i → slice_get (map part_of modules) k ≡ Some u
               → meaning.is_named name u ≡ false
           before k u lt at = by (slice_get modules k) refl (sym (slice_get-map part_of modules k) ∙ at)
             where
@@ -271,7 +271,7 @@ module _ (modules : List ModuleFields) (parts : List PartSeen) (is : Aligned mod
                   let same : q.1.source ≡ m =
                   (let z : Some q.1.source ≡ Some m = sym q.1.source_is ∙ e' in cc) in
                   let nm : q.0.component.name ≡ u.name = q.1.placed.name
-                  ∙ ap (λ (x : ModuleFields). (part_of x).name) same ∙ ap (λ (x : Part). x.name) s in
+                  ∙ ap (λ (x : ModuleFields). (part_of x).name) same ∙ ap (λ (x : Program). x.name) s in
                   let d = trusted_apart parts apart k i q.0 p lt q.1.place h.place in
                   ap (λ a. bytes_eq a u.name) e ∙ ap (bytes_eq p.component.name) (sym nm) ∙ d
 
@@ -291,7 +291,7 @@ module _ (modules : List ModuleFields) (parts : List PartSeen) (is : Aligned mod
                 | inr ge ↦ apart j k y x (omega (arith, ge, ne)) b a
               ]
 
-          by : (k : ℕ) (u : Part) (o : Option ModuleFields) → slice_get modules k ≡ o
+          by : (k : ℕ) (u : Program) (o : Option ModuleFields) → slice_get modules k ≡ o
               → option_map part_of o ≡ Some u → meaning.is_named name u ≡ false
           by k u None e' g = cc
           by k u (Some m) e' g =
@@ -299,7 +299,7 @@ module _ (modules : List ModuleFields) (parts : List PartSeen) (is : Aligned mod
               let q = part_of_home k m e' in
               let same : q.1.source ≡ m = (let z : Some q.1.source ≡ Some m = sym q.1.source_is ∙ e' in cc) in
               let nm : q.0.component.name ≡ u.name = q.1.placed.name
-              ∙ ap (λ (x : ModuleFields). (part_of x).name) same ∙ ap (λ (x : Part). x.name) s in
+              ∙ ap (λ (x : ModuleFields). (part_of x).name) same ∙ ap (λ (x : Program). x.name) s in
               let ne : n ≢ q.1.number = λ z. (
               let w : Some p ≡ Some q.0 = sym at ∙ ap (slice_get parts) z ∙ q.1.number_is in
               let v : p ≡ q.0 = cc in

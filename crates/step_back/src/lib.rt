@@ -7,5 +7,5 @@ mod debugger;
 pub mod laws;
 mod stops;
 
-pub use debugger::{Debugger, MOST_DEPTH, Stop};
+pub use debugger::{Debugger, MOST_DEPTH, StopReason};
 pub use stops::MOST_STOPS;

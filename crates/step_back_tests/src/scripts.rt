@@ -1,6 +1,6 @@
 //! What no clause says: that the definitions which the clauses cite mean what docs/DEBUGGER.md says. Each
 //! case was worked out by hand.
-use debug_script::{Command, ScriptFault, script_of};
+use debug_script::{DebugCommand, ScriptFault, script_of};
 use lcm_isa::Reg;
 use std::alloc::{AllocError, Global};
 use std::process::Abort;
@@ -121,12 +121,12 @@ fn a_script_has_a_thousand_lines_at_most(rt: HostRuntime) -> Result<(), Fail> {
 #[test]
 fn commands_are_those_of_their_lines(rt: HostRuntime) -> Result<(), Fail> {
     let wanted = [
-        Command::Forward(7),
-        Command::Back(8),
-        Command::StopAt(9),
-        Command::Clear(10),
-        Command::Cell(11),
-        Command::Register(Reg::G1),
+        DebugCommand::Forward(7),
+        DebugCommand::Back(8),
+        DebugCommand::StopAt(9),
+        DebugCommand::Clear(10),
+        DebugCommand::Cell(11),
+        DebugCommand::Register(Reg::G1),
     ];
     let text = "f 7\nb 8\nstop 9\nclear 10\nc 11\nr g1\n";
     match script_of(rt.alloc(), text.as_bytes()) {

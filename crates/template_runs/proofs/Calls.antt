@@ -1,4 +1,5 @@
 -- A call of trusted code, and what it is to be back from it.
+use Rattle.call_sequence.specs.declared.TheConstants.{CALL_WORDS, SITE_WORDS}
 use Rattle.std.proofs.Common.{◌≡◌, ◌⊎◌, inl, inr, ℕ, zero, suc, ◌+◌, ◌-◌, ◌<◌, ◌≤◌, pos, ◌+ℤ◌, List, [], ◌∷◌}
 use Rattle.std.proofs.Common.{length, Some, None, true, false, refl, sym, ap, ◌∙◌, subst, arith, le-leb}
 use Rattle.std.proofs.Common.{lt-ltb}
@@ -154,11 +155,12 @@ module _ (g : Link) (linked : Linked g) where
             pair.code
             ∙ ap (λ x. event_after g.layout (note_call x) called_to) pair.foreign
 
-        weight_is : weight_of g.layout o ≡ 16
+        weight_is : weight_of g.layout o ≡ CALL_WORDS
         unfolding weight_of
         weight_is = ap (weight_by o.maps) case_call ∙ rw pair.code refl
 
-        pub call_makes : Makes g.layout 16 (Some (Called (is_inside g.layout called_to) i (top - w) top)) o
+        pub call_makes : Makes g.layout CALL_WORDS
+            (Some (Called (is_inside g.layout called_to) i (top - w) top)) o
             called_to
         unfolding overlay_step
         call_makes = record {
@@ -333,15 +335,15 @@ module _ (g : Link) (linked : Linked g) where
         free = h.free;
       })
 
-      pub at_back : At g linked p (k + 26) q
-      at_back = subst (At g linked p (k + 26)) (sym back_is) (record {
+      pub at_back : At g linked p (k + SITE_WORDS) q
+      at_back = subst (At g linked p (k + SITE_WORDS)) (sym back_is) (record {
         trusted = at.trusted;
         pc =
             let a = s.site.at_is in
             let b = s.offset_is in
-            let e : u.at + 26 ≡ p.component.code_base + (k + 26) = omega (arith, a, b) in
-            ap (λ x. Mem (code_cap x.base x.end (x.at + 26))) site_same
-            ∙ ap (λ y. Mem (code_cap y u.end (u.at + 26))) s.site.base_is
-            ∙ ap (λ y. Mem (code_cap (ranges_of p).code_base y (u.at + 26))) s.site.end_is
+            let e : u.at + SITE_WORDS ≡ p.component.code_base + (k + SITE_WORDS) = omega (arith, a, b) in
+            ap (λ x. Mem (code_cap x.base x.end (x.at + SITE_WORDS))) site_same
+            ∙ ap (λ y. Mem (code_cap y u.end (u.at + SITE_WORDS))) s.site.base_is
+            ∙ ap (λ y. Mem (code_cap (ranges_of p).code_base y (u.at + SITE_WORDS))) s.site.end_is
             ∙ ap (λ y. Mem (code_cap (ranges_of p).code_base (ranges_of p).code_last y)) e;
       })

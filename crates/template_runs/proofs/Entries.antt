@@ -73,7 +73,7 @@ module _ (g : Link) (linked : Linked g) (p : PartSeen) (k : ℕ) where
         (rw (no_site (site_at g.layout (p.component.code_base + k)) refl)
         (rw (linked.entry_found p k at.trusted inside, entry) refl))
 
-    weight_20 : weight_of g.layout o ≡ 20
+    weight_20 : weight_of g.layout o ≡ ENTRY_WORDS
     unfolding weight_of
     weight_20 = ap (weight_by o.maps) case_entry
 
@@ -81,7 +81,7 @@ module _ (g : Link) (linked : Linked g) (p : PartSeen) (k : ℕ) where
     unfolding entry_step needs faces
     fails_by none = rw (at.pc, none) refl
 
-    pub entry_fails : (want : Failing g.layout) (c : ℕ) → own_stack g.layout o.maps ≡ None → 20 ≤ c
+    pub entry_fails : (want : Failing g.layout) (c : ℕ) → own_stack g.layout o.maps ≡ None → ENTRY_WORDS ≤ c
         → want.runs.Good c o
     unfolding overlay_step
     entry_fails want c none le =
@@ -113,7 +113,7 @@ module _ (g : Link) (linked : Linked g) (p : PartSeen) (k : ℕ) where
       unfolding step_event
       event_none = ap (λ x. event_after g.layout (note_by g.layout o x) entered) case_entry
 
-      pub entry_makes : Makes g.layout 20 None o entered
+      pub entry_makes : Makes g.layout ENTRY_WORDS None o entered
       unfolding overlay_step
       entry_makes = record {
         inside = inside_here g linked p k o at;
@@ -125,8 +125,8 @@ module _ (g : Link) (linked : Linked g) (p : PartSeen) (k : ℕ) where
       pub entry_law : (want : RunsOn g.layout) (mem : ℕ → OWord) (c b : ℕ) → IsSafe g o.frames o.maps.regs.stk
           → look o.maps.regs.dat ≡ Mem (data_cap (ranges_of p) (pos p.component.data_base))
           → DataIs g linked mem o.maps.cells
-          → (Here g linked p 0 cap.end [] mem o.frames entered → At g linked p (k + 20) entered
-          → want.Good b entered) → 20 + b ≤ c → want.Good c o
+          → (Here g linked p 0 cap.end [] mem o.frames entered → At g linked p (k + ENTRY_WORDS) entered
+          → want.Good b entered) → ENTRY_WORDS + b ≤ c → want.Good c o
       entry_law want mem c b safe dat globs u le =
           let is = own_is g.layout o.maps cap own in
           let s = mem_safe g o.frames o.maps.regs.stk cap is.0 safe in
@@ -141,7 +141,7 @@ module _ (g : Link) (linked : Linked g) (p : PartSeen) (k : ℕ) where
           ap (λ x. Mem (record x { addr = pos cap.end })) is.1
           ∙ ap (λ b. Mem (record (part_stack_cap (ranges_of p) cap.end (pos cap.end)) { base = b }))
           (sym (linked.stack_bases p at.trusted)) in
-          let e20 : p.component.code_base + k + ENTRY_WORDS ≡ p.component.code_base + (k + 20) =
+          let e20 : p.component.code_base + k + ENTRY_WORDS ≡ p.component.code_base + (k + ENTRY_WORDS) =
           omega arith in
           let h : Here g linked p 0 cap.end [] mem o.frames entered = record {
             valid = valid_same g linked o entered v entry_makes.goes_on refl refl;
@@ -157,13 +157,13 @@ module _ (g : Link) (linked : Linked g) (p : PartSeen) (k : ℕ) where
             high = high;
             free = λ a lo hi. s.free a (omega (arith, lo, base)) hi;
           } in
-          let at20 : At g linked p (k + 20) entered =
+          let at20 : At g linked p (k + ENTRY_WORDS) entered =
           record {
             trusted = at.trusted;
             pc = ap (λ x. Mem (code_cap (ranges_of p).code_base (ranges_of p).code_last x)) e20;
           } in
-          want.spend (20 + b) c o le (want.go_on 20 b o entered entry_makes
-          (inside_here g linked p (k + 20) entered at20) (no_cell refl) (u h at20))
+          want.spend (ENTRY_WORDS + b) c o le (want.go_on ENTRY_WORDS b o entered entry_makes
+          (inside_here g linked p (k + ENTRY_WORDS) entered at20) (no_cell refl) (u h at20))
 
   -- ---- a number is taken: integers of 64 bits alone
 

@@ -8,7 +8,7 @@ pub use Rattle.template_runs.proofs.Data.{not_free, set_law, store_data_law, wit
 -- the epilogue, from its first word to the `xjmp` that ends it
 pub use Rattle.template_runs.proofs.Epilogue.{Left, epilogue, epilogue_law, pops}
 -- numbers that templates reckon with
-pub use Rattle.template_runs.proofs.Numbers.{fits_small}
+pub use Rattle.template_runs.proofs.Numbers.{fits_small, zero_more}
 -- the rows of the table of templates, over the overlay's steps
 pub use Rattle.template_runs.proofs.Rows.{DataIs, Free, Here, load_law, loaded, store_law}
 -- words in the slots of a frame, and in the data of trusted parts

@@ -1,4 +1,5 @@
 -- Where the pieces of a procedure's code stand in a part.
+use Rattle.call_sequence.specs.declared.TheConstants.{RETURN_WORDS, SITE_WORDS, ENTRY_WORDS}
 use Rattle.std.proofs.Common.{◌≡◌, ℕ, ◌+◌, pos, ◌-ℤ◌, List, [], ◌∷◌, ◌++◌, length, true, subst, arith}
 use Rattle.std.specs.Prelude.{map}
 use Rattle.lcm_isa.specs.declared.Reg.TheVariants.{Pc, Rcode, Rdata, T2}
@@ -24,9 +25,9 @@ words_of (goes far) = 3
 words_of (goes_if far r) = 3
 words_of finishes = 3
 words_of label = 0
-words_of site = 26
-words_of entry = 20
-words_of leaves = 10
+words_of site = SITE_WORDS
+words_of entry = ENTRY_WORDS
+words_of leaves = RETURN_WORDS
 
 abbrev pub words_in : List Item → ℕ
 words_in [] = 0

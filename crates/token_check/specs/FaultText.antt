@@ -1,11 +1,8 @@
 -- How the faults of tokens print.
-use Rattle.std.specs.Prelude.{ℕ, ◌++◌, List, codes, decimal}
+use Rattle.std.specs.Prelude.{ℕ, List, codes}
+use Rattle.cap_words.specs.FaultText.{at_byte}
 use Rattle.token_check.specs.declared.fault.TokenFault.{TokenFault}
 use Rattle.token_check.specs.declared.fault.TokenFault.TheVariants as fault
-
--- what is wrong at a byte
-abbrev at_byte : ℕ → List ℕ → List ℕ
-at_byte at what = codes "byte " ++ decimal at ++ what
 
 abbrev pub token_fault_text : TokenFault → List ℕ
 token_fault_text (fault.Empty at) = at_byte at (codes ": this token is empty")

@@ -1,5 +1,8 @@
-//! Tests of the typing of tokens, apart from it: a crate with tests is proved twice.
+//! Tests of sources with tokens, of their parser and of their typing, apart from them: a crate with tests is
+//! proved twice.
 #![tactic(auto)]
 
+#[cfg(test)]
+mod parsing;
 #[cfg(test)]
 mod tests;

@@ -4,8 +4,8 @@ ghost use Rattle.std.specs.Str.{bytes_eq};
 ghost use Rattle.token_parse.specs.TokenTrees.{token_trees};
 
 use cap_words::Items;
-use proc_grammar::{Header, Language};
-use proc_language::{Global, Import, Name, Op, Param, is_reserved};
+use proc_grammar::{Language, ModuleHeader};
+use proc_language::{Global, ModuleImport, Name, Op, Param, is_reserved};
 use std::alloc::{AllocError, Global as Heap};
 use token_language::{
     TokenArg, TokenCall, TokenExpr, TokenExprKind, TokenLocal, TokenModuleFields, TokenParam,
@@ -294,8 +294,8 @@ impl Language for Tokens {
     }
 
     fn module_of(
-        header: Header,
-        imports: Items<Import>,
+        header: ModuleHeader,
+        imports: Items<ModuleImport>,
         globals: Items<Global>,
         procs: Items<TokenProc>,
     ) -> TokenModuleFields

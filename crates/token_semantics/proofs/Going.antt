@@ -4,11 +4,11 @@ use Rattle.std.proofs.Common.{true, false, if◌then◌else◌, List, length, Op
 use Rattle.std.proofs.Common.{Some, None, slice_get, slice_set}
 use Rattle.std.specs.Prelude.{◌==◌, ◌&&◌}
 use Rattle.std.specs.Str.{bytes_eq}
-use Rattle.source_events.specs.declared.End.TheVariants.{Fail}
+use Rattle.source_events.specs.declared.MeaningEnd.TheVariants.{Fail}
 use Rattle.proc_language.specs.Tree as tree
 use Rattle.proc_names.specs.Calls.{calls}
-use Rattle.proc_program.specs.declared.program.Place.{Place}
-use Rattle.proc_program.specs.declared.program.Place.TheVariants.{Local, Global}
+use Rattle.proc_program.specs.declared.program.Location.{Location}
+use Rattle.proc_program.specs.declared.program.Location.TheVariants.{Local, Global}
 use Rattle.proc_program.specs.Program as run
 use Rattle.proc_program.specs.StepView.{block_of as block_view}
 use Rattle.proc_program.specs.Lower.{exp_of, steps_of}
@@ -16,7 +16,7 @@ use Rattle.proc_semantics.specs.declared.value.Target.{Target}
 use Rattle.proc_semantics.specs.declared.value.Value.{Value}
 use Rattle.proc_semantics.specs.declared.value.Value.TheVariants.{Num}
 use Rattle.proc_semantics.specs.declared.value.Register.{Register}
-use Rattle.proc_semantics.specs.declared.value.Frame.{Frame}
+use Rattle.proc_semantics.specs.declared.value.Activation.{Activation}
 use Rattle.proc_semantics.specs.Told as tells
 use Rattle.proc_semantics.specs.Values.{Store, set_word}
 use Rattle.proc_semantics.specs.Meaning as plain
@@ -137,7 +137,7 @@ module _ (modules : List TokenModuleFields) where
   back_again room r s None k k' e h = tt
   back_again room r s (Some t) k k' e h = next_at room r (Some t) (Some s) k k' (ap Some (sym e)) h
 
-  pub assigned_same : (r : Running) (home : ℕ) (x : Place) (v : ℤ)
+  pub assigned_same : (r : Running) (home : ℕ) (x : Location) (v : ℤ)
       (k : List Value → Store → Comp) (k' : plain.Next) → RPlaces r k k'
       → RPlaces r (assigned home x v k) (plain.assigned home x v k')
   assigned_same r home (Local i) v k k' h env none st =
@@ -153,7 +153,7 @@ module _ (modules : List TokenModuleFields) where
         → RStore (with_numbers r ns) (l.proc t left ns rs k) (l'.proc t left rs k')
     pub waits : (r : Running) (c : Option Wait) (c' : Option plain.Wait) → RWait r c c'
         → RStore r (l.wait c) (l'.wait c')
-    pub turns : (m : TokenModuleFields) (p : TokenProc) (f : Frame) → slice_get modules f.home ≡ Some m
+    pub turns : (m : TokenModuleFields) (p : TokenProc) (f : Activation) → slice_get modules f.home ≡ Some m
         → (r : Running) (n : ℕ) (c : Expr) (a : Block) (s t : Full) (u : After)
         → ExprTyped (tokens_of p) c s t
         → BlockGoes (tokens_of p) a (Some t) u → ComesBack s u → ExprFits m p c → BlockFits m p a

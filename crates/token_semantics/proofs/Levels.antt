@@ -8,14 +8,15 @@ use Rattle.source_events.specs.declared.Item.{Item}
 use Rattle.source_events.specs.declared.Item.TheVariants.{Enter, Ret}
 use Rattle.source_events.specs.declared.FeedBack.{FeedBack}
 use Rattle.source_events.specs.declared.FeedBack.TheVariants as way
-use Rattle.source_events.specs.declared.End.TheVariants.{Fail, OutOfFuel}
+use Rattle.source_events.specs.declared.MeaningEnd.TheVariants.{Fail, OutOfFuel}
+use Rattle.proc_language.proofs.Offers.{each_at}
 use Rattle.proc_language.specs.Tree as tree
 use Rattle.proc_program.specs.Lower.{procedure_of}
 use Rattle.proc_semantics.specs.declared.value.Target.{Target}
 use Rattle.proc_semantics.specs.declared.value.Value.{Value}
 use Rattle.proc_semantics.specs.declared.value.Value.TheVariants.{Num}
 use Rattle.proc_semantics.specs.declared.value.Register.{Register}
-use Rattle.proc_semantics.specs.declared.value.Frame.{Frame}
+use Rattle.proc_semantics.specs.declared.value.Activation.{Activation}
 use Rattle.proc_semantics.specs.Values.{Store, register_of}
 use Rattle.proc_semantics.specs.Values.{taken, proc_at, found, registers_fed}
 use Rattle.proc_semantics.specs.Meaning as plain
@@ -48,7 +49,7 @@ use Rattle.token_semantics.proofs.HandLemmas.{handed_length, empty_length, hande
 use Rattle.token_semantics.proofs.Same.{Running, Same, same_more, ended_same, ticks_same, emitted}
 use Rattle.token_semantics.proofs.Same.{item_taken, place_same, HandsAre, plus, with_numbers}
 use Rattle.token_semantics.proofs.Same.{calling, leave_same}
-use Rattle.token_semantics.proofs.Places.{all_get, each_get, each_append, each_replicate, lowered_in}
+use Rattle.token_semantics.proofs.Places.{all_get, each_append, each_replicate, lowered_in}
 use Rattle.token_semantics.proofs.Places.{lowered_at, lookup, Takes, ValueTakesNone}
 use Rattle.token_semantics.proofs.Places.{RegistersTakeNone, taken_take, found_takes}
 use Rattle.token_semantics.proofs.Places.{fed_take}
@@ -87,9 +88,9 @@ record IsReady (m : TokenModuleFields) (p : TokenProc) : Type 0 where
 
 goes_of : (m : TokenModuleFields) → IsTokenResolved m → IsTyped m ⊎ HasNoTokens m → (j : ℕ) (p : TokenProc)
     → slice_get m.procs j ≡ Some p → ProcGoes p
-goes_of m resolved (inl typed) j p g = checked_goes p (each_get ProcTyped m.procs j p typed g)
+goes_of m resolved (inl typed) j p g = checked_goes p (each_at ProcTyped m.procs j p typed g)
 goes_of m resolved (inr none) j p g =
-    tokenless_goes m p (each_get (λ p. tokens_of p ≡ []) m.procs j p none g) (names_fit m resolved j p g).1
+    tokenless_goes m p (each_at (λ p. tokens_of p ≡ []) m.procs j p none g) (names_fit m resolved j p g).1
 
 module _ (modules : List TokenModuleFields) (accepted : All IsAccepted modules) where
   abbrev w : World
@@ -101,8 +102,8 @@ module _ (modules : List TokenModuleFields) (accepted : All IsAccepted modules) 
       let ok = all_get IsAccepted modules home m accepted e in
       record {
         goes = goes_of m ok.resolved ok.checked j p g;
-        fits = each_get (ProcFits m) m.procs j p (calls_fit m ok.resolved) g;
-        few = each_get TokensFit m.procs j p ok.limits.tokens g;
+        fits = each_at (ProcFits m) m.procs j p (calls_fit m ok.resolved) g;
+        few = each_at TokensFit m.procs j p ok.limits.tokens g;
       }
 
   -- ---- how it ends
@@ -122,17 +123,17 @@ module _ (modules : List TokenModuleFields) (accepted : All IsAccepted modules) 
   module _ (l : Level) (l' : plain.Level) (lev : RLevel modules l l') where
     -- ---- procedures
 
-    abbrev body : TokenModuleFields → TokenProc → Frame → ℕ → List ℕ → Then → List Value → Store → Comp
+    abbrev body : TokenModuleFields → TokenProc → Activation → ℕ → List ℕ → Then → List Value → Store → Comp
     body m p f n ns k env =
         steps modules l (scope_of m p f) n (block_of p.body) (finish f.need k)
         (λ hands env. finish f.need k hands (pos 0)) (begun (length (tokens_of p)) ns) env
 
-    abbrev plain_body : TokenModuleFields → TokenProc → Frame → ℕ → tree.Block → plain.Then → plain.Next
+    abbrev plain_body : TokenModuleFields → TokenProc → Activation → ℕ → tree.Block → plain.Then → plain.Next
     plain_body m p f n b k env =
         plain.block w l' f (lowered m p n b) (plain.finish w f.need k)
         (λ env. plain.finish w f.need k (pos 0)) env
 
-    body_same : (m : TokenModuleFields) (p : TokenProc) (f : Frame) → slice_get modules f.home ≡ Some m
+    body_same : (m : TokenModuleFields) (p : TokenProc) (f : Activation) → slice_get modules f.home ≡ Some m
         → IsReady m p → (r : Running) (n : ℕ) (ns : List ℕ) → tokens_taken p ≡ length ns
         → (k : Then) (k' : plain.Then) → RThen r k k'
         → RPlaces modules (with_numbers r ns) (body m p f n ns k)
@@ -166,14 +167,14 @@ module _ (modules : List TokenModuleFields) (accepted : All IsAccepted modules) 
         by : (left : ℕ) → (o : Option (List Value))
             → taken [] (procedure_of (erased m) n (erased_proc p)).callbacks rs ≡ o
             → let q = procedure_of (erased m) n (erased_proc p) in
-            let f : Frame = record { home = home; left = left; need = q.need } in
+            let f : Activation = record { home = home; left = left; need = q.need } in
             Same (with_numbers r ns)
             (or_fail o (λ env. body m p f n ns k (env ++ replicate q.locals (Num (pos 0))) st))
             (plain.body_of w l' home left q o k' st)
         by left None g = ended_same (with_numbers r ns) Fail
         by left (Some env) g =
             let q = procedure_of (erased m) n (erased_proc p) in
-            let f : Frame = record { home = home; left = left; need = q.need } in
+            let f : Activation = record { home = home; left = left; need = q.need } in
             let zeros = replicate q.locals (Num (pos 0)) in
             subst (λ b. Same (with_numbers r ns) (body m p f n ns k (env ++ zeros) st)
             (plain_body m p f n b k' (env ++ zeros) st))

@@ -9,15 +9,16 @@ use Rattle.std.specs.Option.{option_map_or}
 use Rattle.std.specs.Str.{bytes_eq}
 use Rattle.source_events.specs.declared.FeedPair.{FeedPair}
 use Rattle.source_events.specs.declared.FeedPair.TheVariants as fed
+use Rattle.proc_language.proofs.Offers.{each_at}
 use Rattle.proc_language.specs.declared.module.Proc.{Proc}
 use Rattle.proc_language.specs.declared.module.ModuleFields.{ModuleFields}
 use Rattle.proc_language.specs.Limits.{Each}
 use Rattle.proc_names.specs.Calls.{proc_calls}
 use Rattle.proc_program.specs.declared.program.Handle.{Handle}
 use Rattle.proc_program.specs.declared.program.Handle.TheVariants.{Given, Own, Imported}
-use Rattle.proc_program.specs.declared.program.Import.{Import}
+use Rattle.proc_program.specs.declared.program.ProgramImport.{ProgramImport}
 use Rattle.proc_program.specs.declared.program.Procedure.{Procedure}
-use Rattle.proc_program.specs.declared.program.Part.{Part}
+use Rattle.proc_program.specs.declared.program.Program.{Program}
 use Rattle.proc_program.specs.Lower.{procedure_of, procedures_of, part_of}
 use Rattle.proc_semantics.specs.declared.value.Target.{Target}
 use Rattle.proc_semantics.specs.declared.value.Pair.{Pair}
@@ -44,12 +45,6 @@ use Rattle.token_semantics.proofs.Resolved.{calls_fit}
 pub all_get : {A : Type 0} (P : A → Type 0) (xs : List A) (i : ℕ) (x : A) → All P xs
     → slice_get xs i ≡ Some x → P x
 all_get P xs i x h e = subst P (get_or_from_slice_get xs i x x e) (h i x (slice_get_within xs i x e))
-
-pub each_get : {A : Type 0} (P : A → Type 0) (xs : List A) (i : ℕ) (x : A) → Each P xs
-    → slice_get xs i ≡ Some x → P x
-each_get P [] i x h e = absurd (let f : None ≡ Some x = e in cc)
-each_get P (y ∷ xs) zero x h e = subst P (let f : Some y ≡ Some x = e in cc) h.0
-each_get P (y ∷ xs) (suc i) x h e = each_get P xs i x h.1 e
 
 pub each_append : {A : Type 0} (P : A → Type 0) (xs ys : List A) → Each P xs → Each P ys → Each P (xs ++ ys)
 each_append P [] ys h k = k
@@ -99,7 +94,7 @@ procedure_get m j =
     by (Some p) = refl
 
 module _ (modules : List TokenModuleFields) where
-  abbrev part_in : Option TokenModuleFields → Option Part
+  abbrev part_in : Option TokenModuleFields → Option Program
   part_in o = option_map part_of (option_map erased o)
 
   part_get : (home : ℕ) → home_part (world modules) home ≡ part_in (slice_get modules home)
@@ -202,7 +197,7 @@ module _ (modules : List TokenModuleFields) where
         get_or_from_slice_get (part_of (erased m)).procs j r r there in
         let test : is_shared name r ≡ true =
         sym (ap (is_shared name) at) ∙ (position-Some (is_shared name) (part_of (erased m)).procs j r e).1 in
-        (each_get (ProcFits m) m.procs j p fits f).shared
+        (each_at (ProcFits m) m.procs j p fits f).shared
         (first_true p.shared (bytes_eq name p.name.text) test)
       where
         first_true : (a b : Bool) → (a && b) ≡ true → a ≡ true
@@ -248,7 +243,7 @@ module _ (modules : List TokenModuleFields) where
     found_pair None h = tt
     found_pair (Some t) h = h t refl
 
-    linked_takes : (i : Option Import) → PairTakes (linked (world modules) i) 0
+    linked_takes : (i : Option ProgramImport) → PairTakes (linked (world modules) i) 0
     unfolding linked
     linked_takes None = tt
     linked_takes (Some i) = by (position (is_named i.part) (world modules))

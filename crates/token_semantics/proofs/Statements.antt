@@ -3,7 +3,7 @@ use Rattle.std.proofs.Common.{◌≡◌, refl, sym, ◌∙◌, subst, ℕ, ◌+�
 use Rattle.std.proofs.Common.{if◌then◌else◌, List, [], ◌∷◌, length, map}
 use Rattle.std.proofs.Common.{Some, None, slice_get}
 use Rattle.std.specs.Prelude.{All}
-use Rattle.source_events.specs.declared.End.TheVariants.{Halt as Halted, Fail}
+use Rattle.source_events.specs.declared.MeaningEnd.TheVariants.{Halt as Halted, Fail}
 use Rattle.proc_language.specs.declared.tree.Name.{Name}
 use Rattle.proc_language.specs.declared.module.Proc.{Proc}
 use Rattle.proc_language.specs.declared.module.ModuleFields.{ModuleFields}
@@ -15,7 +15,7 @@ use Rattle.proc_semantics.specs.declared.value.Pair.{Pair}
 use Rattle.proc_semantics.specs.declared.value.Pair.TheVariants.{Bad, Outside, Runs}
 use Rattle.proc_semantics.specs.declared.value.Value.{Value}
 use Rattle.proc_semantics.specs.declared.value.Value.TheVariants.{Num, Closure, Other}
-use Rattle.proc_semantics.specs.declared.value.Frame.{Frame}
+use Rattle.proc_semantics.specs.declared.value.Activation.{Activation}
 use Rattle.proc_semantics.specs.Told as tells
 use Rattle.proc_semantics.specs.Values.{Store, is_zero, variable, global_word, set_word, pair_of, register_of}
 use Rattle.proc_semantics.specs.Meaning as plain
@@ -59,7 +59,7 @@ module _ (modules : List TokenModuleFields) (accepted : All IsAccepted modules) 
 
     -- ---- a procedure of a module runs in a frame
 
-    module _ (m : TokenModuleFields) (p : TokenProc) (f : Frame)
+    module _ (m : TokenModuleFields) (p : TokenProc) (f : Activation)
         (placed : slice_get modules f.home ≡ Some m) where
       abbrev em : ModuleFields
       em = erased m

@@ -9,14 +9,14 @@ use Rattle.source_events.specs.declared.FeedBack.{FeedBack}
 use Rattle.source_events.specs.declared.FeedBack.TheVariants as way
 use Rattle.source_events.specs.declared.OutArg.TheVariants.{Int}
 use Rattle.source_events.specs.declared.OutEvent.TheVariants.{CallOut, LeaveOut}
-use Rattle.source_events.specs.declared.End.TheVariants.{Halt as Halted, OutOfFuel}
+use Rattle.source_events.specs.declared.MeaningEnd.TheVariants.{Halt as Halted, OutOfFuel}
 use Rattle.proc_language.specs.declared.tree.Name.{Name}
 use Rattle.proc_language.specs.declared.tree.Op.{Op}
 use Rattle.proc_language.specs.declared.module.Proc.{Proc}
 use Rattle.proc_language.specs.declared.module.ModuleFields.{ModuleFields}
 use Rattle.proc_names.specs.Calls.{calls, args_calls, block_calls, proc_calls}
-use Rattle.proc_program.specs.declared.program.Place.{Place}
-use Rattle.proc_program.specs.declared.program.Place.TheVariants.{Local, Global}
+use Rattle.proc_program.specs.declared.program.Location.{Location}
+use Rattle.proc_program.specs.declared.program.Location.TheVariants.{Local, Global}
 use Rattle.proc_program.specs.declared.program.Procedure.{Procedure}
 use Rattle.proc_program.specs.Lower.{variable_of, row_of, handle_of, passed_handle, procedure_of, part_of}
 use Rattle.proc_semantics.specs.declared.value.Target.{Target}
@@ -25,7 +25,7 @@ use Rattle.proc_semantics.specs.declared.value.Pair.TheVariants.{Bad, Outside, R
 use Rattle.proc_semantics.specs.declared.value.Value.{Value}
 use Rattle.proc_semantics.specs.declared.value.Value.TheVariants.{Num, Closure, Other}
 use Rattle.proc_semantics.specs.declared.value.Register.{Register}
-use Rattle.proc_semantics.specs.declared.value.Frame.{Frame}
+use Rattle.proc_semantics.specs.declared.value.Activation.{Activation}
 use Rattle.proc_semantics.specs.Values.{World, Store, is_zero, global_word, set_word, variable, register_of}
 use Rattle.proc_semantics.specs.Values.{taken}
 use Rattle.proc_semantics.specs.Values.{value_args, found, main_target, pair_of, registers_fed}
@@ -70,12 +70,12 @@ pub record Wait : Type 0 where
 -- what stays the same all through one run of a procedure: its frame, its module and itself without tokens,
 -- and its tokens
 pub record Scope : Type 0 where
-  pub frame : Frame
+  pub frame : Activation
   pub fields : ModuleFields
   pub own : Proc
   pub tokens : List Name
 
-abbrev pub scope_of : TokenModuleFields → TokenProc → Frame → Scope
+abbrev pub scope_of : TokenModuleFields → TokenProc → Activation → Scope
 scope_of m p f = record { frame = f; fields = erased m; own = erased_proc p; tokens = tokens_of p }
 
 -- what is done one level down
@@ -94,7 +94,7 @@ pub record Level : Type 0 where
 abbrev pub operated : Op → ℤ → ℤ → Then → Store → Comp
 operated o x y k st = or_fail (result_of o x y) (λ v. k v st)
 
-abbrev pub assigned : ℕ → Place → ℤ → (List Value → Store → Comp) → List Value → Store → Comp
+abbrev pub assigned : ℕ → Location → ℤ → (List Value → Store → Comp) → List Value → Store → Comp
 assigned home (Local i) v k env st = k (slice_set env i (Num v)) st
 assigned home (Global o) v k env st = k env (set_word st home o v)
 

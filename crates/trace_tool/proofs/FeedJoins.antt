@@ -11,8 +11,8 @@ use Rattle.source_events.specs.declared.FeedPair.TheVariants.{Nothing as Untold}
 use Rattle.source_events.specs.declared.Item.TheVariants.{Enter}
 use Rattle.source_events.specs.Forms.{no_pairs}
 use Rattle.source_events.specs.Left.{left_in}
-use Rattle.trace_tool.specs.declared.pairs.Pair.{Pair}
-use Rattle.trace_tool.specs.declared.pairs.Pair.TheVariants.{Nothing, Bad, Out, Hop}
+use Rattle.trace_tool.specs.declared.pairs.PassedPair.{PassedPair}
+use Rattle.trace_tool.specs.declared.pairs.PassedPair.TheVariants.{Nothing, Bad, Out, Hop}
 use Rattle.trace_tool.specs.declared.pairs.Pairs.{Pairs}
 use Rattle.trace_tool.specs.Layout.{part_name, entry_name}
 use Rattle.trace_tool.specs.Pairs.{is_nothing, none_paired as none_are, pairs_of}
@@ -92,7 +92,7 @@ items_join base xs ys h = join base xs ys (steps_right ys h)
 
 -- ---- the item of an entry
 
-untold : (l : Layout) (p : Pair) → is_nothing p ≡ true → feed_pair l p ≡ Untold
+untold : (l : Layout) (p : PassedPair) → is_nothing p ≡ true → feed_pair l p ≡ Untold
 untold l Nothing e = refl
 untold l Bad e = absurd cc
 untold l Out e = absurd cc

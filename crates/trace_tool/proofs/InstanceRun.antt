@@ -21,6 +21,7 @@ use Rattle.lcm_machine.specs.Row.{faces, cell_faces, fetch, some, look_face, ope
 use Rattle.lcm_machine.specs.Runs.{code_cap}
 use Rattle.lcm_machine.proofs.Offers.{cell-without_in, cell-without_out, stays, load_goes, cca_goes}
 use Rattle.lcm_machine.proofs.Offers.{xjmp_goes, fetch_at, step_row}
+use Rattle.call_sequence.specs.declared.TheConstants.{CALL_WORDS, ENTRY_WORDS}
 use Rattle.call_sequence.specs.Sequences.{call_code, return_code, entry_code}
 use Rattle.component_linker.specs.Regions.{regions_of}
 use Rattle.component_linker.specs.Start.{start_cell, start_regs, part_word}
@@ -178,7 +179,7 @@ unfolding overlay_step case_of entry_step own_stack need faces owner_of start_re
     return_code
 step0 = refl
 
-weight0 : weight_of L o0 ≡ 20
+weight0 : weight_of L o0 ≡ ENTRY_WORDS
 unfolding weight_of case_of faces owner_of start_regs entry_code call_code return_code
 weight0 = refl
 
@@ -303,7 +304,7 @@ step4 : overlay_step L o4 ≡ goes o5
 unfolding overlay_step
 step4 = ap (λ c. step_by L c o4) case4 ∙ called4
 
-weight4 : weight_of L o4 ≡ 16
+weight4 : weight_of L o4 ≡ CALL_WORDS
 unfolding weight_of
 weight4 = ap (weight_by o4.maps) case4
 
@@ -366,8 +367,8 @@ next_told {j} {ls} {p} {q} n ms t e w l =
     subst (λ (xs : List Line). Told L o0 (j + n) (ls ++ xs) q) l
     (subst (λ (k : ℕ). Told L o0 (j + k) (ls ++ step_lines L p q) q) w (and_then t e))
 
-told1 : Told L o0 20 [] o1
-told1 = next_told 20 [] none_yet step0 weight0 lines0
+told1 : Told L o0 ENTRY_WORDS [] o1
+told1 = next_told ENTRY_WORDS [] none_yet step0 weight0 lines0
 
 told2 : Told L o0 21 [] o2
 told2 = next_told 1 [] told1 step1 weight1 lines1
@@ -379,7 +380,7 @@ pub told4 : Told L o0 23 [] o4
 told4 = next_told 1 [] told3 step3 weight3 lines3
 
 pub told5 : Told L o0 39 (call_line ∷ []) o5
-told5 = next_told 16 (call_line ∷ []) told4 step4 weight4 lines4
+told5 = next_told CALL_WORDS (call_line ∷ []) told4 step4 weight4 lines4
 
 told6 : Told L o0 50 (call_line ∷ ret_line ∷ []) o6
 told6 = next_told 11 (ret_line ∷ []) told5 step5 weight5 lines5

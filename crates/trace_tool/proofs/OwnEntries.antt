@@ -33,8 +33,8 @@ use Rattle.trusted_border.specs.declared.events.Event.{Event}
 use Rattle.trusted_border.specs.declared.events.Event.TheVariants.{Entered, Left}
 use Rattle.trusted_border.specs.Layout.{number_of, has_entry_at}
 use Rattle.trusted_border.specs.Reaches.{entry_number, closure_owner, back_of}
-use Rattle.overlay_machine.specs.declared.notes.Note.{Note}
-use Rattle.overlay_machine.specs.declared.notes.Note.TheVariants.{Nothing, Calls, Returns, Jumps}
+use Rattle.overlay_machine.specs.declared.notes.StepNote.{StepNote}
+use Rattle.overlay_machine.specs.declared.notes.StepNote.TheVariants.{Nothing, Calls, Returns, Jumps}
 use Rattle.overlay_machine.specs.Words.{look}
 use Rattle.overlay_machine.specs.State.{OpenFrame, OState}
 use Rattle.overlay_machine.specs.Events.{owner_now, shown_word, called_event}
@@ -94,7 +94,7 @@ jumped_told l q None seal h = by (closure_owner l seal) refl h
         let f = found_is (λ (o : Owner). o.trusted && (o.closure == seal)) l.owners p e in
         entered_told l q p f.0 (and_parts p.trusted (p.closure == seal) f.1).0 x
 
-noted_told : (l : Layout) (q : OState) (n : Note) → IsEntered (event_after l n q) → Told l q
+noted_told : (l : Layout) (q : OState) (n : StepNote) → IsEntered (event_after l n q) → Told l q
 noted_told l q Nothing h = absurd (let bad = h.3 in cc)
 noted_told l q Calls h = absurd (called_no (is_some (owner_now l q)) q.frames h)
 noted_told l q (Returns t f) h = absurd (let bad = h.3 in cc)

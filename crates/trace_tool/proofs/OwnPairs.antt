@@ -26,7 +26,7 @@ use Rattle.overlay_machine.specs.Link.{Link}
 use Rattle.overlay_machine.specs.Linked.{Linked}
 use Rattle.overlay_machine.specs.Safe.{IsSafe, IsMet}
 use Rattle.overlay_machine.proofs.Offers.{foreign}
-use Rattle.trace_tool.specs.declared.pairs.Pair.TheVariants.{Nothing}
+use Rattle.trace_tool.specs.declared.pairs.PassedPair.TheVariants.{Nothing}
 use Rattle.trace_tool.specs.Pairs.{if_normal, pair_if, pair_of, own_goes, own_pair, PairsAreOwn}
 
 -- ---- words under two seals, and two code halves

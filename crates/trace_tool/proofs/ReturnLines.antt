@@ -12,8 +12,8 @@ use Rattle.trusted_border.specs.Reaches.{entry_number, closure_owner, back_of}
 use Rattle.overlay_machine.specs.declared.cases.Case.{Case}
 use Rattle.overlay_machine.specs.declared.cases.Case.TheVariants.{Call, Entry, Back, Other}
 use Rattle.overlay_machine.specs.declared.frames.Frame.{Frame}
-use Rattle.overlay_machine.specs.declared.notes.Note.{Note}
-use Rattle.overlay_machine.specs.declared.notes.Note.TheVariants.{Nothing, Calls, Returns, Jumps}
+use Rattle.overlay_machine.specs.declared.notes.StepNote.{StepNote}
+use Rattle.overlay_machine.specs.declared.notes.StepNote.TheVariants.{Nothing, Calls, Returns, Jumps}
 use Rattle.overlay_machine.specs.Words.{look}
 use Rattle.overlay_machine.specs.State.{OpenFrame, OState}
 use Rattle.overlay_machine.specs.Step.{case_of}
@@ -59,10 +59,10 @@ no_jump l q (Some part) seal = by (is_some (owner_now l q))
 
 -- ---- which note, and which case
 
-abbrev Noted : Note → Type 0
+abbrev Noted : StepNote → Type 0
 Noted n = (t : Bool) × (f : Frame) × (n ≡ Returns t f)
 
-by_note : (l : Layout) (q : OState) (n : Note) → is_return (event_after l n q) ≡ true → Noted n
+by_note : (l : Layout) (q : OState) (n : StepNote) → is_return (event_after l n q) ≡ true → Noted n
 by_note l q Nothing h = cc
 by_note l q Calls h =
     absurd (let bad : false ≡ true = sym (no_call (is_some (owner_now l q)) q.frames) ∙ h in cc)

@@ -13,9 +13,9 @@ use Rattle.source_events.specs.declared.FeedBack.TheVariants as way
 use Rattle.source_events.specs.declared.FeedPair.{FeedPair}
 use Rattle.source_events.specs.declared.FeedPair.TheVariants as fed
 use Rattle.trace_tool.specs.Layout.{part_name, entry_name, site_of}
-use Rattle.trace_tool.specs.declared.pairs.Pair.{Pair as PairOf}
-use Rattle.trace_tool.specs.declared.pairs.Pair.TheVariants.{Nothing, Bad as BadPair, Out as OutPair}
-use Rattle.trace_tool.specs.declared.pairs.Pair.TheVariants.{Hop as HopPair}
+use Rattle.trace_tool.specs.declared.pairs.PassedPair.{PassedPair as PairOf}
+use Rattle.trace_tool.specs.declared.pairs.PassedPair.TheVariants.{Nothing, Bad as BadPair, Out as OutPair}
+use Rattle.trace_tool.specs.declared.pairs.PassedPair.TheVariants.{Hop as HopPair}
 use Rattle.trace_tool.specs.declared.pairs.Pairs.{Pairs}
 use Rattle.trace_tool.specs.Pairs.{pairs_of, none_paired}
 use Rattle.trace_tool.specs.Views.{View}

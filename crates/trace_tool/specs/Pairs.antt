@@ -25,8 +25,8 @@ use Rattle.overlay_machine.specs.Linked.{Linked}
 use Rattle.overlay_machine.specs.Safe.{IsSafe}
 use Rattle.overlay_machine.specs.Invariant.{Invariant}
 use Rattle.overlay_machine.specs.Events.{step_event}
-use Rattle.trace_tool.specs.declared.pairs.Pair.{Pair}
-use Rattle.trace_tool.specs.declared.pairs.Pair.TheVariants.{Nothing, Bad, Out, Hop}
+use Rattle.trace_tool.specs.declared.pairs.PassedPair.{PassedPair}
+use Rattle.trace_tool.specs.declared.pairs.PassedPair.TheVariants.{Nothing, Bad, Out, Hop}
 use Rattle.trace_tool.specs.declared.pairs.Pairs.{Pairs}
 use Rattle.trace_tool.specs.Views.{View, flat_view}
 
@@ -40,20 +40,20 @@ abbrev pub if_normal : Option Opened → Option Opened
 if_normal None = None
 if_normal (Some k) = if content_linear k.content then None else Some k
 
-abbrev pub pair_to : Back → Pair
+abbrev pub pair_to : Back → PassedPair
 pair_to (HopBack part k) = Hop part k
 pair_to _ = Out
 
 -- under the closure seal of a trusted part, or under any other
-abbrev pub pair_under : Layout → Opened → Pair
+abbrev pub pair_under : Layout → Opened → PassedPair
 pair_under l code = pair_to (hop_in (closure_owner l code.seal) code.content)
 
-abbrev pub pair_if : Bool → Layout → Option Opened → Option Opened → Pair
+abbrev pub pair_if : Bool → Layout → Option Opened → Option Opened → PassedPair
 pair_if b l (Some code) (Some half) = if b then pair_under l code else Bad
 pair_if b l _ _ = Nothing
 
 -- what an `xjmp` of two words would do, where both are sealed words that aren't linear
-abbrev pub pair_of : Layout → Word → Word → Pair
+abbrev pub pair_of : Layout → Word → Word → PassedPair
 pair_of l w v = pair_if (plan_goes (jump_plan w v)) l (if_normal (opened_of w)) (if_normal (opened_of v))
 
 -- of each argument register and the next one
@@ -64,7 +64,7 @@ pairs_of l v = record {
   p2 = pair_of l (v.reg A2) (v.reg A3);
 }
 
-abbrev pub is_nothing : Pair → Bool
+abbrev pub is_nothing : PassedPair → Bool
 is_nothing Nothing = true
 is_nothing _ = false
 
@@ -84,7 +84,7 @@ own_goes l o (Plain w) (Plain v) = plan_goes (jump_plan w v)
 own_goes l o w v = has_gone (return_by l w v Rdata o.frames o)
 
 -- a RetCode counts as a sealed word with normal content, and a RetData as one with linear content
-abbrev pub own_pair : Layout → OState → OWord → OWord → Pair
+abbrev pub own_pair : Layout → OState → OWord → OWord → PassedPair
 own_pair l o w v =
     pair_if (own_goes l o w v) l (if_normal (opened_of (look w))) (if_normal (opened_of (look v)))
 

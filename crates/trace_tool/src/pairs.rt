@@ -13,7 +13,7 @@ use trusted_border::Back;
 
 /// Of an argument register and the next one.
 #[derive(Clone, Copy)]
-pub enum Pair {
+pub enum PassedPair {
     /// One of the two isn't a sealed word, or is linear.
     Nothing,
     /// It would fail.
@@ -28,9 +28,9 @@ pub enum Pair {
 /// Of the four argument registers.
 #[derive(Clone, Copy)]
 pub struct Pairs {
-    pub p0: Pair,
-    pub p1: Pair,
-    pub p2: Pair,
+    pub p0: PassedPair,
+    pub p1: PassedPair,
+    pub p2: PassedPair,
 }
 
 fn is_linear(content: Content) -> bool
@@ -43,34 +43,34 @@ fn is_linear(content: Content) -> bool
 }
 
 // Where an `xjmp` under this code half goes, by its seal.
-fn pair_under(start: &Start, code: Opened) -> Pair
+fn pair_under(start: &Start, code: Opened) -> PassedPair
     requires { ContentInOrder code.content }
     ensures { result ≡ pair_under (layout start.now) code }
 {
     match hop_in(start, code) {
-        Back::Hop(part, entry) => Pair::Hop(part, entry),
-        _ => Pair::Out,
+        Back::Hop(part, entry) => PassedPair::Hop(part, entry),
+        _ => PassedPair::Out,
     }
 }
 
 // What an `xjmp` of two registers would do.
-fn pair_of<V: Shown>(start: &Start, view: &V, r1: Reg, r2: Reg) -> Pair
+fn pair_of<V: Shown>(start: &Start, view: &V, r1: Reg, r2: Reg) -> PassedPair
     ensures { let v = V.view view.now in
         result ≡ pair_of (layout start.now) (v.reg r1) (v.reg r2) }
 {
     let Some(code) = view.opened(r1) else {
-        return Pair::Nothing;
+        return PassedPair::Nothing;
     };
     let Some(half) = view.opened(r2) else {
-        return Pair::Nothing;
+        return PassedPair::Nothing;
     };
     if is_linear(code.content) || is_linear(half.content) {
-        return Pair::Nothing;
+        return PassedPair::Nothing;
     }
     if goes(code, half) {
         pair_under(start, code)
     } else {
-        Pair::Bad
+        PassedPair::Bad
     }
 }
 
@@ -85,11 +85,11 @@ pub(crate) fn pairs_of<V: Shown>(start: &Start, view: &V) -> Pairs
     }
 }
 
-impl Pair {
+impl PassedPair {
     fn is_nothing(self) -> bool
         ensures { result ≡ is_nothing self }
     {
-        matches!(self, Pair::Nothing)
+        matches!(self, PassedPair::Nothing)
     }
 }
 

@@ -14,7 +14,7 @@ ghost use Rattle.trace_tool.specs.Texts.{field, args_text, place_text, head_text
 ghost use Rattle.trace_tool.specs.Texts.{words_pieces, line_pieces, lines_pieces};
 
 use crate::find::{entry_name, part_name, site_of};
-use crate::pairs::{Pair, Pairs, pairs_of};
+use crate::pairs::{Pairs, PassedPair, pairs_of};
 use crate::view::Shown;
 use arrayvec::ArrayVec;
 use component_linker::Start;
@@ -30,7 +30,7 @@ type Head = ArrayVec<u8, ROOM>;
 
 // What a line tells of a call: whether the code on its other side is trusted, its site, and its frame.
 #[derive(Clone, Copy)]
-struct Call {
+struct Bracket {
     inward: bool,
     site: u32,
     base: u32,
@@ -90,7 +90,7 @@ fn push_args<V: Shown>(head: &mut Head, view: &V)
 
 // Appends DIR, PART, SITE, BASE and END.
 #[tactic(auto, unfolding(crate::specs::Texts::place_text))]
-fn push_place(head: &mut Head, start: &Start, call: Call)
+fn push_place(head: &mut Head, start: &Start, call: Bracket)
     requires { array_vec_len head.old + 68 ≤ ROOM }
     ensures bytes { let l = layout start.now in let s = site_of l call.site in
         head.new.items
@@ -136,16 +136,16 @@ fn push_back(head: &mut Head, start: &Start, back: Back)
 }
 
 // Appends what an `xjmp` of an argument register and the next one would do.
-fn push_pair(head: &mut Head, start: &Start, pair: Pair)
+fn push_pair(head: &mut Head, start: &Start, pair: PassedPair)
     requires { array_vec_len head.old + 70 ≤ ROOM }
     ensures bytes { head.new.items ≡ head.old.items ++ pair_text (feed_pair (layout start.now) pair) }
     ensures len { array_vec_len head.new ≤ array_vec_len head.old + 70 }
 {
     match pair {
-        Pair::Nothing => push(head, b"none"),
-        Pair::Bad => push(head, b"bad"),
-        Pair::Out => push(head, b"out"),
-        Pair::Hop(part, entry) => {
+        PassedPair::Nothing => push(head, b"none"),
+        PassedPair::Bad => push(head, b"bad"),
+        PassedPair::Out => push(head, b"out"),
+        PassedPair::Hop(part, entry) => {
             push(head, b"hop:");
             push(head, part_name(start, part));
             push(head, b":");
@@ -211,7 +211,7 @@ fn write_rest<V: Shown, S: Sink>(view: &V, from: u64, count: u64, out: &mut S) -
 }
 
 // The head of the line of a call.
-fn call_head<V: Shown>(start: &Start, view: &V, call: Call) -> Head
+fn call_head<V: Shown>(start: &Start, view: &V, call: Bracket) -> Head
     ensures bytes { let event = Event.Called call.inward call.site call.base call.end in
         result.items ≡ head_text (line_of (layout start.now) (V.view view.now) event) }
     ensures some { 0 < length result.items }
@@ -225,7 +225,7 @@ fn call_head<V: Shown>(start: &Start, view: &V, call: Call) -> Head
 }
 
 // The head of the line of a return.
-fn ret_head<V: Shown>(start: &Start, view: &V, call: Call) -> Head
+fn ret_head<V: Shown>(start: &Start, view: &V, call: Bracket) -> Head
     ensures bytes { let event = Event.Returned call.inward call.site call.base call.end in
         result.items ≡ head_text (line_of (layout start.now) (V.view view.now) event) }
     ensures some { 0 < length result.items }
@@ -242,7 +242,7 @@ fn ret_head<V: Shown>(start: &Start, view: &V, call: Call) -> Head
 fn write_call<V: Shown, S: Sink>(
     start: &Start,
     view: &V,
-    call: Call,
+    call: Bracket,
     out: &mut S,
 ) -> Result<(), Failed>
     ensures { let event = Event.Called call.inward call.site call.base call.end in
@@ -259,7 +259,7 @@ fn write_call<V: Shown, S: Sink>(
 fn write_ret<V: Shown, S: Sink>(
     start: &Start,
     view: &V,
-    call: Call,
+    call: Bracket,
     out: &mut S,
 ) -> Result<(), Failed>
     ensures { let event = Event.Returned call.inward call.site call.base call.end in
@@ -334,7 +334,7 @@ fn write_event<V: Shown, S: Sink>(
             base,
             end,
         } => {
-            let call = Call {
+            let call = Bracket {
                 inward,
                 site,
                 base,
@@ -348,7 +348,7 @@ fn write_event<V: Shown, S: Sink>(
             base,
             end,
         } => {
-            let call = Call {
+            let call = Bracket {
                 inward,
                 site,
                 base,

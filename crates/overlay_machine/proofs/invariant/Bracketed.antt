@@ -38,7 +38,7 @@ use Rattle.overlay_machine.specs.declared.words.OWord.{OWord}
 use Rattle.overlay_machine.specs.declared.words.OWord.TheVariants.{Plain}
 use Rattle.overlay_machine.specs.declared.cases.Case.{Case}
 use Rattle.overlay_machine.specs.declared.cases.Case.TheVariants.{Call, Entry, Back, Other}
-use Rattle.overlay_machine.specs.declared.notes.Note.TheVariants.{Calls}
+use Rattle.overlay_machine.specs.declared.notes.StepNote.TheVariants.{Calls}
 use Rattle.overlay_machine.specs.Words.{look, is_plain}
 use Rattle.overlay_machine.specs.State.{OpenFrame, OState, Cells, framed, word_of}
 use Rattle.overlay_machine.specs.Step.{goes, case_of, step_by, overlay_step, weight_of, other_step, new_frame}

@@ -1,4 +1,5 @@
 -- The invariant is kept by an entry.
+use Rattle.call_sequence.specs.declared.TheConstants.{ENTRY_WORDS}
 use Rattle.std.proofs.Common.{◌≡◌, ◌≢◌, inl, inr, ℕ, ◌+◌, pos, Bool, true, false, List, Option, Some, None}
 use Rattle.std.proofs.Common.{refl, sym, ap, ◌∙◌, subst, arith}
 use Rattle.cap_words.specs.declared.Word.{Word}
@@ -89,7 +90,7 @@ module _ (g : Link) (linked : Linked g) (o : OState) (t : State Word) (inv : Inv
   -- the registers after an entry at an address
   abbrev pub after : ℕ → CapFields → CapFields → Regs OWord
   after a p c = record o.maps.regs {
-    pc = Plain (Mem (record p { addr = pos (a + 20) }));
+    pc = Plain (Mem (record p { addr = pos (a + ENTRY_WORDS) }));
     stk = Plain (Mem (record c { addr = pos c.end }));
     t1 = zero_word Plain;
     t2 = zero_word Plain;
@@ -143,13 +144,13 @@ module _ (g : Link) (linked : Linked g) (o : OState) (t : State Word) (inv : Inv
       ap (λ x. Mem (record x { addr = pos c.end })) own.1
       ∙ ap (λ b. Mem (record { perm = Rw; lin = Linear; base = b; end = c.end; addr = pos c.end }))
       (sym sb) in
-      let far : a + 20 ≡ p.component.code_base + (off + 20) = omega (arith, ea) in
+      let far : a + ENTRY_WORDS ≡ p.component.code_base + (off + ENTRY_WORDS) = omega (arith, ea) in
       let fits = clean_fits g linked fs p ip (after a (code_at (ranges_of p) off) c) c.end (pos c.end)
       (any Dat refl).0 stk (own_up g linked fs p ip c cap base) (any Dat refl).1 refl refl safe in
       let part = linked.parts p ip.0 in
       subst (λ x. Stand g x) (sym k.2) (record {
-        pc = at_row p (off + 20)
-            ip (stands_clean g linked fs p ip (after a (code_at (ranges_of p) off) c) (off + 20)
+        pc = at_row p (off + ENTRY_WORDS)
+            ip (stands_clean g linked fs p ip (after a (code_at (ranges_of p) off) c) (off + ENTRY_WORDS)
             (entry_flows p.component part.limits (part.flow ip.1) off en)
             (ap (λ y. Mem (record (code_at (ranges_of p) 0) { addr = pos y })) far) fits);
         there = inv.there;

@@ -13,6 +13,7 @@ use Rattle.lcm_machine.specs.Row.{Outcome, went, halted, failed, step_of}
 use Rattle.lcm_machine.specs.Runs.{run_of, code_cap}
 use Rattle.lcm_machine.specs.Touched.{Untouched}
 use Rattle.lcm_machine.proofs.Offers.{untouched_then}
+use Rattle.call_sequence.specs.declared.TheConstants.{CALL_WORDS, ENTRY_WORDS}
 use Rattle.call_sequence.specs.SequenceRuns.{stack_cap, IsOutsideRange}
 use Rattle.flow_check.specs.Holds.{code_at}
 use Rattle.trusted_border.specs.declared.layout.Layout.{Layout}
@@ -122,14 +123,14 @@ module _ (g : Link) (linked : Linked g) where
           let at : address x.cap.addr ≡ b.0 + 1 = ap address b.1 in
           let le : b.0 + 1 ≤ r.end =
           (let f = ap (λ y. y.end) c in let y = x.within in omega (arith, at, f, y)) in
-          let n : (if is_ret_code o.maps.regs.c1 then 17 else 16) ≡ 16 =
-          ap (λ y. if y then 17 else 16) (no_ret_code o.maps.regs.c1 x.plain1) in
-          untouched_by a (weight_by o.maps (Call i)) 16 t n
+          let n : (if is_ret_code o.maps.regs.c1 then CALL_WORDS + 1 else CALL_WORDS) ≡ CALL_WORDS =
+          ap (λ y. if y then CALL_WORDS + 1 else CALL_WORDS) (no_ret_code o.maps.regs.c1 x.plain1) in
+          untouched_by a (weight_by o.maps (Call i)) CALL_WORDS t n
           (call_quiet l o t m k a here.0 here.1 w fa here.2 i r b.0 to b.2 le u
-          (goes_by (weight_by o.maps (Call i)) 16 t u n ran))
+          (goes_by (weight_by o.maps (Call i)) CALL_WORDS t u n ran))
 
       entry_by : (at : ℕ) → View g o.frames o.maps (Entry at) → (r : AtEntry l at o)
-          → step_by l (Entry at) o ≡ goes q → Untouched (λ w. w) (λ w. w) a 20 t
+          → step_by l (Entry at) o ≡ goes q → Untouched (λ w. w) (λ w. w) a ENTRY_WORDS t
       entry_by at (at_entry p off ip ea en st) r e =
           let n = entered g linked o t inv q at (code_cap r.base r.end at) r.pc e in
           let s : Mem (code_cap r.base r.end at) ≡ Mem (code_at (ranges_of p) off) = sym r.pc ∙ st.at_pc in

@@ -24,6 +24,7 @@ use Rattle.lcm_machine.specs.Cells.{cell}
 use Rattle.lcm_machine.specs.Table.{is_pc, target}
 use Rattle.lcm_machine.specs.Regions.{IsLinearAt}
 use Rattle.lcm_machine.specs.Row.{faces, cell_faces, fetch, Fetched, none, some}
+use Rattle.call_sequence.specs.declared.TheConstants.{CALL_WORDS}
 use Rattle.call_sequence.specs.Sequences.{call_code, return_code, entry_code}
 use Rattle.call_sequence.specs.Standing.{CodeStands}
 use Rattle.call_sequence.specs.SequenceRuns.{stack_cap, FailsAt}
@@ -166,8 +167,10 @@ module _ (g : Link) (linked : Linked g) where
       let sb = linked.stack_bases p ip in
       let call : CodeStands c.code off (call_code st.stands.literal off index) =
       subst (λ k. CodeStands c.code k (call_code st.stands.literal k index)) at st.stands.call in
-      let back : CodeStands c.code (off + 16) (return_code st.stands.fail (off + 16) c.stack_base) =
-      subst (λ k. CodeStands c.code (k + 16) (return_code st.stands.fail (k + 16) c.stack_base))
+      let back : CodeStands c.code (off + CALL_WORDS)
+      (return_code st.stands.fail (off + CALL_WORDS) c.stack_base) =
+      subst (λ k. CodeStands c.code (k + CALL_WORDS)
+      (return_code st.stands.fail (k + CALL_WORDS) c.stack_base))
       at st.stands.back in
       record {
         call = record {
@@ -189,12 +192,13 @@ module _ (g : Link) (linked : Linked g) where
           small_seal = st.seal_small;
         };
         back = record {
-          offset = off + 16;
+          offset = off + CALL_WORDS;
           fail = st.stands.fail;
           at_is = omega (arith, bi, ai);
-          code = stands p m code (s.at + 16) (off + 16) (omega (arith, ai))
-              (return_code st.stands.fail (off + 16) g.layout.stack.base)
-              (subst (λ b. CodeStands c.code (off + 16) (return_code st.stands.fail (off + 16) b)) sb back);
+          code = stands p m code (s.at + CALL_WORDS) (off + CALL_WORDS) (omega (arith, ai))
+              (return_code st.stands.fail (off + CALL_WORDS) g.layout.stack.base)
+              (subst (λ b. CodeStands c.code (off + CALL_WORDS)
+              (return_code st.stands.fail (off + CALL_WORDS) b)) sb back);
           ends = omega (arith, ai, ei, ins, len);
           small = (let k = code_small g linked p ip in omega (arith, ei, k));
           fails = rw (bi, ei) (fails_at p m st.stands.fail ip code st.stands.fail_is);

@@ -1,4 +1,5 @@
 -- The invariant is kept by a return that succeeds.
+use Rattle.call_sequence.specs.declared.TheConstants.{SITE_WORDS}
 use Rattle.std.proofs.Common.{◌≡◌, ◌≢◌, ◌⊎◌, inl, inr, ℕ, suc, ◌+◌, ◌-◌, ◌<◌, ◌≤◌, pos, Bool, true, false}
 use Rattle.std.proofs.Common.{List, [], ◌∷◌, length, Option, Some, None, refl, sym, ap, ◌∙◌, subst, arith}
 use Rattle.std.proofs.Common.{is_some, eqb-true}
@@ -206,7 +207,7 @@ module _ (g : Link) (linked : Linked g) (o : OState) (t : State Word) (inv : Inv
 
   abbrev after : Regs OWord
   after = record zeroed {
-    pc = Plain (Mem (code_cap x.site.base x.site.end (x.site.at + 26)));
+    pc = Plain (Mem (code_cap x.site.base x.site.end (x.site.at + SITE_WORDS)));
     stk = Plain (Mem (record x.cap { end = F.end; addr = pos F.base }));
     dat = first_word F.words;
     t1 = zero_word Plain;
@@ -269,7 +270,7 @@ module _ (g : Link) (linked : Linked g) (o : OState) (t : State Word) (inv : Inv
   first_is : first_word F.words ≡ saved
   first_is = ap first_word words_are
 
-  stands_after : StandsAt g gs fit.part (off + 26) after
+  stands_after : StandsAt g gs fit.part (off + SITE_WORDS) after
   stands_after =
       let st = fit.site in
       let ins = st.inside in
@@ -279,9 +280,9 @@ module _ (g : Link) (linked : Linked g) (o : OState) (t : State Word) (inv : Inv
       off fit.there st.site fit.row).1 in
       let bi : x.site.base ≡ (ranges_of fit.part).code_base = ap (λ y. y.base) (sym same_site) ∙ st.base_is in
       let ei : x.site.end ≡ (ranges_of fit.part).code_last = ap (λ y. y.end) (sym same_site) ∙ st.end_is in
-      let far : x.site.at + 26 ≡ (ranges_of fit.part).code_base + (off + 26) =
+      let far : x.site.at + SITE_WORDS ≡ (ranges_of fit.part).code_base + (off + SITE_WORDS) =
       (let a = st.at_is in let b = ap (λ y. y.at) same_site in omega (arith, a, b)) in
-      stands_clean g linked gs fit.part fit.trusted after (off + 26)
+      stands_clean g linked gs fit.part fit.trusted after (off + SITE_WORDS)
       leads (ap Mem (code_cap_is _ _ _ _ _ _ bi ei far))
       (clean_fits g linked gs fit.part fit.trusted after F.end (pos F.base)
       fit.to stk_is up (ap look first_is) refl refl safe_after)
@@ -387,7 +388,7 @@ module _ (g : Link) (linked : Linked g) (o : OState) (t : State Word) (inv : Inv
 
   pub return_kept : Stand g q
   return_kept = subst (λ y. Stand g y) (sym x.result) (record {
-    pc = at_row fit.part (off + 26) fit.trusted stands_after;
+    pc = at_row fit.part (off + SITE_WORDS) fit.trusted stands_after;
     there = there_after;
     code = λ p ip n w e. cell_out (p.component.code_base + n)
         (code_out p n ip (slice_get_within p.component.code n w e)) ∙ inv.code p ip n w e;

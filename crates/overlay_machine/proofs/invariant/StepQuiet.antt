@@ -28,6 +28,7 @@ use Rattle.lcm_machine.specs.Runs.{run_of, code_cap}
 use Rattle.lcm_machine.specs.Touched.{Touches, Untouched}
 use Rattle.lcm_machine.proofs.Offers.{fetch_commutes, quiet, lacking, lacks, untouched_then, touched_by}
 use Rattle.lcm_machine.proofs.Offers.{after_each}
+use Rattle.call_sequence.specs.declared.TheConstants.{CALL_WORDS, RETURN_WORDS, ENTRY_WORDS}
 use Rattle.call_sequence.specs.SequenceRuns.{stack_cap, IsOutsideRange, at_xjmp}
 use Rattle.call_sequence.proofs.Offers.{call_jumps, entry_runs, return_runs}
 use Rattle.trusted_border.specs.declared.layout.Layout.{Layout}
@@ -112,7 +113,7 @@ module _ (l : Layout) (o : OState) (t : State Word) (m : IsFlat l o t) (k : Look
 
   module _ (i : ℕ) (at_site : AtSite l i o) (b : ℕ) (cursor : at_site.to ≡ pos (b + 1))
       (low : l.stack.base ≤ b) (high : b + 1 ≤ at_site.end) (u : State Word)
-      (ran : run_of id id 16 t ≡ went u) where
+      (ran : run_of id id CALL_WORDS t ≡ went u) where
     abbrev site : SiteCode
     site = at_site.site
 
@@ -131,8 +132,8 @@ module _ (l : Layout) (o : OState) (t : State Word) (m : IsFlat l o t) (k : Look
     less = lacking a t
 
     -- the same instructions without the cell
-    less_row : run_of id id 16 less ≡ row id id (Xjmp C1 C2)
-        (Mem (code_cap site.base site.end (site.at + 16)))
+    less_row : run_of id id CALL_WORDS less ≡ row id id (Xjmp C1 C2)
+        (Mem (code_cap site.base site.end (site.at + CALL_WORDS)))
         (at_xjmp id less site.base site.end site.at site.seal l.stack.base at_site.end b)
     less_row =
         let e = at_site.in_stack in
@@ -151,17 +152,17 @@ module _ (l : Layout) (o : OState) (t : State Word) (m : IsFlat l o t) (k : Look
         _ m (some_of (cell o.maps.cells (b + 1)) (Plain (Int (pos 0)))
         (at_site.owned (b + 1) (omega (arith, low)) high)))
 
-    pub call_quiet : Untouched id id a 16 t
+    pub call_quiet : Untouched id id a CALL_WORDS t
     call_quiet =
         let v = xjmp_same (at_xjmp id t site.base site.end site.at site.seal l.stack.base at_site.end b)
-        u (Mem (code_cap site.base site.end (site.at + 16))) (set_cell less.cells (b + 1) t.regs.dat)
+        u (Mem (code_cap site.base site.end (site.at + CALL_WORDS))) (set_cell less.cells (b + 1) t.regs.dat)
         (sym (plain_row l i o t at_site m k b cursor low high) ∙ ran) in
-        quiet id id (λ x. refl) a 16 less t v.0 (lacks a t) (less_row ∙ v.1)
+        quiet id id (λ x. refl) a CALL_WORDS less t v.0 (lacks a t) (less_row ∙ v.1)
 
   -- ---- the twenty words of an entry
 
   pub entry_quiet : (at : ℕ) (at_entry : AtEntry l at o) (c : CapFields) → own_stack l o.maps ≡ Some c
-      → IsOutsideRange a at_entry.base at_entry.end → Untouched id id a 20 t
+      → IsOutsideRange a at_entry.base at_entry.end → Untouched id id a ENTRY_WORDS t
   unfolding own_stack faces
   entry_quiet at at_entry c e out =
       let f = face_of_own l (face_of (look o.maps.regs.stk)) c e in
@@ -170,7 +171,7 @@ module _ (l : Layout) (o : OState) (t : State Word) (m : IsFlat l o t) (k : Look
       let order : FaceInOrder (Memory c) = rw f.0 at at_entry.in_order in
       let lo = order.0 in
       let base_is = p.2 in
-      quiet id id (λ x. refl) a 20 (lacking a t) t _ (lacks a t)
+      quiet id id (λ x. refl) a ENTRY_WORDS (lacking a t) t _ (lacks a t)
       (entry_runs id id (λ x. refl) (lacking a t) at_entry.base at_entry.end at l.stack.base c
       (entry_lacking a t at_entry.base at_entry.end out at l.stack.base
       (HasEntry-flat l o t m k at_entry.base at_entry.end at l.stack.base at_entry.entry))
@@ -202,7 +203,11 @@ module _ (l : Layout) (o : OState) (t : State Word) (m : IsFlat l o t) (k : Look
       eg = ap (λ y. frame_of y F.call) x.frames_are ∙ frame_of-newest F x.older
 
       ex : opened_of (flat l o.frames (reg o.maps.regs r1)) ≡ Some
-          (record { seal = x.site.seal; content = MemC (code_cap x.site.base x.site.end (x.site.at + 16)) })
+          (record {
+            seal = x.site.seal;
+            content = MemC
+                (code_cap x.site.base x.site.end (x.site.at + CALL_WORDS));
+          })
       ex = code_some l r1 r2 o t rd m k F.site x.site x.code_is x.site_is
 
       flat_is : flat l o.frames (reg o.maps.regs r2)
@@ -232,13 +237,13 @@ module _ (l : Layout) (o : OState) (t : State Word) (m : IsFlat l o t) (k : Look
           let od = sd.order in
           let top = sd.in_stack in
           let sm = rd.small_stack in
-          untouched_then id id a 1 10 t u back_first jumped
-          (quiet id id (λ y. refl) a 10 (lacking a u) u _ (lacks a u)
-          (return_runs id id (λ y. refl) (lacking a u) x.site.base x.site.end (x.site.at + 16)
+          untouched_then id id a 1 RETURN_WORDS t u back_first jumped
+          (quiet id id (λ y. refl) a RETURN_WORDS (lacking a u) u _ (lacks a u)
+          (return_runs id id (λ y. refl) (lacking a u) x.site.base x.site.end (x.site.at + CALL_WORDS)
           l.stack.base c.end F.base F.end c.addr sd.first
-          (return_lacking a u x.site.base x.site.end (its.apart a low_a high_a) (x.site.at + 16)
+          (return_lacking a u x.site.base x.site.end (its.apart a low_a high_a) (x.site.at + CALL_WORDS)
           l.stack.base
-          (HasReturn-flat l o t m k x.site.base x.site.end (x.site.at + 16) l.stack.base its.back))
+          (HasReturn-flat l o t m k x.site.base x.site.end (x.site.at + CALL_WORDS) l.stack.base its.back))
           refl (stk_kept l r1 r2 o t rd m k F.site x.code_is x.site x.site_is ex F.call x.data_is F eg
           x.site_is (ap opened_of flat_is) flat_is refl c x.own ∙ ap Mem f) refl
           x.joins (omega (arith, ab)) od (omega (arith, top, sm))

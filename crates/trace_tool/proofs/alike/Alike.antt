@@ -1,4 +1,5 @@
 -- From the invariant: what each step writes, and so what a run does.
+use Rattle.call_sequence.specs.declared.TheConstants.{CALL_WORDS, RETURN_WORDS, ENTRY_WORDS}
 use Rattle.std.proofs.Common.{◌≡◌, ℕ, zero, suc, ◌+◌, ◌-◌, ◌<◌, ◌≤◌, Bool, true, List, [], ◌++◌, Some}
 use Rattle.std.proofs.Common.{refl, sym, ap, ◌∙◌, arith, subst}
 use Rattle.std.specs.Prelude.{if◌then◌else◌}
@@ -72,10 +73,11 @@ module _ (g : Link) (linked : Linked g) where
       (omega (arith, ins)) (omega arith) a (omega (arith, at, lo)) (omega (arith, at, hi))
 
   entry_free : (p : PartSeen) (o a : ℕ) → IsTrusted g p → a ≡ p.component.code_base + o
-      → begins_entry p.component o ≡ true → NoEnd l a (a + 20)
+      → begins_entry p.component o ≡ true → NoEnd l a (a + ENTRY_WORDS)
   entry_free p o a ip ea e =
       let ins = (linked.entries p o ip e).inside in
-      λ q lo hi. no_end g linked p o 20 ip (entry_outer g linked p o ip e) (omega (arith, ins)) (omega arith)
+      λ q lo hi. no_end g linked p o ENTRY_WORDS ip (entry_outer g linked p o ip e) (omega (arith, ins))
+      (omega arith)
       q (omega (arith, ea, lo)) (omega (arith, ea, hi))
 
   module _ (o : OState) (t : State Word) (inv : Invariant g o t) where
@@ -93,26 +95,30 @@ module _ (g : Link) (linked : Linked g) where
     call_muted : (i : ℕ) (a : AtSite l i o) → Muted (Call i)
     call_muted i a = by_word o.maps.regs.c1 refl
       where
-        free : NoEnd l a.site.at (a.site.at + 15)
+        free : NoEnd l a.site.at (a.site.at + (CALL_WORDS - 1))
         free = λ q lo hi. site_free i a.site a.is_site q lo (omega (arith, hi))
 
         by_word : (w : OWord) → o.maps.regs.c1 ≡ w → Muted (Call i)
         by_word (Plain w) e = (
-          15,
-          ap (λ y. if is_ret_code y then 17 else 16)
+          (CALL_WORDS - 1),
+          ap (λ y. if is_ret_code y then CALL_WORDS + 1 else CALL_WORDS)
               e,
-          calm_mute l 15 t (whole_calm g linked i o t a m k free),
+          calm_mute l (CALL_WORDS - 1) t (whole_calm g linked i o t a m k free),
         )
         by_word (RetData n) e = (
-          15,
-          ap (λ y. if is_ret_code y then 17 else 16)
+          (CALL_WORDS - 1),
+          ap (λ y. if is_ret_code y then CALL_WORDS + 1 else CALL_WORDS)
               e,
-          calm_mute l 15 t (whole_calm g linked i o t a m k free),
+          calm_mute l (CALL_WORDS - 1) t (whole_calm g linked i o t a m k free),
         )
-        by_word (RetCode j) e =
-            (16, ap (λ y. if is_ret_code y then 17 else 16) e, ret_mute g linked i o t a m k free j e)
+        by_word (RetCode j) e = (
+          CALL_WORDS,
+          ap (λ y. if is_ret_code y then CALL_WORDS + 1 else CALL_WORDS) e,
+          ret_mute g linked i
+              o t a m k free j e,
+        )
 
-    entry_muted : (a : ℕ) → View g o.frames o.maps (Entry a) → AtEntry l a o → Calm l 20 t
+    entry_muted : (a : ℕ) → View g o.frames o.maps (Entry a) → AtEntry l a o → Calm l ENTRY_WORDS t
     entry_muted a (at_entry p off ip ea e at) r =
         entry_calm l t r.base r.end a l.stack.base
         (HasEntry-flat l o t m k r.base r.end a l.stack.base r.entry)
@@ -128,7 +134,7 @@ module _ (g : Link) (linked : Linked g) where
         by_word (RetData n) e = (0, ap (λ y. if is_ret_code y then 11 else 1) e, tt)
         by_word (RetCode j) e = (
             let s = inv.met (R r1) (RetCode j) (ap Some e) in (
-              10,
+              RETURN_WORDS,
               ap (λ y. if is_ret_code y then 11 else 1)
                   e,
               back_mute g linked r1 r2 o t rd m k v j s.0 s.1 (code_some l r1 r2 o t rd m k j s.0 e s.1)
@@ -158,14 +164,15 @@ module _ (g : Link) (linked : Linked g) where
     whole_by : (c : Case) → View g o.frames o.maps c → ReadyFor l o c → Whole c
     whole_by (Call i) v r u q n inward e run mq kq =
         let c = called l i o q e in
-        let z : weight_by o.maps (Call i) ≡ 16 =
-        ap (λ b. if b then 17 else 16) (no_ret_code o.maps.regs.c1 c.plain1) in
+        let z : weight_by o.maps (Call i) ≡ CALL_WORDS =
+        ap (λ b. if b then CALL_WORDS + 1 else CALL_WORDS) (no_ret_code o.maps.regs.c1 c.plain1) in
         let a : AtSite l i o = r in
         ap (lines_of l (at_state t n inward)) z
         ∙ call_whole g linked i o t a m k (λ y lo hi. site_free i a.site a.is_site y lo (omega (arith, hi)))
         u q n inward e (ap (λ w. run_of id id w t) (sym z) ∙ run) mq kq
     whole_by (Entry a) v r u q n inward e run mq kq =
-        mute_lines l 20 20 t n inward (calm_mute l 20 t (entry_muted a v r)) (omega arith)
+        mute_lines l ENTRY_WORDS ENTRY_WORDS t n inward (calm_mute l ENTRY_WORDS t (entry_muted a v r))
+        (omega arith)
     whole_by (Back r1 r2) v r u q n inward e run mq kq =
         let y = returned l r1 r2 o q e in
         let z : weight_by o.maps (Back r1 r2) ≡ 11 = ap (λ w. if is_ret_code w then 11 else 1) y.code_is in

@@ -1,5 +1,6 @@
 -- Where a step is no call and no entry, pc is at no word inside a site; and within a sequence no other site
 -- ends.
+use Rattle.call_sequence.specs.declared.TheConstants.{SITE_WORDS}
 use Rattle.std.proofs.Common.{◌≡◌, ℕ, ◌+◌, ◌-◌, ◌<◌, ◌≤◌, inr, true, List, length, Option, Some, None, refl}
 use Rattle.std.proofs.Common.{sym, ap, ◌∙◌, subst, arith}
 use Rattle.std.specs.Prelude.{option_and_then}
@@ -56,7 +57,7 @@ module _ (g : Link) (linked : Linked g) where
   -- a site's word at an address of a part's code is within that part
   inside_of : (p q : PartSeen) (n : ℕ) (s : SiteCode) (o off a : ℕ) → IsTrusted g p → IsTrusted g q
       → SiteOf q n s → a ≡ s.at + off → a ≡ p.component.code_base + o → o < length p.component.code → 0 < off
-      → off < 26 → Inside p.component o
+      → off < SITE_WORDS → Inside p.component o
   inside_of p q n s o off a ip iq st e ea lt pos_off small =
       let ai = st.at_is in
       let ins = st.inside in
@@ -71,7 +72,7 @@ module _ (g : Link) (linked : Linked g) where
           let ai = st'.at_is in
           record {
             start = st'.offset;
-            size = 26;
+            size = SITE_WORDS;
             seq = inr (st'.site, refl);
             after =
                 omega (arith, ai, w, pos_off);
@@ -79,7 +80,7 @@ module _ (g : Link) (linked : Linked g) where
           }
 
   off_sequence : (p : PartSeen) (o off : ℕ) → IsTrusted g p → o < length p.component.code
-      → (Inside p.component o → ⊥) → 0 < off → off < 26
+      → (Inside p.component o → ⊥) → 0 < off → off < SITE_WORDS
       → site_before g.layout off (p.component.code_base + o) ≡ None
   off_sequence p o off ip lt free pos_off small =
       not_found off (p.component.code_base + o)
@@ -108,7 +109,7 @@ module _ (g : Link) (linked : Linked g) where
           let ai = st'.at_is in
           record {
             start = st'.offset;
-            size = 26;
+            size = SITE_WORDS;
             seq = inr (st'.site, refl);
             after =
                 omega (arith, ai, e, hi, few);
@@ -117,7 +118,7 @@ module _ (g : Link) (linked : Linked g) where
 
   module _ (fs : List OpenFrame) (s : State OWord) (n : Instr) (next : Word)
       (f : fetch (faces look s Pc) (cell_faces look s) ≡ some n next) (goes : n ≡ Fail → ⊥) (off : ℕ)
-      (pos_off : 0 < off) (small : off < 26) where
+      (pos_off : 0 < off) (small : off < SITE_WORDS) where
     abbrev pub Off : Type 0
     Off = site_word g.layout off (faces look s Pc) ≡ None
 

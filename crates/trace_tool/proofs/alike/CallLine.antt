@@ -19,6 +19,7 @@ use Rattle.lcm_machine.specs.Row.{faces, opens, row, step_of, went}
 use Rattle.lcm_machine.specs.Runs.{run_of, Stands, code_cap}
 use Rattle.lcm_machine.specs.Refusals.{HasFailed}
 use Rattle.lcm_machine.proofs.Offers.{failed_more, step_row}
+use Rattle.call_sequence.specs.declared.TheConstants.{CALL_WORDS}
 use Rattle.call_sequence.specs.Sequences.{call_code}
 use Rattle.call_sequence.specs.SequenceRuns.{stack_cap, HasCall}
 use Rattle.call_sequence.proofs.Offers.{call_runs}
@@ -88,7 +89,7 @@ part_there l f h = by_owner (trusted_owner l f) h
 
 module _ (g : Link) (linked : Linked g) (i : ℕ) (o : OState) (t : State Word) (at_site : AtSite g.layout i o)
     (m : IsFlat g.layout o t) (k : Looks g.layout o)
-    (free : NoEnd g.layout at_site.site.at (at_site.site.at + 15)) where
+    (free : NoEnd g.layout at_site.site.at (at_site.site.at + (CALL_WORDS - 1))) where
   abbrev l : Layout
   l = g.layout
 
@@ -98,7 +99,7 @@ module _ (g : Link) (linked : Linked g) (i : ℕ) (o : OState) (t : State Word) 
   has_call : HasCall id t.cells site.base site.end site.at site.seal
   has_call = HasCall-flat l o t m k site.base site.end site.at site.seal (its_site l i o t at_site m k).call
 
-  pub whole_calm : Calm l 15 t
+  pub whole_calm : Calm l (CALL_WORDS - 1) t
   whole_calm =
       let top = at_site.in_stack in
       call_calm l t site.base site.end site.at site.seal has_call
@@ -133,7 +134,7 @@ module _ (g : Link) (linked : Linked g) (i : ℕ) (o : OState) (t : State Word) 
       abbrev pub s15 : State Word
       s15 = t15 l i o t at_site m k b cursor low high
 
-      prepares : run_of id id 15 t ≡ went s15
+      prepares : run_of id id (CALL_WORDS - 1) t ≡ went s15
       prepares =
           let e = at_site.in_stack in
           let d = at_site.small_stack in
@@ -150,13 +151,13 @@ module _ (g : Link) (linked : Linked g) (i : ℕ) (o : OState) (t : State Word) 
           (Plain (Rattle.cap_words.specs.declared.Word.TheVariants.Int (pos 0)))
           (at_site.owned (b + 1) (omega (arith, low)) high)))
 
-      starts : site.base ≤ site.at + 15
+      starts : site.base ≤ site.at + (CALL_WORDS - 1)
       starts = let a = has_call.at_is in omega (arith, a)
 
-      ends : site.at + 15 ≤ site.end
+      ends : site.at + (CALL_WORDS - 1) ≤ site.end
       ends = let a = has_call.ends in omega (arith, a)
 
-      xjmp_stands : Num s15 (site.at + 15) (pos (number_of (Xjmp C1 C2)))
+      xjmp_stands : Num s15 (site.at + (CALL_WORDS - 1)) (pos (number_of (Xjmp C1 C2)))
       unfolding call_code
       xjmp_stands =
           let e = at_site.in_stack in
@@ -167,23 +168,25 @@ module _ (g : Link) (linked : Linked g) (i : ℕ) (o : OState) (t : State Word) 
           t.regs.dat site.base site.end site.at (call_code has_call.literal has_call.offset has_call.number)
           ((its_site l i o t at_site m k).apart (b + 1) (omega (arith, low)) (omega (arith, e, high)))
           (omega (arith, ai)) (omega (arith, en)) has_call.code in
-          let z : site.at + 1 + 1 + 1 + 1 + 1 + 1 + 1 + 1 + 1 + 1 + 1 + 1 + 1 + 1 + 1 ≡ site.at + 15 =
+          let z : site.at + 1 + 1 + 1 + 1 + 1 + 1 + 1 + 1 + 1 + 1 + 1 + 1 + 1 + 1 + 1
+          ≡ site.at + (CALL_WORDS - 1) =
           omega arith in
           subst (λ a. Num s15 a (pos (number_of (Xjmp C1 C2)))) z c.1.1.1.1.1.1.1.1.1.1.1.1.1.1.1.0
 
-      pc15 : s15.regs.pc ≡ Mem (code_cap site.base site.end (site.at + 15))
+      pc15 : s15.regs.pc ≡ Mem (code_cap site.base site.end (site.at + (CALL_WORDS - 1)))
       pc15 = refl
 
       row15 : (u : State Word) → step_of id id s15 ≡ went u
-          → row id id (Xjmp C1 C2) (Mem (code_cap site.base site.end (site.at + 15 + 1))) s15 ≡ went u
+          → row id id (Xjmp C1 C2) (Mem (code_cap site.base site.end (site.at + (CALL_WORDS - 1) + 1))) s15
+          ≡ went u
       row15 u e =
-          sym (step_row id id s15 site.base site.end (site.at + 15) (Xjmp C1 C2)
+          sym (step_row id id s15 site.base site.end (site.at + (CALL_WORDS - 1)) (Xjmp C1 C2)
           pc15 starts ends xjmp_stands tt) ∙ e
 
       abbrev Note15 : Note
       Note15 = Leap
           (record {
-            from = trusted_part l (Memory (code_cap site.base site.end (site.at + 15)));
+            from = trusted_part l (Memory (code_cap site.base site.end (site.at + (CALL_WORDS - 1))));
             call =
                 Some i;
             seal = option_map (λ (z : Opened). z.seal) (opened_of t.regs.c1);
@@ -193,30 +196,33 @@ module _ (g : Link) (linked : Linked g) (i : ℕ) (o : OState) (t : State Word) 
       unfolding noted opens
       noted15 =
           ap (noted_by l s15)
-          (jump_is s15 site.base site.end (site.at + 15) (Xjmp C1 C2) pc15 starts ends xjmp_stands tt)
+          (jump_is s15 site.base site.end (site.at + (CALL_WORDS - 1)) (Xjmp C1 C2) pc15 starts ends
+          xjmp_stands tt)
           ∙ ap (λ f. let n : Note =
           Leap (record {
             from = trusted_part l f;
-            call = site_word l 15 f;
+            call = site_word l (CALL_WORDS - 1) f;
             seal =
                 option_map (λ (z : Opened). z.seal) (opened_of t.regs.c1);
           }) in n)
-          (shown_at s15 site.base site.end (site.at + 15) pc15)
+          (shown_at s15 site.base site.end (site.at + (CALL_WORDS - 1)) pc15)
           ∙ ap (λ c. let n : Note =
           Leap (record {
-            from = trusted_part l (Memory (code_cap site.base site.end (site.at + 15)));
+            from = trusted_part l (Memory (code_cap site.base site.end (site.at + (CALL_WORDS - 1))));
             call =
                 c;
             seal = option_map (λ (z : Opened). z.seal) (opened_of t.regs.c1);
           }) in n)
-          (word_at l 15 (site.at + 15) (Memory (code_cap site.base site.end (site.at + 15))) (Some i)
-          (target_code site.base site.end (site.at + 15) starts ends)
-          (site_there g linked i 15 site at_site.is_site)
-          (trusted_code g linked i site at_site.is_site (site.at + 15)))
+          (word_at l (CALL_WORDS - 1) (site.at + (CALL_WORDS - 1))
+          (Memory (code_cap site.base site.end (site.at + (CALL_WORDS - 1)))) (Some i)
+          (target_code site.base site.end (site.at + (CALL_WORDS - 1)) starts ends)
+          (site_there g linked i (CALL_WORDS - 1) site at_site.is_site)
+          (trusted_code g linked i site at_site.is_site (site.at + (CALL_WORDS - 1))))
 
-      from15 : is_some (trusted_part l (Memory (code_cap site.base site.end (site.at + 15)))) ≡ true
-      from15 = part_there l (Memory (code_cap site.base site.end (site.at + 15)))
-          (trusted_code g linked i site at_site.is_site (site.at + 15))
+      from15 : is_some (trusted_part l (Memory (code_cap site.base site.end (site.at + (CALL_WORDS - 1)))))
+          ≡ true
+      from15 = part_there l (Memory (code_cap site.base site.end (site.at + (CALL_WORDS - 1))))
+          (trusted_code g linked i site at_site.is_site (site.at + (CALL_WORDS - 1)))
 
       event15 : (u : State Word) (q : OState) (inward : Bool) → is_plain o.maps.regs.c1 ≡ true
           → step_of id id s15 ≡ went u → IsFlat l q u
@@ -230,21 +236,21 @@ module _ (g : Link) (linked : Linked g) (i : ℕ) (o : OState) (t : State Word) 
           (ap opened_of (sym (mq.regs Rdata)) ∙ ap opened_of (rdata_stays s15 u _ (row15 u e)))
 
       call_line : (u : State Word) (q : OState) (n : ℕ) (inward : Bool) → is_plain o.maps.regs.c1 ≡ true
-          → run_of id id 16 t ≡ went u → IsFlat l q u
-          → lines_of l (at_state t n inward) 16 ≡ lines_for l (flat_view l q)
+          → run_of id id CALL_WORDS t ≡ went u → IsFlat l q u
+          → lines_of l (at_state t n inward) CALL_WORDS ≡ lines_for l (flat_view l q)
           (Some (CalledEvent (reaches_trusted l (flat_view l q)) i (b + 1) at_site.end))
       call_line u q n inward p e mq =
-          let step : step_of id id s15 ≡ went u = last_step 15 t s15 u prepares e in
-          calm_then l 15 1 t s15 n inward whole_calm prepares
-          ∙ line_flat l q s15 u (n + 15) inward step mq
+          let step : step_of id id s15 ≡ went u = last_step (CALL_WORDS - 1) t s15 u prepares e in
+          calm_then l (CALL_WORDS - 1) 1 t s15 n inward whole_calm prepares
+          ∙ line_flat l q s15 u (n + (CALL_WORDS - 1)) inward step mq
           ∙ ap (λ y. lines_for l (flat_view l q) (event_after l y inward (flat_view l q))) noted15
           ∙ ap (lines_for l (flat_view l q)) (event15 u q inward p step mq)
 
   -- the same, from the overlay's step
   by_cursor : (u : State Word) (q : OState) (n : ℕ) (inward : Bool) (c : Called l i o q)
-      → run_of id id 16 t ≡ went u → IsFlat l q u → Looks l q → (z : ℤ) → at_site.to ≡ z
+      → run_of id id CALL_WORDS t ≡ went u → IsFlat l q u → Looks l q → (z : ℤ) → at_site.to ≡ z
       → c.cap ≡ record (stack_cap l.stack.base at_site.end 0) { addr = z }
-      → lines_of l (at_state t n inward) 16 ≡ lines_for l (flat_view l q)
+      → lines_of l (at_state t n inward) CALL_WORDS ≡ lines_for l (flat_view l q)
       (told_after l (note_by l o (Call i)) q)
   by_cursor u q n inward c e mq kq (negsuc a) z s = let ab = c.above in let bad : address c.cap.addr ≡ 0 =
       ap (λ y. address y.addr) s in absurd (omega (arith, ab, bad))
@@ -270,8 +276,8 @@ module _ (g : Link) (linked : Linked g) (i : ℕ) (o : OState) (t : State Word) 
       (sym (told_calls o.maps.regs.c1 refl c.plain1))
 
   pub call_whole : (u : State Word) (q : OState) (n : ℕ) (inward : Bool) → call_step l i o ≡ goes q
-      → run_of id id 16 t ≡ went u → IsFlat l q u → Looks l q
-      → lines_of l (at_state t n inward) 16 ≡ lines_for l (flat_view l q)
+      → run_of id id CALL_WORDS t ≡ went u → IsFlat l q u → Looks l q
+      → lines_of l (at_state t n inward) CALL_WORDS ≡ lines_for l (flat_view l q)
       (told_after l (note_by l o (Call i)) q)
   call_whole u q n inward h e mq kq =
       let c = called l i o q h in
@@ -318,13 +324,15 @@ module _ (g : Link) (linked : Linked g) (i : ℕ) (o : OState) (t : State Word) 
               tt,
             )
 
-    not_failed : (n d : ℕ) (u : State Word) → HasFailed (run_of id id n t) → n + d ≡ 15
-        → run_of id id 15 t ≡ went u → ⊥
-    not_failed n d u h z e = let f = failed_more id id n d t h in let f2 : HasFailed (run_of id id 15 t) =
+    not_failed : (n d : ℕ) (u : State Word) → HasFailed (run_of id id n t) → n + d ≡ CALL_WORDS - 1
+        → run_of id id (CALL_WORDS - 1) t ≡ went u → ⊥
+    not_failed n d u h z e = let f = failed_more id id n d t h in let f2 : HasFailed
+        (run_of id id (CALL_WORDS - 1) t) =
         subst (λ y. HasFailed (run_of id id y t)) z f in let f3 : HasFailed (went u) =
         subst (λ r. HasFailed r) e f2 in f3
 
-    at_address : (u : State Word) → run_of id id 15 t ≡ went u → (a : ℕ) → at_site.to ≡ pos a → Mute l 1 u
+    at_address : (u : State Word) → run_of id id (CALL_WORDS - 1) t ≡ went u → (a : ℕ) → at_site.to ≡ pos a
+        → Mute l 1 u
     at_address u r a e = elim (cases_lt at_site.end a) as (λ _. Mute l 1 u) [
       | inl past ↦
           absurd (not_failed 1 14 u
@@ -351,10 +359,12 @@ module _ (g : Link) (linked : Linked g) (i : ℕ) (o : OState) (t : State Word) 
       ]
     ]
 
-    by_address : (u : State Word) → run_of id id 15 t ≡ went u → (z : ℤ) → at_site.to ≡ z → Mute l 1 u
+    by_address : (u : State Word) → run_of id id (CALL_WORDS - 1) t ≡ went u → (z : ℤ) → at_site.to ≡ z
+        → Mute l 1 u
     by_address u r (pos a) e = at_address u r a e
     by_address u r (negsuc a) e =
         absurd (not_failed 1 14 u (outside l i o t at_site m k (negsuc a) e refl) refl r)
 
-    pub ret_mute : Mute l 16 t
-    ret_mute = mute_more l 15 1 t (calm_mute l 15 t whole_calm) (λ u r. by_address u r at_site.to refl)
+    pub ret_mute : Mute l CALL_WORDS t
+    ret_mute = mute_more l (CALL_WORDS - 1) 1 t (calm_mute l (CALL_WORDS - 1) t whole_calm)
+        (λ u r. by_address u r at_site.to refl)

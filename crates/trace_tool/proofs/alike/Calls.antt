@@ -1,6 +1,8 @@
 -- The first fifteen words of a call are calm whatever they do.
+use Rattle.std.proofs.Common.{◌-◌}
 use Rattle.std.proofs.Common.{◌≡◌, inl, inr, ℕ, ◌+◌, ◌≤◌, ℤ, pos, negsuc, List, [], ◌∷◌, ◌++◌, Some, refl}
 use Rattle.std.proofs.Common.{sym, ap, ◌∙◌, arith, rules}
+use Rattle.call_sequence.specs.declared.TheConstants.{CALL_WORDS}
 use Rattle.call_sequence.proofs.Offers.{small_operand, near_operand}
 use Rattle.cap_words.specs.declared.Word.{Word}
 use Rattle.cap_words.specs.declared.Word.TheVariants.{Mem}
@@ -123,7 +125,8 @@ module _ (l : Layout) (s : State Word) (base last at seal : ℕ) (h : HasCall id
 
     -- where the store goes to no word of the part
     pub call_calm : (c : CapFields) → s.regs.pc ≡ Mem (code_cap base last at) → s.regs.stk ≡ Mem c
-        → ((q : ℕ) → c.base ≤ q → q ≤ c.end → IsOutsideRange q base last) → NoEnd l at (at + 15) → Calm l 15 s
+        → ((q : ℕ) → c.base ≤ q → q ≤ c.end → IsOutsideRange q base last) → NoEnd l at (at + (CALL_WORDS - 1))
+        → Calm l (CALL_WORDS - 1) s
     unfolding call_code faces
     call_calm c pc stk apart free =
         let ai = h.at_is in

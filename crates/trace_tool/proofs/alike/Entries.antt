@@ -1,5 +1,6 @@
 -- The twenty words of an entry are calm whatever they do.
 use Rattle.std.proofs.Common.{inl, ◌≡◌, ◌≢◌, ℕ, ◌+◌, ◌≤◌, pos, List, [], ◌∷◌, refl, arith, rules}
+use Rattle.call_sequence.specs.declared.TheConstants.{ENTRY_WORDS}
 use Rattle.call_sequence.proofs.Offers.{fits_small, small_operand, near_operand, leads}
 use Rattle.cap_words.specs.declared.TheConstants.{LAST_PLACE}
 use Rattle.cap_words.specs.declared.Word.{Word}
@@ -58,8 +59,8 @@ entry_armed sb h =
     )))))))))))))
 
 module _ (l : Layout) (s : State Word) (base last at sb : ℕ) (h : HasEntry id s.cells base last at sb) where
-  pub entry_calm : s.regs.pc ≡ Mem (code_cap base last at) → sb ≤ LAST_PLACE → NoEnd l at (at + 20)
-      → Calm l 20 s
+  pub entry_calm : s.regs.pc ≡ Mem (code_cap base last at) → sb ≤ LAST_PLACE → NoEnd l at (at + ENTRY_WORDS)
+      → Calm l ENTRY_WORDS s
   unfolding entry_code
   entry_calm pc small free =
       let ai = h.at_is in

@@ -1,4 +1,6 @@
 -- The lines of a step that is a row: an ordinary instruction, an `xjmp` of plain words.
+use Rattle.call_sequence.specs.declared.TheConstants.{CALL_WORDS, SITE_WORDS}
+use Rattle.std.proofs.Common.{◌-◌}
 use Rattle.std.proofs.Common.{◌≡◌, ◌⊎◌, inl, inr, ℕ, ◌<◌, Bool, true, List, Option, Some, None, refl, sym, ap}
 use Rattle.std.proofs.Common.{◌∙◌, arith}
 use Rattle.std.specs.Prelude.{option_map, option_and_then, is_some, if◌then◌else◌}
@@ -106,7 +108,7 @@ module _ (l : Layout) (o : OState) (t : State Word) (m : IsFlat l o t) (k : Look
   -- the event of a row, where no site's word is at pc
   row_event : (free : FramesFree o) (u : State Word) (q : OState) (inward : Bool)
       → case_fetched o.maps (fetch (faces look o.maps Pc) (cell_faces look o.maps)) ≡ Other
-      → ((off : ℕ) → 0 < off → off < 26 → site_word l off (faces look o.maps Pc) ≡ None)
+      → ((off : ℕ) → 0 < off → off < SITE_WORDS → site_word l off (faces look o.maps Pc) ≡ None)
       → step_of id id t ≡ went u → Looks l q
       → event_after l (noted l t) inward (flat_view l q) ≡ told_after l (note_by l o Other) q
   unfolding event_after noted jump_at step_of opens
@@ -140,11 +142,11 @@ module _ (l : Layout) (o : OState) (t : State Word) (m : IsFlat l o t) (k : Look
           let y = xjmp_opens t u r1 r2 next (sym (ap (step_fetched id id t) (got ∙ f)) ∙ e) in
           let seal : opens look o.maps r1 ≡ Some y.0 = sym (opens_same r1 p) ∙ y.1 in
           ap (λ j. event_after l (noted_by l t j) inward (flat_view l q)) (ap jump_in (got ∙ f))
-          ∙ ap (λ pc. leapt_by l (trusted_part l pc) (site_word l 15 pc)
+          ∙ ap (λ pc. leapt_by l (trusted_part l pc) (site_word l (CALL_WORDS - 1) pc)
           (option_map (λ (z : Opened). z.seal) (opens id t r1)) (flat_view l q)) (face_same Pc)
           ∙ ap (λ s. leapt_by l (trusted_part l (faces look o.maps Pc))
           s (option_map (λ (z : Opened). z.seal) (opens id t r1)) (flat_view l q))
-          (off 15 (omega arith) (omega arith))
+          (off (CALL_WORDS - 1) (omega arith) (omega arith))
           ∙ ap (λ w. leapt_by l (trusted_part l (faces look o.maps Pc))
           None (option_map (λ (z : Opened). z.seal) w) (flat_view l q)) y.1
           ∙ leap_same l q kq (trusted_part l (faces look o.maps Pc)) (y.0).seal
@@ -165,7 +167,8 @@ module _ (g : Link) (linked : Linked g) (o : OState) (t : State Word) (m : IsFla
       let w = other_went o q e in
       let f = fetched_row look Plain o.maps w.0 w.1 in
       let step : step_of id id t ≡ went u = sym (run_one id id t) ∙ r in
-      let off : (off : ℕ) → 0 < off → off < 26 → site_word g.layout off (faces look o.maps Pc) ≡ None =
+      let off : (off : ℕ) → 0 < off → off < SITE_WORDS → site_word g.layout off (faces look o.maps Pc)
+      ≡ None =
       λ off lo hi.
       other_apart g linked o.frames o.maps f.0 f.1 f.2
       (λ is. never_fail f.1 o.maps w.0 (ap (λ i. row look Plain i f.1 o.maps) (sym is) ∙ f.3))

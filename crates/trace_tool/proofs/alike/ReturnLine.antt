@@ -23,6 +23,7 @@ use Rattle.lcm_machine.specs.Row.{Outcome, faces, step_of, went}
 use Rattle.lcm_machine.specs.Runs.{and_then, run_of, Stands, code_cap}
 use Rattle.lcm_machine.specs.Mapped.{mapped_or}
 use Rattle.lcm_machine.proofs.Offers.{run_one}
+use Rattle.call_sequence.specs.declared.TheConstants.{CALL_WORDS, RETURN_WORDS, SITE_WORDS}
 use Rattle.call_sequence.specs.Sequences.{return_code}
 use Rattle.call_sequence.specs.SequenceRuns.{stack_cap, HasReturn}
 use Rattle.call_sequence.proofs.Offers.{return_runs}
@@ -77,7 +78,7 @@ part_some l f = by_owner (trusted_owner l f)
 module _ (g : Link) (linked : Linked g) (r1 r2 : Reg) (o : OState) (t : State Word)
     (rd : AtReturn g.layout r1 r2 o) (m : IsFlat g.layout o t) (k : Looks g.layout o)
     (v : View g o.frames o.maps (Back r1 r2)) (q : OState) (y : Returned g.layout r1 r2 o q)
-    (free : NoEnd g.layout (y.site.at + 16) (y.site.at + 25)) where
+    (free : NoEnd g.layout (y.site.at + CALL_WORDS) (y.site.at + (SITE_WORDS - 1))) where
   abbrev l : Layout
   l = g.layout
 
@@ -91,7 +92,10 @@ module _ (g : Link) (linked : Linked g) (r1 r2 : Reg) (o : OState) (t : State Wo
   eg = ap (λ z. frame_of z F.call) y.frames_are ∙ frame_of-newest F y.older
 
   ex : opened_of (flat l o.frames (reg o.maps.regs r1)) ≡ Some
-      (record { seal = y.site.seal; content = MemC (code_cap y.site.base y.site.end (y.site.at + 16)) })
+      (record {
+        seal = y.site.seal;
+        content = MemC (code_cap y.site.base y.site.end (y.site.at + CALL_WORDS));
+      })
   ex = code_some l r1 r2 o t rd m k F.site y.site y.code_is y.site_is
 
   flat_is : flat l o.frames (reg o.maps.regs r2) ≡ Sealed y.site.seal (MemIn (stack_cap F.base F.end F.base))
@@ -125,7 +129,7 @@ module _ (g : Link) (linked : Linked g) (r1 r2 : Reg) (o : OState) (t : State Wo
   stk_u = stk_kept l r1 r2 o t rd m k F.site y.code_is y.site y.site_is ex F.call y.data_is F eg y.site_is
       (ap opened_of flat_is) flat_is refl y.cap y.own ∙ ap Mem ((own_is l o.maps y.cap y.own).1)
 
-  code_u : HasReturn id u.cells y.site.base y.site.end (y.site.at + 16) l.stack.base
+  code_u : HasReturn id u.cells y.site.base y.site.end (y.site.at + CALL_WORDS) l.stack.base
   code_u = code_is l r1 r2 o t rd m k F.site y.code_is y.site y.site_is ex F.call y.data_is F eg y.site_is
       (ap opened_of flat_is) flat_is refl
 
@@ -135,7 +139,7 @@ module _ (g : Link) (linked : Linked g) (r1 r2 : Reg) (o : OState) (t : State Wo
   abbrev u9 : State Word
   u9 = record u {
     regs = record u.regs {
-      pc = Mem (code_cap y.site.base y.site.end (y.site.at + 16 + 9));
+      pc = Mem (code_cap y.site.base y.site.end (y.site.at + CALL_WORDS + 9));
       stk = Mem (stack_cap l.stack.base F.end F.base);
       dat = sound.first;
       t1 = zero_word id;
@@ -147,7 +151,7 @@ module _ (g : Link) (linked : Linked g) (r1 r2 : Reg) (o : OState) (t : State Wo
   nine : run_of id id 9 u ≡ went u9
   nine =
       let ab = sound.above in let od = sound.order in let top = sound.in_stack in let sm = rd.small_stack in
-      return_nine u y.site.base y.site.end (y.site.at + 16)
+      return_nine u y.site.base y.site.end (y.site.at + CALL_WORDS)
       l.stack.base (y.cap).end F.base F.end (y.cap).addr sound.first code_u
       refl stk_u refl y.joins (omega (arith, ab)) od (omega (arith, top, sm))
       (its.apart F.base (omega (arith, ab)) (omega (arith, od, top))) first_cell sound.normal
@@ -155,7 +159,7 @@ module _ (g : Link) (linked : Linked g) (r1 r2 : Reg) (o : OState) (t : State Wo
   abbrev u10 : State Word
   u10 = record u {
     regs = record u.regs {
-      pc = Mem (code_cap y.site.base y.site.end (y.site.at + 16 + 10));
+      pc = Mem (code_cap y.site.base y.site.end (y.site.at + CALL_WORDS + RETURN_WORDS));
       stk = Mem (stack_cap l.stack.base F.end F.base);
       dat = sound.first;
       t1 = zero_word id;
@@ -164,53 +168,57 @@ module _ (g : Link) (linked : Linked g) (r1 r2 : Reg) (o : OState) (t : State Wo
     cells = set_cell u.cells F.base (zero_word id);
   }
 
-  ten : run_of id id 10 u ≡ went u10
+  ten : run_of id id RETURN_WORDS u ≡ went u10
   ten =
       let ab = sound.above in let od = sound.order in let top = sound.in_stack in let sm = rd.small_stack in
-      return_runs id id (λ x. refl) u y.site.base y.site.end (y.site.at + 16)
+      return_runs id id (λ x. refl) u y.site.base y.site.end (y.site.at + CALL_WORDS)
       l.stack.base (y.cap).end F.base F.end (y.cap).addr sound.first code_u
       refl stk_u refl y.joins (omega (arith, ab)) od (omega (arith, top, sm))
       (its.apart F.base (omega (arith, ab)) (omega (arith, od, top))) first_cell sound.normal
 
-  starts : y.site.base ≤ y.site.at + 16 + 9
+  starts : y.site.base ≤ y.site.at + CALL_WORDS + 9
   starts = let a = code_u.at_is in omega (arith, a)
 
-  ends : y.site.at + 16 + 9 ≤ y.site.end
+  ends : y.site.at + CALL_WORDS + 9 ≤ y.site.end
   ends = let a = code_u.ends in omega (arith, a)
 
-  move_stands : Num u9 (y.site.at + 16 + 9) (pos (number_of (Move T2 (Imm (pos 0)))))
+  move_stands : Num u9 (y.site.at + CALL_WORDS + 9) (pos (number_of (Move T2 (Imm (pos 0)))))
   unfolding return_code
   move_stands =
       let ab = sound.above in let od = sound.order in let top = sound.in_stack in
       let ai = code_u.at_is in let en = code_u.ends in
-      let c : Stands id u9.cells (y.site.at + 16) (return_code code_u.fail code_u.offset l.stack.base) =
-      stands_outside u.cells F.base (zero_word id) y.site.base y.site.end (y.site.at + 16)
+      let c : Stands id u9.cells (y.site.at + CALL_WORDS)
+      (return_code code_u.fail code_u.offset l.stack.base) =
+      stands_outside u.cells F.base (zero_word id) y.site.base y.site.end (y.site.at + CALL_WORDS)
       (return_code code_u.fail code_u.offset l.stack.base)
       (its.apart F.base (omega (arith, ab)) (omega (arith, od, top))) (omega (arith, ai))
       (omega (arith, en)) code_u.code in
-      let z : y.site.at + 16 + 1 + 1 + 1 + 1 + 1 + 1 + 1 + 1 + 1 ≡ y.site.at + 16 + 9 = omega arith in
+      let z : y.site.at + CALL_WORDS + 1 + 1 + 1 + 1 + 1 + 1 + 1 + 1 + 1
+      ≡ y.site.at + CALL_WORDS + 9 = omega arith in
       subst (λ a. Num u9 a (pos (number_of (Move T2 (Imm (pos 0)))))) z c.1.1.1.1.1.1.1.1.1.0
 
-  pc9 : u9.regs.pc ≡ Mem (code_cap y.site.base y.site.end (y.site.at + 16 + 9))
+  pc9 : u9.regs.pc ≡ Mem (code_cap y.site.base y.site.end (y.site.at + CALL_WORDS + 9))
   pc9 = refl
 
   noted9 : noted l u9 ≡ Last F.site
   unfolding noted
   noted9 =
-      let w : y.site.at + 25 ≡ y.site.at + 16 + 9 = omega arith in
+      let w : y.site.at + (SITE_WORDS - 1) ≡ y.site.at + CALL_WORDS + 9 = omega arith in
       ap (noted_by l u9)
-      (jump_is u9 y.site.base y.site.end (y.site.at + 16 + 9) (Move T2 (Imm (pos 0)))
+      (jump_is u9 y.site.base y.site.end (y.site.at + CALL_WORDS + 9) (Move T2 (Imm (pos 0)))
       pc9 starts ends move_stands (search rules))
-      ∙ ap (λ f. note_last (site_word l 25 f)) (shown_at u9 y.site.base y.site.end (y.site.at + 16 + 9) pc9)
+      ∙ ap (λ f. note_last (site_word l (SITE_WORDS - 1) f))
+      (shown_at u9 y.site.base y.site.end (y.site.at + CALL_WORDS + 9) pc9)
       ∙ ap note_last
-      (word_at l 25 (y.site.at + 16 + 9) (Memory (code_cap y.site.base y.site.end (y.site.at + 16 + 9)))
-      (Some F.site) (target_code y.site.base y.site.end (y.site.at + 16 + 9) starts ends)
-      (subst (λ a. Rattle.trace_tool.specs.Layout.site_before l 25 a ≡ Some F.site)
-      w (site_there g linked F.site 25 y.site y.site_is))
-      (trusted_code g linked F.site y.site y.site_is (y.site.at + 16 + 9)))
+      (word_at l (SITE_WORDS - 1) (y.site.at + CALL_WORDS + 9)
+      (Memory (code_cap y.site.base y.site.end (y.site.at + CALL_WORDS + 9)))
+      (Some F.site) (target_code y.site.base y.site.end (y.site.at + CALL_WORDS + 9) starts ends)
+      (subst (λ a. Rattle.trace_tool.specs.Layout.site_before l (SITE_WORDS - 1) a ≡ Some F.site)
+      w (site_there g linked F.site (SITE_WORDS - 1) y.site y.site_is))
+      (trusted_code g linked F.site y.site y.site_is (y.site.at + CALL_WORDS + 9)))
 
   same_end : (w : State Word) → run_of id id 11 t ≡ went w → u10 ≡ w
-  same_end w e = let z : went u10 ≡ went w = sym ten ∙ after_step 10 t u (went w) jumped e in cc
+  same_end w e = let z : went u10 ≡ went w = sym ten ∙ after_step RETURN_WORDS t u (went w) jumped e in cc
 
   event9 : (w : State Word) (inward : Bool) → run_of id id 11 t ≡ went w → IsFlat l q w
       → event_after l (Last F.site) inward (flat_view l q) ≡ Some (ReturnedEvent inward F.site F.base F.end)
@@ -232,14 +240,15 @@ module _ (g : Link) (linked : Linked g) (r1 r2 : Reg) (o : OState) (t : State Wo
       → lines_of l (at_state t n inward) 11 ≡ lines_for l (flat_view l q)
       (told_after l (note_by l o (Back r1 r2)) q)
   return_whole w n inward e mq =
-      let step : step_of id id u9 ≡ went w = last_step 9 u u9 w nine (after_step 10 t u (went w) jumped e) in
+      let step : step_of id id u9
+      ≡ went w = last_step 9 u u9 w nine (after_step RETURN_WORDS t u (went w) jumped e) in
       let bit : inward_after (noted l t) inward ≡ now =
       ap (λ z. inward_after z inward) (noted_back g linked r1 r2 o t rd m k v F.site y.site y.site_is ex)
       ∙ ap (λ f. is_some (trusted_part l f)) (face_same l o t m k Pc)
       ∙ part_some l (faces look o.maps Pc) in
-      mute_step l t u n inward 10
+      mute_step l t u n inward RETURN_WORDS
       (back_line g linked r1 r2 o t rd m k v F.site y.site y.site_is ex u n inward jumped) jumped
-      ∙ ap (λ b. lines_of l (at_state u (n + 1) b) 10) bit
+      ∙ ap (λ b. lines_of l (at_state u (n + 1) b) RETURN_WORDS) bit
       ∙ calm_then l 9 1 u u9 (n + 1)
       now (calm_behind g linked r1 r2 o t rd m k v F.site y.site y.site_is ex free u jumped) nine
       ∙ line_flat l q u9 w (n + 1 + 9) now step mq

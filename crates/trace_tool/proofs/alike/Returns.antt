@@ -1,7 +1,9 @@
 -- An `xjmp` of a return word, and the words after it: no line but at the last.
+use Rattle.std.proofs.Common.{◌-◌}
 use Rattle.std.proofs.Common.{◌≡◌, inl, inr, ℕ, ◌+◌, ◌≤◌, ℤ, pos, Bool, true, [], ◌∷◌, Option, Some, None}
 use Rattle.std.proofs.Common.{refl, sym, ap, ◌∙◌, arith, rules}
 use Rattle.std.specs.Prelude.{option_map}
+use Rattle.call_sequence.specs.declared.TheConstants.{CALL_WORDS, RETURN_WORDS, SITE_WORDS}
 use Rattle.call_sequence.proofs.Offers.{fits_small, small_operand, near_operand, leads}
 use Rattle.cap_words.specs.declared.TheConstants.{LAST_PLACE}
 use Rattle.cap_words.specs.declared.Word.{Word}
@@ -116,12 +118,12 @@ module _ (g : Link) (linked : Linked g) (r1 r2 : Reg) (o : OState) (t : State Wo
     (rd : AtReturn g.layout r1 r2 o) (m : IsFlat g.layout o t) (k : Looks g.layout o)
     (v : View g o.frames o.maps (Back r1 r2)) (i : ℕ) (s : SiteCode) (es : site_code g.layout i ≡ Some s)
     (ex : opened_of (flat g.layout o.frames (reg o.maps.regs r1))
-    ≡ Some (record { seal = s.seal; content = MemC (code_cap s.base s.end (s.at + 16)) })) where
+    ≡ Some (record { seal = s.seal; content = MemC (code_cap s.base s.end (s.at + CALL_WORDS)) })) where
   abbrev l : Layout
   l = g.layout
 
   abbrev pub code : CapFields
-  code = code_cap s.base s.end (s.at + 16)
+  code = code_cap s.base s.end (s.at + CALL_WORDS)
 
   got : fetch (faces id t Pc) (cell_faces id t) ≡ some (Xjmp r1 r2) rd.next
   got = fetch_mapped look id (flat l o.frames) (beside l o.frames)
@@ -151,8 +153,9 @@ module _ (g : Link) (linked : Linked g) (r1 r2 : Reg) (o : OState) (t : State Wo
         seal =
             option_map (λ (z : Opened). z.seal) (opened_of (reg t.regs r1));
       }) in n)
-      (ap (site_word l 15) (face_same l o t m k Pc) ∙ back_apart g linked o.frames o.maps (Xjmp r1 r2)
-      rd.next rd.fetched (λ q. cc) 15 (omega arith) (omega arith) r1 r2 v)
+      (ap (site_word l (CALL_WORDS - 1)) (face_same l o t m k Pc)
+      ∙ back_apart g linked o.frames o.maps (Xjmp r1 r2)
+      rd.next rd.fetched (λ q. cc) (CALL_WORDS - 1) (omega arith) (omega arith) r1 r2 v)
       ∙ ap (λ w. let n : Note =
       Leap (record {
         from = trusted_part l (faces id t Pc);
@@ -166,7 +169,7 @@ module _ (g : Link) (linked : Linked g) (r1 r2 : Reg) (o : OState) (t : State Wo
   unfolding event_after
   back_event u inward e =
       no_leap l _ s.seal (view_of u) (no_closure g linked i s es)
-      (ap (λ w. is_trusted l (face_of w)) (lands u e).0 ∙ trusted_code g linked i s es (s.at + 16))
+      (ap (λ w. is_trusted l (face_of w)) (lands u e).0 ∙ trusted_code g linked i s es (s.at + CALL_WORDS))
 
   pub back_line : (u : State Word) (c : ℕ) (inward : Bool) → step_of id id t ≡ went u
       → line_next l (at_state t c inward) ≡ []
@@ -174,15 +177,16 @@ module _ (g : Link) (linked : Linked g) (r1 r2 : Reg) (o : OState) (t : State Wo
       line_goes l t u c inward e ∙ ap (λ n. lines_for l (view_of u) (event_after l n inward (view_of u)))
       noted_back ∙ ap (lines_for l (view_of u)) (back_event u inward e)
 
-  pub calm_behind : NoEnd l (s.at + 16) (s.at + 25) → (u : State Word) → step_of id id t ≡ went u → Calm l 9 u
+  pub calm_behind : NoEnd l (s.at + CALL_WORDS) (s.at + (SITE_WORDS - 1)) → (u : State Word) → step_of id id t
+      ≡ went u → Calm l 9 u
   calm_behind free u e =
       let y = lands u e in
-      words_calm l u s.base s.end (s.at + 16)
+      words_calm l u s.base s.end (s.at + CALL_WORDS)
       l.stack.base
-      (return_kept t u s.base s.end (s.at + 16)
+      (return_kept t u s.base s.end (s.at + CALL_WORDS)
       l.stack.base y.1
-      (HasReturn-flat l o t m k s.base s.end (s.at + 16) l.stack.base (rd.sites i s es).back))
+      (HasReturn-flat l o t m k s.base s.end (s.at + CALL_WORDS) l.stack.base (rd.sites i s es).back))
       y.0 rd.small_base (λ a lo hi. free a lo (omega (arith, hi)))
 
-  pub back_mute : NoEnd l (s.at + 16) (s.at + 25) → Mute l 10 t
+  pub back_mute : NoEnd l (s.at + CALL_WORDS) (s.at + (SITE_WORDS - 1)) → Mute l RETURN_WORDS t
   back_mute free = λ u e. (λ c inward. back_line u c inward e, calm_mute l 9 u (calm_behind free u e))

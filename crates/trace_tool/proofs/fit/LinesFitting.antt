@@ -44,9 +44,9 @@ use Rattle.trusted_border.specs.Reaches.{hop_in, back_under, back_if, back_of, p
 use Rattle.overlay_machine.proofs.Offers.{found_is}
 use Rattle.trace_tool.specs.declared.note.Note.{Note}
 use Rattle.trace_tool.specs.declared.note.Note.TheVariants.{Nothing, Last, Leap}
-use Rattle.trace_tool.specs.declared.pairs.Pair.{Pair as PairOf}
-use Rattle.trace_tool.specs.declared.pairs.Pair.TheVariants.{Nothing as NoPair, Bad as BadPair}
-use Rattle.trace_tool.specs.declared.pairs.Pair.TheVariants.{Out as OutPair, Hop as HopPair}
+use Rattle.trace_tool.specs.declared.pairs.PassedPair.{PassedPair as PairOf}
+use Rattle.trace_tool.specs.declared.pairs.PassedPair.TheVariants.{Nothing as NoPair, Bad as BadPair}
+use Rattle.trace_tool.specs.declared.pairs.PassedPair.TheVariants.{Out as OutPair, Hop as HopPair}
 use Rattle.trace_tool.specs.declared.pairs.Pairs.{Pairs}
 use Rattle.trace_tool.specs.Layout.{layout, site_before, site_word, part_name, entry_name, site_of}
 use Rattle.trace_tool.specs.Views.{View, view_of}

@@ -1,4 +1,5 @@
 -- The sixteen words of a call, whatever they do, touch no address apart from their code and from stk's range.
+use Rattle.std.proofs.Common.{◌-◌}
 use Rattle.std.proofs.Common.{◌≡◌, ◌≢◌, inl, inr, ℕ, ◌+◌, ◌≤◌, ℤ, pos, negsuc, ◌+ℤ◌, List}
 use Rattle.std.proofs.Common.{[], ◌∷◌, ◌++◌, Some, refl, sym, ap, ◌∙◌, arith, rules, subst}
 use Rattle.std.proofs.Common.{FitsSigned, w32}
@@ -17,6 +18,7 @@ use Rattle.lcm_machine.specs.Row.{went, put, row, faces, step_of}
 use Rattle.lcm_machine.specs.Runs.{Stands, code_cap}
 use Rattle.lcm_machine.specs.Touched.{Untouched}
 use Rattle.lcm_machine.proofs.Offers.{move_goes, cca_goes, stays, step_row, after_each, row_others}
+use Rattle.call_sequence.specs.declared.TheConstants.{CALL_WORDS}
 use Rattle.call_sequence.specs.Sequences.{call_code, distance}
 use Rattle.call_sequence.specs.SequenceRuns.{IsOutsideRange, HasCall}
 use Rattle.trace_tool.proofs.alike.Calm.{id}
@@ -38,7 +40,7 @@ module _ (a : ℕ) (s : State Word) (base last at seal : ℕ) (h : HasCall id s.
   pub call_spares : (c : CapFields) → s.regs.pc ≡ Mem (code_cap base last at) → s.regs.stk ≡ Mem c
       → ((q : ℕ) → c.base ≤ q → q ≤ c.end → IsOutsideRange q base last)
       → ((q : ℕ) → c.base ≤ q → q ≤ c.end → q ≢ a)
-      → Untouched id id a 16 s
+      → Untouched id id a CALL_WORDS s
   unfolding call_code faces
   call_spares c pc stk apart aside =
       let ai = h.at_is in
@@ -56,7 +58,7 @@ module _ (a : ℕ) (s : State Word) (base last at seal : ℕ) (h : HasCall id s.
       let next0 : Word = Mem (code_cap base last (at + 1)) in (
         fetch_only a base last out s at (Store Stk Dat) pc (omega (arith, ai)) (omega (arith, en)) code.0 tt
             (λ t. let b = stored_in s c stk a t in aside a b.0 b.1 refl),
-        after_each (Untouched id id a 15) (step_of id id s) (λ s1 goes.
+        after_each (Untouched id id a (CALL_WORDS - 1)) (step_of id id s) (λ s1 goes.
             let r : row id id (Store Stk Dat) next0 s ≡ went s1 =
             sym (step_row id id s base last at (Store Stk Dat) pc (omega (arith, ai)) (omega (arith, en))
             code.0 tt) ∙ goes in
@@ -80,7 +82,7 @@ module _ (a : ℕ) (s : State Word) (base last at seal : ℕ) (h : HasCall id s.
           → Stands id s1.cells (at + 1)
           (Move T1 (InReg Pc) ∷ Cca T1 (Imm n) ∷ Load T2 T1
           ∷ (rest_of (pos h.number) ++ (Xjmp C1 C2 ∷ [])))
-          → Untouched id id a 15 s1
+          → Untouched id id a (CALL_WORDS - 1) s1
       from_move s1 n fn leads_to p1 c1 =
           let ai = h.at_is in
           let en = h.ends in

@@ -14,6 +14,7 @@ use Rattle.lcm_machine.specs.Maps.{State}
 use Rattle.lcm_machine.specs.Row.{went, row}
 use Rattle.lcm_machine.specs.Runs.{run_of, code_cap}
 use Rattle.lcm_machine.specs.Touched.{Touches}
+use Rattle.call_sequence.specs.declared.TheConstants.{CALL_WORDS}
 use Rattle.call_sequence.specs.Sequences.{return_code}
 use Rattle.call_sequence.proofs.Offers.{HasReturn-set}
 use Rattle.trusted_border.specs.declared.layout.Layout.{Layout}
@@ -30,13 +31,15 @@ use Rattle.trace_tool.proofs.privacy.TouchAt.{idle_only, not_failed}
 
 module _ (l : Layout) (i : ℕ) (o : OState) (t : State Word) (r : AtSite l i o) (m : IsFlat l o t)
     (k : Looks l o) (a : ℕ) (low_a : l.stack.base ≤ a) (high_a : a ≤ l.stack.end) (j : ℕ)
-    (e1 : o.maps.regs.c1 ≡ RetCode j) (v : State Word) (ran : run_of id id 16 t ≡ went v) (x : Touches id v a)
+    (e1 : o.maps.regs.c1 ≡ RetCode j) (v : State Word) (ran : run_of id id CALL_WORDS t ≡ went v)
+    (x : Touches id v a)
   where
     module _ (b : ℕ) (cursor : r.to ≡ pos (b + 1)) (low : l.stack.base ≤ b) (high : b + 1 ≤ r.end) where
       abbrev s15 : State Word
       s15 = t15 l i o t r m k b cursor low high
 
-      jump : row id id (Xjmp C1 C2) (Mem (code_cap r.site.base r.site.end (r.site.at + 16))) s15 ≡ went v
+      jump : row id id (Xjmp C1 C2) (Mem (code_cap r.site.base r.site.end (r.site.at + CALL_WORDS))) s15
+          ≡ went v
       jump = sym (plain_row l i o t r m k b cursor low high) ∙ ran
 
       c1_is : opened_of t.regs.c1 ≡ opened_of (flat l o.frames (RetCode j))
@@ -44,20 +47,20 @@ module _ (l : Layout) (i : ℕ) (o : OState) (t : State Word) (r : AtSite l i o)
 
       at_return : (s : SiteCode) → site_code l j ≡ Some s
           → opened_of t.regs.c1
-          ≡ Some (record { seal = s.seal; content = MemC (code_cap s.base s.end (s.at + 16)) })
+          ≡ Some (record { seal = s.seal; content = MemC (code_cap s.base s.end (s.at + CALL_WORDS)) })
           → ⊥
       unfolding return_code
       at_return s es e =
           let its = r.sites j s es in
-          let back = HasReturn-flat l o t m k s.base s.end (s.at + 16) l.stack.base its.back in
+          let back = HasReturn-flat l o t m k s.base s.end (s.at + CALL_WORDS) l.stack.base its.back in
           let h = r.in_stack in
-          let set = HasReturn-set id t.cells s.base s.end (s.at + 16) l.stack.base (b + 1)
+          let set = HasReturn-set id t.cells s.base s.end (s.at + CALL_WORDS) l.stack.base (b + 1)
           t.regs.dat (its.apart (b + 1) (omega (arith, low)) (omega (arith, high, h))) back in
-          let y = xjmp_lands s15 v C1 C2 _ s.seal (code_cap s.base s.end (s.at + 16)) e jump in
+          let y = xjmp_lands s15 v C1 C2 _ s.seal (code_cap s.base s.end (s.at + CALL_WORDS)) e jump in
           let c = set.code in
           let ai = back.at_is in
           let en = back.ends in
-          idle_only a s.base s.end (its.apart a low_a high_a) v (s.at + 16) (Splice Stk Stk Dat)
+          idle_only a s.base s.end (its.apart a low_a high_a) v (s.at + CALL_WORDS) (Splice Stk Stk Dat)
           y.0 (omega (arith, ai)) (omega (arith, en)) (y.1 _ _ c.0) tt refl x
 
       above : ⊥
@@ -70,7 +73,7 @@ module _ (l : Layout) (i : ℕ) (o : OState) (t : State Word) (r : AtSite l i o)
     at_address : (c : ℕ) → r.to ≡ pos c → ⊥
     at_address c e = elim (cases_lt r.end c) as (λ _. ⊥) [
       | inl past ↦
-          not_failed 1 15 t v
+          not_failed 1 (CALL_WORDS - 1) t v
           (outside l i o t r m k (pos c)
           e (and_right (nat_le l.stack.base c) (nat_le c r.end) (lt-leb c r.end past))) ran
       | inr le ↦ elim (cases_lt l.stack.base c) as (λ _. ⊥) [
@@ -81,7 +84,7 @@ module _ (l : Layout) (i : ℕ) (o : OState) (t : State Word) (r : AtSite l i o)
           | inl same ↦
               not_failed 8 8 t v (lowest l i o t r m k (e ∙ ap pos same) (omega (arith, same, le))) ran
           | inr ne ↦
-              not_failed 1 15 t v
+              not_failed 1 (CALL_WORDS - 1) t v
               (outside l i o t r m k (pos c)
               e (and_left (nat_le l.stack.base c) (nat_le c r.end)
               (lt-leb l.stack.base c (omega (arith, ge, ne))))) ran
@@ -91,7 +94,7 @@ module _ (l : Layout) (i : ℕ) (o : OState) (t : State Word) (r : AtSite l i o)
 
     by_address : (z : ℤ) → r.to ≡ z → ⊥
     by_address (pos c) e = at_address c e
-    by_address (negsuc c) e = not_failed 1 15 t v (outside l i o t r m k (negsuc c) e refl) ran
+    by_address (negsuc c) e = not_failed 1 (CALL_WORDS - 1) t v (outside l i o t r m k (negsuc c) e refl) ran
 
     -- pc is at the return of the pair's site, if the call's `xjmp` went at all
     pub tail_spares : ⊥

@@ -12,6 +12,7 @@ use Rattle.lcm_isa.specs.declared.Instr.TheVariants.{Minus, Seta2b}
 use Rattle.lcm_machine.specs.Maps.{State}
 use Rattle.lcm_machine.specs.Runs.{code_cap}
 use Rattle.lcm_machine.specs.Touched.{Untouched}
+use Rattle.call_sequence.specs.declared.TheConstants.{ENTRY_WORDS}
 use Rattle.call_sequence.specs.Sequences.{entry_code, distance}
 use Rattle.call_sequence.specs.SequenceRuns.{IsOutsideRange, HasEntry}
 use Rattle.trace_tool.proofs.alike.Calm.{id}
@@ -42,7 +43,8 @@ checked sb h =
 
 module _ (a : ℕ) (s : State Word) (base last at sb : ℕ) (h : HasEntry id s.cells base last at sb)
     (out : IsOutsideRange a base last) where
-  pub entry_spares : s.regs.pc ≡ Mem (code_cap base last at) → sb ≤ LAST_PLACE → Untouched id id a 20 s
+  pub entry_spares : s.regs.pc ≡ Mem (code_cap base last at) → sb ≤ LAST_PLACE
+      → Untouched id id a ENTRY_WORDS s
   unfolding entry_code
   entry_spares pc small =
       let ai = h.at_is in

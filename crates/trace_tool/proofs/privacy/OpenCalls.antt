@@ -1,5 +1,6 @@
 -- While a call line is open, no instruction of a run touches an address of its range but the two of its own
 -- return.
+use Rattle.call_sequence.specs.declared.TheConstants.{CALL_WORDS}
 use Rattle.std.proofs.Common.{◌≡◌, ◌⊎◌, inl, inr, ℕ, suc, ◌+◌, ◌-◌, ◌<◌, ◌≤◌, List, [], ◌∷◌, Some, refl}
 use Rattle.std.proofs.Common.{sym, ap, ◌∙◌, subst, arith}
 use Rattle.std.specs.Prelude.{slice_get}
@@ -106,7 +107,7 @@ module _ (parts : List PartSeen) (size : ℕ) (s : StartSeen)
           first = touch.site.base;
           end = touch.site.end;
           at_pc = ap (λ (y : State Word). y.regs.pc) (after_is n v at_n) ∙ touch.used.2
-              ∙ ap (λ y. Mem (code_cap touch.site.base touch.site.end (y + 16 + word))) at;
+              ∙ ap (λ y. Mem (code_cap touch.site.base touch.site.end (y + CALL_WORDS + word))) at;
           before = j;
           so_many = omega (arith, le, so_many);
           r1 = touch.r1;

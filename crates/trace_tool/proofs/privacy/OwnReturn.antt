@@ -20,6 +20,7 @@ use Rattle.lcm_machine.specs.Row.{went, faces, cell_faces, face_there, look_face
 use Rattle.lcm_machine.specs.Runs.{and_then, run_of, code_cap}
 use Rattle.lcm_machine.specs.Touched.{Touches, Untouched, cell_used, used_by}
 use Rattle.lcm_machine.proofs.Offers.{fetch_at, lacking, lacks, quiet, run_of-add, step_row}
+use Rattle.call_sequence.specs.declared.TheConstants.{RETURN_WORDS}
 use Rattle.call_sequence.specs.Sequences.{return_code}
 use Rattle.call_sequence.specs.SequenceRuns.{stack_cap, IsOutsideRange, HasReturn}
 use Rattle.call_sequence.proofs.Offers.{HasReturn-set, return_runs, return_tests}
@@ -163,9 +164,9 @@ module _ (a : ℕ) (s : State Word) (base last at sb : ℕ) (h : HasReturn id s.
       refl (subst (λ y. Touches id y a) (sym q) x)
 
   -- none of the ten touches any other address
-  others_spared : b ≢ a → Untouched id id a 10 s
+  others_spared : b ≢ a → Untouched id id a RETURN_WORDS s
   others_spared ne =
-      quiet id id (λ y. refl) a 10 (lacking a s) s _ (lacks a s)
+      quiet id id (λ y. refl) a RETURN_WORDS (lacking a s) s _ (lacks a s)
       (return_runs id id (λ y. refl) (lacking a s)
       base last at sb low b end to w (return_lacking a s base last out at sb h)
       hpc hstk hdat joint sl le small b_out
@@ -175,7 +176,7 @@ module _ (a : ℕ) (s : State Word) (base last at sb : ℕ) (h : HasReturn id s.
     is_base : (i : ℕ) → run_of id id i s ≡ went v → i ≤ 9 → a ≡ b
     is_base i ran few = elim (cases_eq b a) as (λ _. a ≡ b) [
       | inl e ↦ sym e
-      | inr ne ↦ absurd (untouched_at a 10 i s v (others_spared ne) ran (omega (arith, few)) x)
+      | inr ne ↦ absurd (untouched_at a RETURN_WORDS i s v (others_spared ne) ran (omega (arith, few)) x)
     ]
 
     late : (k : ℕ) → run_of id id (6 + k) s ≡ went v → k ≤ 3 → a ≡ b → IsFirstUsed base last at b a (6 + k) v

@@ -16,6 +16,7 @@ use Rattle.lcm_machine.specs.Row.{went}
 use Rattle.lcm_machine.specs.Runs.{run_of, code_cap}
 use Rattle.lcm_machine.specs.Touched.{Untouched}
 use Rattle.lcm_machine.proofs.Offers.{quiet, lacking, lacks, untouched_then, after_each, run_one}
+use Rattle.call_sequence.specs.declared.TheConstants.{RETURN_WORDS}
 use Rattle.call_sequence.specs.Sequences.{return_code}
 use Rattle.call_sequence.specs.SequenceRuns.{stack_cap, IsOutsideRange, HasReturn}
 use Rattle.call_sequence.proofs.Offers.{return_tests, return_turns}
@@ -44,7 +45,7 @@ module _ (a : ℕ) (s : State Word) (base last at sb : ℕ) (h : HasReturn id s.
   pub off_spares : (low high : CapFields) → s.regs.pc ≡ Mem (code_cap base last at) → s.regs.stk ≡ Mem low
       → s.regs.dat ≡ Mem high
       → lin_is low.lin ≡ true → lin_is high.lin ≡ true → same_kind low high ≡ true → low.end + 1 ≡ high.base
-      → low.base ≤ LAST_PLACE → sb ≤ LAST_PLACE → low.base ≢ sb → Untouched id id a 10 s
+      → low.base ≤ LAST_PLACE → sb ≤ LAST_PLACE → low.base ≢ sb → Untouched id id a RETURN_WORDS s
   off_spares low high hpc hstk hdat ll lh same joint s1 s2 ne =
       let fh = h.fails.1 in
       untouched_then id id a 6 4 s _

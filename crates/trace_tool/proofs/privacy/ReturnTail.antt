@@ -25,6 +25,7 @@ use Rattle.lcm_machine.specs.Runs.{run_of, code_cap}
 use Rattle.lcm_machine.specs.Refusals.{HasFailed, CannotJoin}
 use Rattle.lcm_machine.specs.Touched.{Touches}
 use Rattle.lcm_machine.proofs.Offers.{fetch_mapped, run_one}
+use Rattle.call_sequence.specs.declared.TheConstants.{CALL_WORDS, RETURN_WORDS}
 use Rattle.call_sequence.specs.SequenceRuns.{stack_cap, IsOutsideRange}
 use Rattle.call_sequence.proofs.Offers.{return_apart}
 use Rattle.trusted_border.specs.declared.layout.Layout.{Layout}
@@ -55,12 +56,12 @@ pub record OwnTouch (l : Layout) (o : OState) (t v : State Word) (a word : ℕ) 
   pub frames_are : o.frames ≡ frame ∷ older
   pub site : SiteCode
   pub site_is : site_code l frame.site ≡ Some site
-  pub used : IsFirstUsed site.base site.end (site.at + 16) frame.base a word v
+  pub used : IsFirstUsed site.base site.end (site.at + CALL_WORDS) frame.base a word v
   pub r1 : Reg
   pub r2 : Reg
   pub next : Word
   pub jumps : fetch (faces id t Pc) (cell_faces id t) ≡ some (Xjmp r1 r2) next
-  pub code : reg t.regs r1 ≡ Sealed site.seal (MemIn (code_cap site.base site.end (site.at + 16)))
+  pub code : reg t.regs r1 ≡ Sealed site.seal (MemIn (code_cap site.base site.end (site.at + CALL_WORDS)))
   pub range : reg t.regs r2 ≡ Sealed site.seal (MemIn (stack_cap frame.base frame.end frame.base))
   pub last_below : ℕ
   pub right_below : last_below + 1 ≡ frame.base
@@ -149,7 +150,7 @@ module _ (l : Layout) (r1 r2 : Reg) (o : OState) (t : State Word) (rd : AtReturn
     F = p.frame
 
     pub code_opened : opened_of (flat l o.frames (reg o.maps.regs r1))
-        ≡ Some (record { seal = S.seal; content = MemC (code_cap S.base S.end (S.at + 16)) })
+        ≡ Some (record { seal = S.seal; content = MemC (code_cap S.base S.end (S.at + CALL_WORDS)) })
     code_opened = code_some l r1 r2 o t rd m k i S e1 p.site_is
 
     pub data_flat : flat l o.frames (reg o.maps.regs r2)
@@ -157,7 +158,7 @@ module _ (l : Layout) (r1 r2 : Reg) (o : OState) (t : State Word) (rd : AtReturn
     data_flat = data_is l r1 r2 o t rd m k p.call F (Some S) p.data_is p.frame_is p.its_site
 
     code_flat : flat l o.frames (reg o.maps.regs r1)
-        ≡ Sealed S.seal (MemIn (code_cap S.base S.end (S.at + 16)))
+        ≡ Sealed S.seal (MemIn (code_cap S.base S.end (S.at + CALL_WORDS)))
     unfolding flat
     code_flat = ap (flat l o.frames) e1 ∙ ap Rattle.overlay_machine.specs.Flat.flat_code p.site_is
 
@@ -173,7 +174,7 @@ module _ (l : Layout) (r1 r2 : Reg) (o : OState) (t : State Word) (rd : AtReturn
     its : HasSite l o.maps.cells S
     its = rd.sites i S p.site_is
 
-    pub back : Rattle.call_sequence.specs.SequenceRuns.HasReturn id U.cells S.base S.end (S.at + 16)
+    pub back : Rattle.call_sequence.specs.SequenceRuns.HasReturn id U.cells S.base S.end (S.at + CALL_WORDS)
         l.stack.base
     back = code_is l r1 r2 o t rd m k i e1 S p.site_is code_opened p.call p.data_is F p.frame_is p.its_site
         (ap opened_of data_flat) data_flat p.same
@@ -191,9 +192,9 @@ module _ (l : Layout) (r1 r2 : Reg) (o : OState) (t : State Word) (rd : AtReturn
           → CannotJoin (face_of y) (Memory (stack_cap F.base F.end F.base)) → ⊥
       not_joint y e h =
           let f : HasFailed (run_of id id 1 U) =
-          return_apart id id U S.base S.end (S.at + 16) l.stack.base back refl (rw e h) in
-          untouched_at a 10 word U v
-          (apart_spares a U S.base S.end (S.at + 16) l.stack.base back out 9 refl f)
+          return_apart id id U S.base S.end (S.at + CALL_WORDS) l.stack.base back refl (rw e h) in
+          untouched_at a RETURN_WORDS word U v
+          (apart_spares a U S.base S.end (S.at + CALL_WORDS) l.stack.base back out 9 refl f)
           ran (omega (arith, few)) x
 
       -- from the stack's base: the call is the newest
@@ -215,7 +216,7 @@ module _ (l : Layout) (r1 r2 : Reg) (o : OState) (t : State Word) (rd : AtReturn
             frames_are = ef;
             site = S;
             site_is = p.its_site;
-            used = own_only a U S.base S.end (S.at + 16)
+            used = own_only a U S.base S.end (S.at + CALL_WORDS)
                 l.stack.base back out c.end F.base F.end c.addr s.first refl (e ∙ ap Mem c_is)
                 refl joint (omega (arith, above)) order (omega (arith, within, small))
                 (its.apart F.base (omega (arith, above)) (omega (arith, order, within)))
@@ -249,8 +250,8 @@ module _ (l : Layout) (r1 r2 : Reg) (o : OState) (t : State Word) (rd : AtReturn
             | inr ne ↦
                 (let q : FaceInOrder (Memory c) = subst (λ w. FaceInOrder (face_of w)) kept rd.in_order in
                 let small : c.base ≤ LAST_PLACE = (let q0 = q.0 in let q1 = q.1 in omega (arith, q0, q1)) in
-                absurd (untouched_at a 10 word U v
-                (off_spares a U S.base S.end (S.at + 16)
+                absurd (untouched_at a RETURN_WORDS word U v
+                (off_spares a U S.base S.end (S.at + CALL_WORDS)
                 l.stack.base back out c (stack_cap F.base F.end F.base)
                 refl e refl (same_lin_true (lin_is c.lin) p2.1) refl p1.0 joint small rd.small_base ne)
                 ran (omega (arith, few)) x))

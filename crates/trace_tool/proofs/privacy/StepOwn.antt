@@ -1,5 +1,6 @@
 -- Of the plain instructions of one overlay step, whether it goes or ends, none touches an address of an open
 -- frame but the two of the frame's own return.
+use Rattle.std.proofs.Common.{◌+◌}
 use Rattle.std.proofs.Common.{◌≡◌, inl, inr, ℕ, zero, suc, ◌<◌, ◌≤◌, None, Some, refl, sym, ap, ◌∙◌}
 use Rattle.std.proofs.Common.{subst, arith}
 use Rattle.std.specs.Prelude.{if◌then◌else◌}
@@ -12,6 +13,7 @@ use Rattle.lcm_machine.specs.Cells.{cell}
 use Rattle.lcm_machine.specs.Row.{went}
 use Rattle.lcm_machine.specs.Runs.{run_of, code_cap}
 use Rattle.lcm_machine.specs.Touched.{Touches, Untouched}
+use Rattle.call_sequence.specs.declared.TheConstants.{CALL_WORDS, ENTRY_WORDS}
 use Rattle.call_sequence.specs.SequenceRuns.{IsOutsideRange}
 use Rattle.flow_check.specs.Holds.{code_at}
 use Rattle.trusted_border.specs.declared.layout.Layout.{Layout}
@@ -60,25 +62,28 @@ module _ (g : Link) (linked : Linked g) (o : OState) (t : State Word) (inv : Inv
     call_own : (s : ℕ) → AtSite l s o → i < weight_by o.maps (Call s) → Own
     call_own s r lt = by_word o.maps.regs.c1 refl
       where
-        sixteen : Untouched id id a 16 t
+        sixteen : Untouched id id a CALL_WORDS t
         sixteen = call_step l o t m k a here.0 here.1 here.2 s r
 
         by_word : (y : OWord) → o.maps.regs.c1 ≡ y → Own
         by_word (Plain z) e =
-            (let n : weight_by o.maps (Call s) ≡ 16 =
-            ap (λ y. if is_ret_code y then 17 else 16) e in spared 16 sixteen (omega (arith, lt, n)))
+            (let n : weight_by o.maps (Call s) ≡ CALL_WORDS =
+            ap (λ y. if is_ret_code y then CALL_WORDS + 1 else CALL_WORDS) e in spared CALL_WORDS sixteen
+            (omega (arith, lt, n)))
         by_word (RetData z) e =
-            (let n : weight_by o.maps (Call s) ≡ 16 =
-            ap (λ y. if is_ret_code y then 17 else 16) e in spared 16 sixteen (omega (arith, lt, n)))
-        by_word (RetCode j) e = elim (cases_lt i 16) as (λ _. Own) [
-          | inl few ↦ spared 16 sixteen few
-          | inr ge ↦ (let n : weight_by o.maps (Call s) ≡ 17 = ap (λ y. if is_ret_code y then 17 else 16) e in
-              let last : i ≡ 16 = omega (arith, lt, n, ge) in
+            (let n : weight_by o.maps (Call s) ≡ CALL_WORDS =
+            ap (λ y. if is_ret_code y then CALL_WORDS + 1 else CALL_WORDS) e in spared CALL_WORDS sixteen
+            (omega (arith, lt, n)))
+        by_word (RetCode j) e = elim (cases_lt i CALL_WORDS) as (λ _. Own) [
+          | inl few ↦ spared CALL_WORDS sixteen few
+          | inr ge ↦ (let n : weight_by o.maps (Call s)
+              ≡ (CALL_WORDS + 1) = ap (λ y. if is_ret_code y then CALL_WORDS + 1 else CALL_WORDS) e in
+              let last : i ≡ CALL_WORDS = omega (arith, lt, n, ge) in
               absurd (tail_spares l s o t r m k a here.0 here.1 j e v
               (subst (λ y. run_of id id y t ≡ went v) last ran) x))
         ]
 
-    entry_own : (at : ℕ) → View g o.frames o.maps (Entry at) → AtEntry l at o → i < 20 → Own
+    entry_own : (at : ℕ) → View g o.frames o.maps (Entry at) → AtEntry l at o → i < ENTRY_WORDS → Own
     entry_own at (at_entry p off ip ea en st) r lt =
         let s : Mem (code_cap r.base r.end at) ≡ Mem (code_at (ranges_of p) off) = sym r.pc ∙ st.at_pc in
         let c : code_cap r.base r.end at ≡ code_at (ranges_of p) off = cc in
@@ -87,7 +92,7 @@ module _ (g : Link) (linked : Linked g) (o : OState) (t : State Word) (inv : Inv
         let away : IsOutsideRange a r.base r.end =
         elim (stack_apart g linked p ip a here.0 here.1) as (λ _. IsOutsideRange a r.base r.end)
         [ inl y ↦ inl (omega (arith, y, b1)) | inr y ↦ inr (omega (arith, y, b2)) ] in
-        spared 20 (entry_step l o t m k a here.0 here.1 here.2 at r away) lt
+        spared ENTRY_WORDS (entry_step l o t m k a here.0 here.1 here.2 at r away) lt
     entry_own at (in_part p off ip ne ns at_row ec) r lt = absurd (never_entry o.maps _ at ec)
     entry_own at (out h ec) r lt = absurd (never_entry o.maps _ at ec)
 

@@ -6,6 +6,7 @@ use Rattle.lcm_isa.specs.declared.Reg.TheVariants.{Pc, Stk}
 use Rattle.lcm_machine.specs.Maps.{State}
 use Rattle.lcm_machine.specs.Cells.{cell}
 use Rattle.lcm_machine.specs.Touched.{Untouched}
+use Rattle.call_sequence.specs.declared.TheConstants.{CALL_WORDS, ENTRY_WORDS}
 use Rattle.call_sequence.specs.SequenceRuns.{stack_cap, IsOutsideRange}
 use Rattle.trusted_border.specs.declared.layout.Layout.{Layout}
 use Rattle.trusted_border.specs.declared.layout.SiteCode.{SiteCode}
@@ -20,7 +21,7 @@ use Rattle.trace_tool.proofs.privacy.EntrySpares.{entry_spares}
 
 module _ (l : Layout) (o : OState) (t : State Word) (m : IsFlat l o t) (k : Looks l o) (a : ℕ)
     (low_a : l.stack.base ≤ a) (high_a : a ≤ l.stack.end) (gone : cell o.maps.cells a ≡ None) where
-  pub call_step : (i : ℕ) → AtSite l i o → Untouched id id a 16 t
+  pub call_step : (i : ℕ) → AtSite l i o → Untouched id id a CALL_WORDS t
   call_step i r =
       let site : SiteCode = r.site in
       let its : HasSite l o.maps.cells site = r.sites i site r.is_site in
@@ -33,7 +34,8 @@ module _ (l : Layout) (o : OState) (t : State Word) (m : IsFlat l o t) (k : Look
       (λ q lo hi same. let bad : is_some {T = OWord} None ≡ true =
       sym (ap is_some (ap (cell o.maps.cells) same ∙ gone)) ∙ r.owned q lo hi in cc)
 
-  pub entry_step : (at : ℕ) (r : AtEntry l at o) → IsOutsideRange a r.base r.end → Untouched id id a 20 t
+  pub entry_step : (at : ℕ) (r : AtEntry l at o) → IsOutsideRange a r.base r.end
+      → Untouched id id a ENTRY_WORDS t
   entry_step at r out =
       entry_spares a t r.base r.end at l.stack.base
       (HasEntry-flat l o t m k r.base r.end at l.stack.base r.entry) out

@@ -9,6 +9,7 @@ use Rattle.lcm_machine.specs.Row.{went}
 use Rattle.lcm_machine.specs.Runs.{run_of}
 use Rattle.lcm_machine.specs.Touched.{Touches}
 use Rattle.lcm_machine.proofs.Offers.{run_then}
+use Rattle.call_sequence.specs.declared.TheConstants.{CALL_WORDS}
 use Rattle.call_sequence.specs.SequenceRuns.{stack_cap}
 use Rattle.trusted_border.specs.declared.layout.Layout.{Layout}
 use Rattle.overlay_machine.specs.State.{OState, frame_of}
@@ -58,17 +59,17 @@ module _ (l : Layout) (r1 r2 : Reg) (o : OState) (t : State Word) (rd : AtReturn
       ∙ ap Mem (own_is l o.maps x.cap x.own).1 in
       let first = newest_first l o t m x.frame x.older x.frames_are s in
       let end =
-      six x.frame.base u x.site.base x.site.end (x.site.at + 16)
+      six x.frame.base u x.site.base x.site.end (x.site.at + CALL_WORDS)
       l.stack.base h out x.cap.end x.frame.base x.frame.end x.cap.addr s.first refl stk refl x.joins
       (omega (arith, above)) order (omega (arith, within, small)) out first s.normal in (
         end,
         run_then id id 1 6 t u _
             (jumped l r1 r2 o t rd m k x.frame.site x.code_is pair x.frame.base (omega (arith, above))
             (omega (arith, order, within)))
-            (runs_six x.frame.base u x.site.base x.site.end (x.site.at + 16)
+            (runs_six x.frame.base u x.site.base x.site.end (x.site.at + CALL_WORDS)
             l.stack.base h out x.cap.end x.frame.base x.frame.end x.cap.addr s.first refl stk refl x.joins
             (omega (arith, above)) order (omega (arith, within, small)) out first s.normal),
-        touches_first x.frame.base u x.site.base x.site.end (x.site.at + 16)
+        touches_first x.frame.base u x.site.base x.site.end (x.site.at + CALL_WORDS)
             l.stack.base h out x.cap.end x.frame.base x.frame.end x.cap.addr s.first refl stk refl x.joins
             (omega (arith, above)) order (omega (arith, within, small)) out first s.normal,
       )

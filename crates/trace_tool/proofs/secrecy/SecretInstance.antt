@@ -1,4 +1,5 @@
 -- The instance: its call stays open from behind its `xjmp` to five words into its return.
+use Rattle.call_sequence.specs.declared.TheConstants.{CALL_WORDS}
 use Rattle.std.proofs.Common.{◌≡◌, inl, inr, ℕ, zero, suc, ◌+◌, ◌-◌, ◌<◌, ◌≤◌, [], ◌∷◌, Some, None}
 use Rattle.std.proofs.Common.{pos, refl, sym, ap, ◌∙◌, subst, arith}
 use Rattle.std.specs.Prelude.{Option}
@@ -83,7 +84,7 @@ module _ (h : HoldsFor pair 4 (overlay_at start) start.state.maps) (alone : Halt
   after_is n v e = ap (λ (r : Run). r.maps) (state_is start fresh_is alone runs n v e)
 
   -- at the call, and behind its `xjmp`
-  before_call : (u : State Word) × (plain_run 23 start.state.maps ≡ went u) × Calm L 15 u
+  before_call : (u : State Word) × (plain_run 23 start.state.maps ≡ went u) × Calm L (CALL_WORDS - 1) u
   before_call =
       let at = matched g h.linked o0 start.state.maps h.holds 23 o4 (reached_by L o0 23 [] o4 told4) in
       let k = looks g h.linked o4 at.0 at.2 in
@@ -101,17 +102,18 @@ module _ (h : HoldsFor pair 4 (overlay_at start) start.state.maps) (alone : Halt
       let whole = there h alone runs agree in
       let behind = front 23 46 start.state.maps whole.0 (omega arith) whole.1 in
       let same : c.0 ≡ behind.0 = (let e : went c.0 ≡ went behind.0 = sym c.1 ∙ behind.1 in cc) in
-      let calm : Calm L 15 behind.0 = subst (λ x. Calm L 15 x) same c.2 in
-      let upto = front 15 23 behind.0 whole.0 (omega arith) behind.2 in
-      let mid = front (b - 23) 15 behind.0 upto.0 (omega (arith, low, high)) upto.1 in
+      let calm : Calm L (CALL_WORDS - 1) behind.0 = subst (λ x. Calm L (CALL_WORDS - 1) x) same c.2 in
+      let upto = front (CALL_WORDS - 1) 23 behind.0 whole.0 (omega arith) behind.2 in
+      let mid = front (b - 23) (CALL_WORDS - 1) behind.0 upto.0 (omega (arith, low, high)) upto.1 in
       let z : 23 + (b - 23) ≡ b = omega (arith, low) in
       let here : plain_run b start.state.maps ≡ went mid.0 =
       subst (λ n. run_of id id n start.state.maps ≡ went mid.0) z
       (run_then id id 23 (b - 23) start.state.maps behind.0 _ behind.1 mid.1) in
-      let left : 15 - (b - 23) ≡ suc (37 - b) = omega (arith, low, high) in
+      let left : (CALL_WORDS - 1) - (b - 23) ≡ suc (37 - b) = omega (arith, low, high) in
       let next = first_step (37 - b) mid.0 upto.0 (subst (λ n. run_of id id n mid.0 ≡ went upto.0) left mid.2)
       in
-      rw (after_is b mid.0 here) (calm_at L (b - 23) 15 behind.0 mid.0 next.0 calm (omega (arith, low, high))
+      rw (after_is b mid.0 here)
+      (calm_at L (b - 23) (CALL_WORDS - 1) behind.0 mid.0 next.0 calm (omega (arith, low, high))
       mid.1 next.1).0
 
   not_own : (k word : ℕ) (c : LineTold) → k < 6 → 6 ≤ word → word ≤ 8 → ¬ (IsOwnReturn start (39 + k) c word)

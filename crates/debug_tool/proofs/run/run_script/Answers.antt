@@ -1,7 +1,7 @@
 use Rattle.std.proofs.Common.{rules, ◌<◌, List, length, subst}
 use Rattle.std.specs.Prelude.{Result, Ok, Err, OnErr}
-use Rattle.debug_script.specs.declared.command.Command.{Command}
-use Rattle.debug_script.specs.declared.command.Command.TheVariants.{Forward}
+use Rattle.debug_script.specs.declared.command.DebugCommand.{DebugCommand}
+use Rattle.debug_script.specs.declared.command.DebugCommand.TheVariants.{Forward}
 use Rattle.debug_tool.specs.Faults.{StopsAtReply}
 use Rattle.debug_tool.proofs.Telling.{one_fails, one_told}
 use Rattle.debug_tool.proofs.run.run_script.Goals as goal
@@ -17,7 +17,7 @@ returns-in_err-run_command-clause-err g c =
     let lt : at < length items = search rules in
     let seen = g.S.Sink.seen in
     let e = c.in_err-run_command.ensures in
-    let P : List Command → _ = λ cs. StopsAtReply cs c.args.debugger.now (seen c.args.out.now)
+    let P : List DebugCommand → _ = λ cs. StopsAtReply cs c.args.debugger.now (seen c.args.out.now)
     c.run_command.new.debugger (seen c.run_command.new.out) in
     on_err c.from_residual.result _ (subst P c.commands-command-items.ensures.are
     (one_fails _ _ items at _ _ (Forward 0) lt c.loop-command.invariant _ _ e.err e.counted e.after))

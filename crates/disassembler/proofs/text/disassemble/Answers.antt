@@ -1,7 +1,7 @@
 use Rattle.std.proofs.Common.{◌≡◌, ℕ, ◌<◌, ◌^◌, length, Ok, subst, List, [], ◌∷◌, ◌++◌, append_assoc}
 use Rattle.std.proofs.Common.{append-nil, decimal}
 use Rattle.std.specs.List.{flat_map, concat}
-use Rattle.asm_fields.specs.declared.directives.Item.TheVariants as item
+use Rattle.asm_fields.specs.declared.directives.ItemKind.TheVariants as item
 use Rattle.disassembler.specs.Disassembled.{item_line, flag_line, stretch_line, code_line, word_line}
 use Rattle.disassembler.specs.Disassembled.{import_line, export_line, site_line, optional_line, row_line}
 use Rattle.disassembler.specs.Disassembled.{disassembled}

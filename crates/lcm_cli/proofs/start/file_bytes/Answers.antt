@@ -8,7 +8,7 @@ use Rattle.std.proofs.lemmas.Result.{err_from_is_err_and}
 use Rattle.file_plans.specs.Plans.{file, unless, Comes, Meets}
 use Rattle.lcm_cli.specs.Parts.{loaded}
 use Rattle.lcm_cli.specs.Commands.{linked_image}
-use Rattle.lcm_cli.specs.Jobs.{FollowsImage}
+use Rattle.lcm_cli.specs.ReadyTasks.{FollowsImage}
 use Rattle.file_plans.proofs.Offers.{follows_meets, unless_made}
 use Rattle.lcm_cli.proofs.start.file_bytes.Goals as goal
 

@@ -7,7 +7,7 @@ use Rattle.file_plans.specs.declared.refusal.Refusal.TheVariants.{Image}
 use Rattle.file_plans.specs.Plans.{file, unless, Comes}
 use Rattle.lcm_cli.specs.Parts.{loaded}
 use Rattle.lcm_cli.specs.Commands.{linked_image}
-use Rattle.lcm_cli.specs.Jobs.{FollowsStart, MeetsStart}
+use Rattle.lcm_cli.specs.ReadyTasks.{FollowsStart, MeetsStart}
 use Rattle.file_plans.proofs.Offers.{follows_meets}
 use Rattle.lcm_cli.proofs.start.image_start.Goals as goal
 

@@ -10,7 +10,7 @@ use Rattle.file_plans.specs.declared.refusal.Refusal.TheVariants.{Rule}
 use Rattle.file_plans.specs.Plans.{unless, each_at, Comes, Meets}
 use Rattle.lcm_cli.specs.Parts.{linked, part_at}
 use Rattle.lcm_cli.specs.Commands.{linked_parts}
-use Rattle.lcm_cli.specs.Jobs.{without, FollowsImage}
+use Rattle.lcm_cli.specs.ReadyTasks.{without, FollowsImage}
 use Rattle.file_plans.proofs.Offers.{unless_gave}
 use Rattle.lcm_cli.proofs.Linking.{image_with, linked_comes, linked_unread, linked_stops, loaded_again}
 use Rattle.lcm_cli.proofs.start.parts_bytes.Goals as goal

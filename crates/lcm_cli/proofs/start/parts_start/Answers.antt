@@ -11,7 +11,7 @@ use Rattle.file_plans.specs.Plans.{unless, each_at, Comes, Meets}
 use Rattle.component_linker.specs.LinkedStarts.{IsStartOf}
 use Rattle.lcm_cli.specs.Parts.{linked, part_at}
 use Rattle.lcm_cli.specs.Commands.{linked_parts}
-use Rattle.lcm_cli.specs.Jobs.{without, FollowsStart}
+use Rattle.lcm_cli.specs.ReadyTasks.{without, FollowsStart}
 use Rattle.lcm_cli.proofs.Linking.{image_with, linked_comes, linked_unread, linked_stops}
 use Rattle.lcm_cli.proofs.start.parts_start.Goals as goal
 

@@ -7,7 +7,7 @@ use Rattle.lcm_cli.proofs.LoadsMade.{loads}
 use Rattle.lcm_cli.proofs.Audits.{audits}
 use Rattle.lcm_cli.proofs.DebugsMade.{debugs}
 use Rattle.lcm_cli.proofs.MeaningMade.{means}
-use Rattle.lcm_cli.proofs.SourcesMade.{sources_told}
+use Rattle.lcm_cli.proofs.SourcesMade.{modules_told, sources_told}
 use Rattle.lcm_cli.proofs.RunsMade.{all_of, runs, traces, reaches, run_cut, trace_cut}
 use Rattle.lcm_cli.proofs.top.stk_main.Goals as goal
 
@@ -110,3 +110,25 @@ returns-clause-sourced g c = λ words stack steps e sources a.
     })
     (asked_in (texts c.args.words.now.items)) (c.commands_fit.ensures (texts c.args.words.now.items)) _ _ _
     a words stack steps e sources
+
+pub returns-clause-compiled : goal.returns-clause-compiled
+returns-clause-compiled g c = λ l steps e a.
+    modules_told
+    (record {
+      starts =
+          all_of c.open_calls_are_kept.ensures.kept c.frames_are_secret.ensures.secret
+          c.the_headline.ensures.holds;
+      pass = c.runs_pass.ensures;
+      sources = record {
+        limits = c.sources_are_modules.ensures.limits;
+        resolved = c.sources_are_modules.ensures.resolved;
+        compiled_from = c.sources_are_modules.ensures.compiled;
+      };
+      mean = c.runs_mean.ensures;
+      show = c.sources_show_nothing_else.ensures;
+      begin = c.stacks_begin.ensures;
+      tells = c.texts_tell_items.ensures.runs;
+      keep = c.linked_modules_keep_rules.ensures;
+    })
+    (asked_in (texts c.args.words.now.items)) (c.commands_fit.ensures (texts c.args.words.now.items)) _ _ _
+    a l steps e

@@ -5,7 +5,7 @@ use Rattle.lcm_isa.specs.declared.Reg.TheVariants.{Dat, G0, G1}
 use Rattle.lcm_isa.specs.declared.Operand.TheVariants.{R}
 use Rattle.lcm_isa.specs.declared.Instr.TheVariants.{Move, Load}
 use Rattle.proc_templates.specs.Items.{Item, does}
-use Rattle.proc_program.specs.declared.program.Arg.{Arg}
+use Rattle.proc_program.specs.declared.program.ArgExp.{ArgExp}
 use Rattle.proc_program.specs.View.{args_of}
 use Rattle.proc_templates.specs.Templates.{args_code, code, at_row}
 use Rattle.proc_compiler.specs.Drafts.{with_items}
@@ -15,7 +15,8 @@ use Rattle.proc_compiler.proofs.exprs.+expr.Goals as goal
 pub values-returns-in-None-clause-written : goal.values-returns-in-None-clause-written
 values-returns-in-None-clause-written t c =
     let d = c.args.draft.now in
-    subst (λ (args : List Arg). d ≡ with_items (args_code c.args.f c.args.slot c.args.from (args_of args)) d)
+    subst (λ (args : List ArgExp). d
+    ≡ with_items (args_code c.args.f c.args.slot c.args.from (args_of args)) d)
     (sym (nil_from_length c.args.args.now c.in-None.ensures.cases)) (sym (items_nil d))
 
 pub element-returns-clause-written : goal.element-returns-clause-written

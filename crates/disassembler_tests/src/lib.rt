@@ -1,7 +1,0 @@
-//! Tests of the texts of components, apart from them: a crate with tests is proved twice.
-#![tactic(auto)]
-
-#[cfg(test)]
-mod examples;
-#[cfg(test)]
-mod tests;

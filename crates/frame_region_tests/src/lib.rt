@@ -1,5 +1,0 @@
-//! A test of regions, apart from them: a crate with tests is proved twice.
-#![tactic(auto)]
-
-#[cfg(test)]
-mod tests;

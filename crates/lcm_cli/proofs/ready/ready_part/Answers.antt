@@ -1,0 +1,14 @@
+use Rattle.std.proofs.Common.{refl}
+use Rattle.lcm_cli.specs.declared.ready.ReadyTask.TheVariants.{Say}
+use Rattle.lcm_cli.specs.Parts.{part_at}
+use Rattle.lcm_cli.specs.Commands.{Write, ok_text}
+use Rattle.lcm_cli.proofs.Tasks.{task_done, task_stops}
+use Rattle.lcm_cli.proofs.ready.ready_part.Goals as goal
+
+pub returns-in_err-part : goal.returns-in_err-part
+returns-in_err-part g c =
+    task_stops (part_at 0 c.args.word.now) (λ _. Write ok_text) _ _ c.in_err-part.field-0.0
+    c.from_residual.result c.from_residual.ensures.1 c.in_err-part.ensures
+
+pub returns : goal.returns
+returns g c = task_done (part_at 0 c.args.word.now) (λ _. Write ok_text) _ _ _ Say c.in_ok-part.ensures refl
