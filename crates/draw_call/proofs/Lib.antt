@@ -1,0 +1,5 @@
+mod Rows
+mod Drawn
+mod Follow
+mod Caused
+mod Complete

@@ -1,0 +1,29 @@
+//! What holds of the answers of a call. These functions do nothing; their contracts are the laws.
+ghost use Rattle.std.specs.Prelude.{Option};
+ghost use Rattle.draw_call.specs.declared.status.DrawStatus.{DrawStatus};
+ghost use Rattle.draw_call.specs.declared.words.DrawCall.{DrawCall};
+ghost use Rattle.draw_call.specs.Answers.{Answers, CallSeen};
+ghost use Rattle.draw_call.specs.Causes.{Cause, StayAt, IsComplete};
+
+use run_audit::laws::traces_are_found;
+
+/// Each status has its cause.
+pub fn each_status_has_its_cause()
+    ensures { (asked : Option DrawCall) (old : CallSeen) (status : DrawStatus) (new : CallSeen)
+        → Answers asked old status new → Cause asked old status new }
+{
+    traces_are_found();
+}
+
+/// Where the files tell what they hold and nothing outside fails, the words and the bytes of the file of
+/// `--feed` alone determine the answer, unless memory is refused.
+pub fn one_answer_is_due()
+    ensures { (asked : Option DrawCall) (old : CallSeen) (status : DrawStatus) (new : CallSeen)
+        → Answers asked old status new → IsComplete asked old status new }
+{}
+
+/// No file is changed but that of `--out`, and that one only where the status is Done or WriteFault.
+pub fn other_files_stay()
+    ensures { (asked : Option DrawCall) (old : CallSeen) (status : DrawStatus) (new : CallSeen)
+        → Answers asked old status new → StayAt asked old.files status new.files }
+{}

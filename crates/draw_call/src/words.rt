@@ -1,0 +1,91 @@
+//! The words of the command line: what they ask for, and nothing where they are no command.
+ghost use Rattle.std.specs.Prelude.{◌≡◌, IfOk, false};
+ghost use Rattle.std.specs.Option.{option_map};
+ghost use Rattle.clap.specs.Words.{app_of, first_of, found_of, rows_of, rule_of};
+ghost use Rattle.command_words.specs.Name.{file_of};
+ghost use Rattle.command_words.specs.Texts.{texts};
+ghost use Rattle.draw_call.specs.Words.{required, draw_line, draw_rows, call_of, call_in};
+ghost use Rattle.draw_call.specs.Answers.{Asks};
+
+use crate::refusal::{DrawRefusal, DrawStop};
+use clap::error::ErrorKind;
+use clap::{Arg, ArgMatches, Command};
+use command_words::FileName;
+use std::alloc::{AllocError, Global};
+
+/// A call of the program: whose text is drawn, and where the picture is put.
+#[derive(Debug, Drop)]
+pub struct DrawCall<'a> {
+    /// The file of `--feed`.
+    pub feed: FileName<'a>,
+    /// The file of `--out`.
+    pub out: FileName<'a>,
+}
+
+// `--name VALUE` or `--name=VALUE`, which must be used.
+fn required<'a>(alloc: Global, name: &'a str) -> Arg<'a>
+    ensures rule { rule_of result ≡ required name.entry.now }
+    ensures local { result.global ≡ false }
+{
+    Arg::new(alloc, name).long(name).required(true)
+}
+
+// The one simple command.
+fn line<'a>(alloc: Global) -> Result<Command<'a>, AllocError>
+    ensures { IfOk result (λ c. app_of c ≡ draw_line) }
+{
+    let command = Command::new(alloc, "stk_draw")
+        .arg(required(alloc, "feed"))?
+        .arg(required(alloc, "out"))?;
+    Ok(command.no_binary_name(true))
+}
+
+// The matches of the words, and None exactly where the command line doesn't take them.
+fn matches<'a>(alloc: Global, words: &'a [String]) -> Result<Option<ArgMatches<'a>>, AllocError>
+    ensures { IfOk result (λ m. option_map (λ m. rows_of (found_of m)) m ≡ draw_rows (texts words.now)) }
+{
+    match line(alloc)?.try_get_matches_from(words) {
+        Ok(matches) => Ok(Some(matches)),
+        Err(error) => {
+            if error.kind() == ErrorKind::OutOfMemory {
+                Err(AllocError)
+            } else {
+                Ok(None)
+            }
+        }
+    }
+}
+
+// The file that an option names.
+fn file_of<'a>(matches: &ArgMatches<'a>, option: &str) -> Option<FileName<'a>>
+    ensures { result ≡ file_of (first_of option.now (rows_of (found_of matches.now))) }
+{
+    match matches.get_str(option) {
+        Some(name) => FileName::new(name),
+        None => None,
+    }
+}
+
+// The files that the options name.
+fn call_of<'a>(matches: &ArgMatches<'a>) -> Option<DrawCall<'a>>
+    ensures { result ≡ call_of (rows_of (found_of matches.now)) }
+{
+    let feed = file_of(matches, "feed")?;
+    let out = file_of(matches, "out")?;
+    Some(DrawCall { feed, out })
+}
+
+/// What the words ask for, which are those after the program's own name.
+///
+/// Usage comes exactly where they ask for nothing and memory wasn't refused first.
+pub(crate) fn call_in<'a>(alloc: Global, words: &'a [String]) -> Result<DrawCall<'a>, DrawStop>
+    ensures { Asks (call_in (texts words.now)) result }
+{
+    let Some(matches) = matches(alloc, words)? else {
+        return Err(DrawStop::Refused(DrawRefusal::Usage));
+    };
+    match call_of(&matches) {
+        Some(call) => Ok(call),
+        None => Err(DrawStop::Refused(DrawRefusal::Usage)),
+    }
+}

@@ -1,0 +1,12 @@
+mod Boxes
+mod Closing
+mod Cuts
+mod Drawn
+mod Escapes
+mod Fits
+mod Joined
+mod Lines
+mod Open
+mod Passes
+mod Stands
+mod Svg

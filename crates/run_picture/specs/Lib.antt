@@ -1,0 +1,14 @@
+pub mod Class
+pub mod Fault
+pub mod Shapes
+pub mod Turns
+pub mod Events
+pub mod Heights
+pub mod Held
+pub mod Page
+pub mod Groups
+pub mod Picture
+pub mod Laws
+pub mod HeightLaws
+pub mod OpenLaws
+pub mod SvgLaws
