@@ -1,18 +1,21 @@
 -- A step counts at most one, an ended machine stays as it is, and a run is where its instructions lead.
-use Rattle.std.proofs.Common.{◌≡◌, ◌≢◌, ℕ, zero, suc, ◌+◌, ◌≤◌, Option, Some, None, refl, sym, ap, subst, ◌∙◌}
+use Rattle.std.proofs.Common.{◌≡◌, ◌≢◌, ℕ, zero, suc, ◌+◌, ◌≤◌, ◌<◌, Option, Some, None, refl, sym, ap}
+use Rattle.std.proofs.Common.{subst, ◌∙◌}
 use Rattle.std.proofs.Common.{arith, add-one, inl, inr}
-use Rattle.std.specs.Prelude.{IfSome, Bool, true, false, is_some}
+use Rattle.std.specs.Prelude.{IfSome, Bool, true, false, not, ◌&&◌, is_some}
 use Rattle.std.proofs.lemmas.Bool.{cases_lt}
 use Rattle.cap_words.specs.declared.Word.{Word}
 use Rattle.lcm_machine.specs.declared.Step.{Step}
-use Rattle.lcm_machine.specs.declared.Step.TheVariants.{Went}
+use Rattle.lcm_machine.specs.declared.Step.TheVariants.{Went, Halted as AtHalt, Failed as AtFailure}
 use Rattle.lcm_machine.specs.declared.End.{End}
 use Rattle.lcm_machine.specs.declared.End.TheVariants.{Halted, Failed}
-use Rattle.lcm_machine.specs.declared.steps.OnXjmp.{OnXjmp}
-use Rattle.lcm_machine.specs.declared.steps.OnXjmp.TheVariants.{Make, Stop}
-use Rattle.lcm_machine.specs.Ends.{end_answer}
-use Rattle.lcm_machine.specs.Row.{Outcome, went, halted, failed, step_of}
+use Rattle.lcm_isa.specs.declared.Reg.{Reg}
+use Rattle.lcm_machine.specs.declared.steps.Which.{Which}
+use Rattle.lcm_machine.specs.declared.steps.Which.TheVariants.{All, Within}
+use Rattle.lcm_machine.specs.Ends.{end_answer, Meets}
+use Rattle.lcm_machine.specs.Row.{Outcome, went, halted, failed, step_of, pc_at, jump_at}
 use Rattle.lcm_machine.specs.Maps.{State}
+use Rattle.lcm_machine.specs.Within.{lies, is_of, is_next, within}
 use Rattle.lcm_machine.specs.Run.{Run, moved, next_by, next_state, jump_by, next_jump, answer, answer_by}
 use Rattle.lcm_machine.specs.Run.{plain}
 use Rattle.lcm_machine.specs.Run.{fresh, EndsAs}
@@ -89,53 +92,139 @@ pub plain_over : (n i : ℕ) (s t : Run) → i ≤ n → t ≡ plain i s → is_
 plain_over n i s t le at over =
     at ∙ sym (over_by n i s (plain i s).end refl (subst (λ (r : Run). is_some r.end ≡ true) at over) le)
 
-some_ended : (o : Option End) (r : Step) (t s : Run) → IfSome o (λ e. (r ≡ end_answer e) × (t ≡ s))
-    → IfSome o (λ e. (Some r ≡ Some (end_answer e)) × (t ≡ s))
-some_ended None r t s h = tt
-some_ended (Some e) r t s h = (ap Some h.0, h.1)
-
--- the same of a step that was made
-pub step_ended : (s t : Run) (r : Step) → t ≡ plain 1 s → r ≡ answer t
-    → IfSome s.end (λ e. (Some r ≡ Some (end_answer e)) × (t ≡ s))
-step_ended s t r k a = some_ended s.end r t s (run_ended 1 s t r k a)
-
--- ---- an `xjmp` that may be left out
-
--- an ended machine makes none
-no_jump : (o : Option End) (s : Run) → is_some o ≡ true → jump_by o s ≡ None
-no_jump None s h = absurd (cc)
-no_jump (Some e) s h = refl
-
-pub ended_jumps : (s : Run) → is_some s.end ≡ true → next_jump s ≡ None
-unfolding next_jump
-ended_jumps s h = no_jump s.end s h
-
-not_ended : (o : Option End) (s : Run) → is_some (jump_by o s) ≡ true → o ≡ None
-not_ended None s h = refl
-not_ended (Some e) s h = absurd (cc)
-
-pub jumps_on : (s : Run) → is_some (next_jump s) ≡ true → s.end ≡ None
-unfolding next_jump
-jumps_on s h = not_ended s.end s h
-
-no_answer : (o : Option End) (s t : Run) → o ≡ None
-    → IfSome o (λ e. ((let n : Option Step = None in n) ≡ Some (end_answer e)) × (t ≡ s))
-no_answer None s t h = tt
-no_answer (Some e) s t h = absurd (cc)
-
--- nothing is said of the end of a machine that hasn't ended
-pub left_ended : (s t : Run) → s.end ≡ None
-    → IfSome s.end (λ e. ((let n : Option Step = None in n) ≡ Some (end_answer e)) × (t ≡ s))
-left_ended s t h = no_answer s.end s t h
-
--- one is left out only where none is to be made
-pub left_out : (x : OnXjmp) (b : Bool) → (x ≡ Make → b ≡ true) → b ≡ false → x ≡ Stop
-left_out Make b h e = let k : true ≡ false = sym (h refl) ∙ e in absurd (cc)
-left_out Stop b h e = refl
-
 pub is_none : {A : Type 0} (o : Option A) → is_some o ≡ false → o ≡ None
 is_none None h = refl
 is_none (Some x) h = absurd (cc)
+
+-- ---- steps in a loop, which counts them behind it
+
+-- n steps of a run were made, each one of these, and are still to be counted
+pub record Making (which : Which) (s : Run) (n : ℕ) (t : Run) : Type 0 where
+  pub is : record t { count = t.count + n } ≡ plain n s
+  pub count : t.count ≡ s.count
+  pub on : t.end ≡ None
+  pub each : (k : ℕ) → k < n → is_next which (plain k s) ≡ true
+
+pub making_none : (which : Which) (s : Run) → is_some s.end ≡ false → Making which s 0 s
+making_none which s on = record {
+  is = let e : s.count + 0 ≡ s.count = omega arith in ap (λ k. let t : Run = record s { count = k } in t) e;
+  count = refl;
+  on = is_none s.end on;
+  each = λ k lt. absurd (omega (arith, lt));
+}
+
+-- how a machine has ended by a step that answered this, if it has
+abbrev end_by : Step → Option End
+end_by Went = None
+end_by AtHalt = Some Halted
+end_by (AtFailure cause at) = Some (Failed cause at)
+
+-- what a step answers and leaves is where it moves the machine
+met_moved : (s : State Word) (n : ℕ) (e : Option End) (o : Outcome Word) (r : Step) (t : State Word)
+    → Meets s o r t
+    → moved o (record { maps = s; count = n; end = e }) ≡ record { maps = t; count = n + 1; end = end_by r }
+met_moved s n e (went u) r t m = rw (m.0, m.1) refl
+met_moved s n e halted r t m = rw (m.0, m.1) refl
+met_moved s n e (failed f at) r t m = rw (m.0, m.1) refl
+
+-- one step more
+making_next : (which : Which) (s : Run) (n : ℕ) (t : Run) (r : Step) (maps : State Word)
+    → Making which s n t → Meets t.maps (step_of (λ w. w) (λ w. w) t.maps) r maps
+    → plain (n + 1) s ≡ record { maps = maps; count = t.count + n + 1; end = end_by r }
+unfolding next_state
+making_next which s n t r maps k m =
+    plain_more n s ∙ ap next_state (sym k.is) ∙ ap (λ e. next_by e (record t { count = t.count + n })) k.on
+    ∙ met_moved t.maps (t.count + n) t.end (step_of (λ w. w) (λ w. w) t.maps) r maps m
+
+-- whether the next step is one of these doesn't rest on the count
+next_is : (which : Which) (s : Run) (n : ℕ) (t : Run) (b : Bool) → Making which s n t
+    → is_of (λ w. w) which t.maps ≡ b → is_next which (plain n s) ≡ b
+unfolding is_next
+next_is which s n t b k e =
+    ap (is_next which) (sym k.is) ∙ ap (λ o. not (is_some o) && is_of (λ w. w) which t.maps) k.on ∙ e
+
+pub each_next : (which : Which) (s : Run) (n : ℕ) (t : Run) → Making which s n t
+    → is_of (λ w. w) which t.maps ≡ true → (k : ℕ) → k < n + 1 → is_next which (plain k s) ≡ true
+each_next which s n t m e k lt = elim (cases_lt k n) as (λ _. is_next which (plain k s) ≡ true) [
+  | inl below ↦ m.each k below
+  | inr above ↦ (let same : n ≡ k = omega arith in
+      subst (λ i. is_next which (plain i s) ≡ true) same (next_is which s n t true m e))
+]
+
+-- where it went, the loop goes on
+pub making_went : (which : Which) (s : Run) (n : ℕ) (t u : Run) → Making which s n t
+    → Meets t.maps (step_of (λ w. w) (λ w. w) t.maps) Went u.maps → u ≡ record t { maps = u.maps }
+    → is_of (λ w. w) which t.maps ≡ true → Making which s (n + 1) u
+making_went which s n t u k m same e =
+    let count : u.count ≡ t.count = ap (λ (r : Run). r.count) same in
+    let on : u.end ≡ None = ap (λ (r : Run). r.end) same ∙ k.on in
+    let c : u.count + (n + 1) ≡ t.count + n + 1 = omega (arith, count) in
+    record {
+      is = ap (λ c. let r : Run = record u { count = c } in r) c
+          ∙ ap (λ o. let r : Run = record { maps = u.maps; count = t.count + n + 1; end = o } in r) on
+          ∙ sym (making_next which s n t Went u.maps k m);
+      count = count ∙ k.count;
+      on = on;
+      each = each_next which s n t k e;
+    }
+
+-- where the machine ended, it did so by the last one
+pub making_ended : (which : Which) (s : Run) (n : ℕ) (t u v : Run) (r : Step) → Making which s n t
+    → Meets t.maps (step_of (λ w. w) (λ w. w) t.maps) r u.maps → u ≡ record t { maps = u.maps }
+    → v ≡ record u { count = u.count + n + 1; end = end_by r } → v ≡ plain (n + 1) s
+making_ended which s n t u v r k m same e =
+    let count : u.count ≡ t.count = ap (λ (r : Run). r.count) same in
+    e ∙ ap (λ c. let r : Run = record { maps = u.maps; count = c + n + 1; end = end_by r } in r) count
+    ∙ sym (making_next which s n t r u.maps k m)
+
+-- an ended machine makes none
+pub none_ended : (which : Which) (s : Run) → is_some s.end ≡ true → is_next which s ≡ false
+unfolding is_next
+none_ended which s e = ap (λ b. not b && is_of (λ w. w) which s.maps) e
+
+and_none : (b : Bool) → (b && false) ≡ false
+and_none true = refl
+and_none false = refl
+
+pub none_of : (which : Which) (s : Run) → is_of (λ w. w) which s.maps ≡ false → is_next which s ≡ false
+unfolding is_next
+none_of which s e = ap (λ b. not (is_some s.end) && b) e ∙ and_none (not (is_some s.end))
+
+ended_all : (b : Bool) → (not b && (true && true)) ≡ false → b ≡ true
+ended_all true e = refl
+ended_all false e = absurd (cc)
+
+over_all : (t : Run) → is_next All t ≡ false → is_some t.end ≡ true
+unfolding is_next is_of
+over_all t e = ended_all (is_some t.end) e
+
+-- where each step is to be made, all are, or all up to the end
+pub all_made : (n m : ℕ) (s t : Run) → t ≡ plain m s → m ≤ n → (m < n → is_next All t ≡ false)
+    → t ≡ plain n s
+all_made n m s t at le stops = elim (cases_lt m n) as (λ _. t ≡ plain n s) [
+  | inl below ↦ plain_over n m s t le at (over_all t (stops below))
+  | inr above ↦ (let same : m ≡ n = omega arith in subst (λ k. t ≡ plain k s) same at)
+]
+
+within_by : (o : Option End) (l : Bool) (j : Option Reg)
+    → (not (is_some o) && (l && not (is_some j))) ≡ true → (o ≡ None) × (l ≡ true) × (j ≡ None)
+within_by None true None e = (refl, refl, refl)
+within_by None true (Some r) e = absurd cc
+within_by None false j e = absurd cc
+within_by (Some x) l j e = absurd cc
+
+-- in a stretch the machine hasn't ended, pc's address is there, and the next step makes no `xjmp`
+pub within_parts : (from to : ℕ) (s : Run) → within from to s ≡ true
+    → (s.end ≡ None) × (lies from to (pc_at (λ w. w) s.maps) ≡ true) × (next_jump s ≡ None)
+unfolding within next_jump
+within_parts from to s e =
+    let p = within_by s.end (lies from to (pc_at (λ w. w) s.maps)) (jump_at (λ w. w) s.maps) e in
+    (p.0, p.1, ap (λ o. jump_by o s) p.0 ∙ p.2)
+
+-- what is next in a stretch
+pub next_within : (from to : ℕ) (s : Run) → within from to s ≡ is_next (Within from to) s
+unfolding within is_next is_of
+next_within from to s = refl
 
 -- ---- where the instructions lead
 

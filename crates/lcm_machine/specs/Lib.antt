@@ -14,6 +14,7 @@ pub mod Closed
 pub mod Acts
 pub mod Run
 pub mod Runs
+pub mod Within
 pub mod Fitting
 pub mod Back
 pub mod Refusals

@@ -1,22 +1,22 @@
 //! The plain machine: registers and memory of plain words, with a count of steps and an end.
-ghost use Rattle.std.specs.Prelude.{◌≡◌, ◌≢◌, ◌+◌, ◌<◌, ◌≤◌, ◌^◌, ℕ, IfOk, IfSome, IfNone, IsSome, is_some};
-ghost use Rattle.std.specs.Prelude.{IsTrue, Some, None, option_map, not, true, if◌then◌else◌, MatchResult};
+ghost use Rattle.std.specs.Prelude.{◌≡◌, ◌≢◌, ◌+◌, ◌<◌, ◌≤◌, ◌^◌, ℕ, IfOk, IfSome, IsSome, is_some};
+ghost use Rattle.std.specs.Prelude.{IsTrue, Some, None, option_map, true, false, MatchResult};
 ghost use Rattle.lcm_machine.specs.Places.{reg};
 ghost use Rattle.lcm_machine.specs.Cells.{cell};
 ghost use Rattle.lcm_isa.specs.declared.Reg.TheVariants.{Pc};
 ghost use Rattle.lcm_machine.specs.Row.{word_in, put, clear, HasPlace, faces, cell_faces, fetch, some, none};
 ghost use Rattle.lcm_machine.specs.Row.{pc_at};
-ghost use Rattle.lcm_machine.specs.declared.steps.OnXjmp.TheVariants.{Make, Stop};
 ghost use Rattle.lcm_machine.specs.Touched.{KeepsUntouched, SameCells};
 ghost use Rattle.lcm_machine.specs.Regions.{StaysHeldOnce};
 ghost use Rattle.lcm_machine.specs.Ends.{end_answer};
-ghost use Rattle.lcm_machine.specs.Run.{next_state, next_jump, answer, plain};
+ghost use Rattle.lcm_machine.specs.Run.{next_state, answer, plain};
+ghost use Rattle.lcm_machine.specs.Within.{is_next, within};
 ghost use Rattle.lcm_machine.specs.Back.{back, CanUndo, notes};
 ghost use Rattle.lcm_machine.specs.Spans.{AreSpans, in_spans, slot, zero_regs};
 
 use crate::cells::Span;
 use crate::state::State;
-use crate::steps::OnXjmp;
+use crate::steps::Which;
 use crate::undo::Undo;
 use crate::{End, FailCause, Place, Step};
 use cap_words::{Held, Word};
@@ -123,50 +123,46 @@ impl LcmState {
         self.maps.fetch()
     }
 
-    // One step of a machine that hasn't ended, unless it makes an `xjmp` and none is to be made: then
-    // nothing changes. Whether the step was made.
-    #[inline(always)]
-    #[tactic(auto, unfolding(crate::specs::Run::next_state, crate::specs::Run::next_jump))]
-    fn advance(&mut self, on_xjmp: OnXjmp) -> bool
-        requires room { self.old.count < 2 ^ 63 }
-        requires on { self.old.end ≡ None }
-        ensures made { on_xjmp ≡ Make → result ≡ true }
-        ensures unless { on_xjmp ≡ Stop → result ≡ not (is_some (next_jump self.old)) }
-        ensures after { self.new ≡ (if result then next_state self.old else self.old) }
+    // So many steps, as long as the next one is one of these and the machine hasn't ended. How many were
+    // made.
+    //
+    // Every step of this machine is made here: what instructions do is compiled once, into this loop. The
+    // count and the end are set behind it.
+    #[inline(never)]
+    fn go(&mut self, n: u64, which: Which) -> u64
+        requires room { self.old.count + n ≤ 2 ^ 63 }
+        ensures after { self.new ≡ plain result self.old }
+        ensures most { result ≤ n }
+        ensures made { (k : ℕ) → k < result → is_next which (plain k self.old) ≡ true }
+        ensures stops { result < n → is_next which self.new ≡ false }
     {
-        let Some(step) = self.maps.advance(on_xjmp) else {
-            return false;
-        };
-        self.count += 1;
-        match step {
-            Step::Went => {}
-            Step::Halted => self.end = Some(End::Halted),
-            Step::Failed(cause, at) => self.end = Some(End::Failed(cause, at)),
+        if self.end.is_some() {
+            return 0;
         }
-        true
+        for made in 0..n {
+            match self.maps.advance(which) {
+                Some(Step::Went) => {}
+                Some(Step::Halted) => return self.finish(made, End::Halted),
+                Some(Step::Failed(cause, at)) => return self.finish(made, End::Failed(cause, at)),
+                None => {
+                    self.count += made;
+                    return made;
+                }
+            }
+        }
+        self.count += n;
+        n
     }
 
-    // So many steps, or up to the end where that comes first; or one, unless it makes an `xjmp` and none is
-    // to be made: then nothing changes. Whether no `xjmp` was left out.
-    //
-    // Every step of this machine is made here: what instructions do is compiled once, into this loop.
-    #[inline(never)]
-    fn go(&mut self, n: u64, on_xjmp: OnXjmp) -> bool
-        requires room { self.old.count + n ≤ 2 ^ 63 }
-        requires one { on_xjmp ≡ Stop → n ≡ 1 }
-        ensures made { on_xjmp ≡ Make → result ≡ true }
-        ensures unless { on_xjmp ≡ Stop → result ≡ not (is_some (next_jump self.old)) }
-        ensures after { self.new ≡ (if result then plain n self.old else self.old) }
+    // The machine has ended so, by one step behind so many that went. How many that makes.
+    fn finish(&mut self, made: u64, end: End) -> u64
+        requires { self.old.count + made < 2 ^ 63 }
+        ensures all { result ≡ made + 1 }
+        ensures ended { self.new ≡ record self.old { count = self.old.count + made + 1; end = Some end } }
     {
-        for _i in 0..n {
-            if self.end.is_some() {
-                return true;
-            }
-            if !self.advance(on_xjmp) {
-                return false;
-            }
-        }
-        true
+        self.count += made + 1;
+        self.end = Some(end);
+        made + 1
     }
 
     /// One step: the machine fetches the instruction that pc names and carries it out.
@@ -189,7 +185,7 @@ impl LcmState {
         ensures untouched { KeepsUntouched (λ w. w) self.old.maps self.new.maps }
         ensures held_once { StaysHeldOnce (λ w. w) self.old.maps self.new.maps }
     {
-        let _ = self.go(1, OnXjmp::Make);
+        let _ = self.go(1, Which::All);
         self.last_answer()
     }
 
@@ -244,28 +240,6 @@ impl LcmState {
         self.end = end;
     }
 
-    /// The same step, unless it makes an `xjmp`: then `None`, and nothing changes. An ended machine
-    /// makes none.
-    pub fn step_unless_xjmp(&mut self) -> Option<Step>
-        requires { self.old.count < 2 ^ 63 }
-        ensures none { IfNone result (IsSome (next_jump self.old)) }
-        ensures same { IfNone result (self.new ≡ self.old) }
-        ensures some { IfSome result (λ _. next_jump self.old ≡ None) }
-        ensures after { IfSome result (λ _. self.new ≡ next_state self.old) }
-        ensures answer { IfSome result (λ step. step ≡ answer self.new) }
-        ensures ended { IfSome self.old.end (λ e. (result ≡ Some (end_answer e)) × (self.new ≡ self.old)) }
-        ensures stays { result ≢ Some Step.Went → self.new.maps ≡ self.old.maps }
-        ensures same_cells { SameCells self.old.maps self.new.maps }
-        ensures untouched { KeepsUntouched (λ w. w) self.old.maps self.new.maps }
-        ensures held_once { StaysHeldOnce (λ w. w) self.old.maps self.new.maps }
-    {
-        if self.go(1, OnXjmp::Stop) {
-            Some(self.last_answer())
-        } else {
-            None
-        }
-    }
-
     /// So many steps, or up to the end where that comes first. The answer is that of the last step,
     /// and after an end again that end.
     ///
@@ -279,8 +253,29 @@ impl LcmState {
         ensures same_cells { SameCells self.old.maps self.new.maps }
         ensures held_once { StaysHeldOnce (λ w. w) self.old.maps self.new.maps }
     {
-        let _ = self.go(n, OnXjmp::Make);
+        let _ = self.go(n, Which::All);
         self.last_answer()
+    }
+
+    /// Up to so many steps, each made where pc's address is `from` or above it and below `to`, and the
+    /// instruction there is no `xjmp`: it stops before the first step of which that doesn't hold, and
+    /// behind one that ends the machine. How many were made, and the answer of the last one; where none
+    /// was made that is `Went`, or how the machine had ended.
+    ///
+    /// The count may not pass 2^63. The spans stay, and so does which addresses have cells. No linear
+    /// memory comes to be held twice: [`State::step`] says in which sense.
+    pub fn run_within(&mut self, n: u64, from: u64, to: u64) -> (u64, Step)
+        requires { self.old.count + n ≤ 2 ^ 63 }
+        ensures after { self.new ≡ plain result.0 self.old }
+        ensures most { result.0 ≤ n }
+        ensures made { (k : ℕ) → k < result.0 → within from to (plain k self.old) ≡ true }
+        ensures stops { result.0 < n → within from to self.new ≡ false }
+        ensures answer { result.1 ≡ answer self.new }
+        ensures same_cells { SameCells self.old.maps self.new.maps }
+        ensures held_once { StaysHeldOnce (λ w. w) self.old.maps self.new.maps }
+    {
+        let made = self.go(n, Which::Within(from, to));
+        (made, self.last_answer())
     }
 
     // What the last step answered: how the machine ended, or that it went.

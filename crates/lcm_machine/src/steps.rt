@@ -1,5 +1,5 @@
 //! One step, for words of any kind.
-ghost use Rattle.std.specs.Prelude.{◌≡◌, ℕ, Option, None, IfOk, IfSome, IfNone, IsSome, is_some, false};
+ghost use Rattle.std.specs.Prelude.{◌≡◌, ℕ, Option, None, IfOk, IfSome, IfNone, is_some, true, false};
 ghost use Rattle.std.specs.Prelude.{MatchResult, pos};
 ghost use Rattle.cap_words.specs.Face.{CapInOrder};
 ghost use Rattle.cap_words.specs.declared.Face.{Face};
@@ -7,8 +7,8 @@ ghost use Rattle.lcm_isa.specs.declared.Reg.TheVariants.{Pc};
 ghost use Rattle.lcm_machine.specs.Ends.{Meets};
 ghost use Rattle.lcm_machine.specs.Touched.{KeepsUntouched, SameCells};
 ghost use Rattle.lcm_machine.specs.Regions.{StaysHeldOnce};
-ghost use Rattle.lcm_machine.specs.declared.steps.OnXjmp.TheVariants.{Make, Stop};
-ghost use Rattle.lcm_machine.specs.Row.{faces, cell_faces, fetch, fetch_word, jump_of, jump_at, step_of};
+ghost use Rattle.lcm_machine.specs.Within.{lies, stands_in, is_of};
+ghost use Rattle.lcm_machine.specs.Row.{faces, cell_faces, fetch, fetch_word, jump_of, pc_at, step_of};
 ghost use Rattle.lcm_machine.specs.Row.{none, some};
 
 use crate::state::State;
@@ -16,13 +16,13 @@ use crate::{FailCause, Step};
 use cap_words::{Cap, CapFields, Face, MachineWord, Word};
 use lcm_isa::{Instr, Reg, decode};
 
-/// What becomes of an `xjmp` that pc names.
+/// Which steps are made.
 #[derive(Clone, Copy)]
-pub(crate) enum OnXjmp {
-    /// It is made, as any other instruction.
-    Make,
-    /// It isn't made, and nothing changes.
-    Stop,
+pub(crate) enum Which {
+    /// All of them.
+    All,
+    /// Those that stand at an address from one on, up to below another, and make no `xjmp`.
+    Within(u64, u64),
 }
 
 // The instruction of the cell that pc's capability names, and pc's word with its address raised by
@@ -49,6 +49,18 @@ fn decoded(c: CapFields, at: u32, found: Option<Face>) -> Result<(Instr, Word), 
         ..c
     };
     Ok((instr, Word::Mem(Cap::of(next))))
+}
+
+// Whether an address is one from `from` on, up to below `to`.
+#[inline(always)]
+fn lies(from: u64, to: u64, at: i64) -> bool
+    ensures { result ≡ lies from to at }
+{
+    if at < 0 {
+        return false;
+    }
+    let at = at as u64;
+    from <= at && at < to
 }
 
 #[inline(always)]
@@ -111,23 +123,35 @@ impl<W: MachineWord> State<W> {
         decoded(c, at, found)
     }
 
-    // Fetches an instruction and carries it out, unless that is an `xjmp` and none is to be made: then
-    // `None`, and nothing changes. What instructions do is compiled into whatever calls this, and into
-    // `step`.
+    // Whether these are steps at pc's address.
     #[inline(always)]
-    #[tactic(auto, unfolding(crate::specs::Row::step_of, crate::specs::Row::jump_at))]
-    pub(crate) fn advance(&mut self, on_xjmp: OnXjmp) -> Option<Step>
-        ensures none { IfNone result (IsSome (jump_at W.look self.old)) }
-        ensures held { IfNone result (on_xjmp ≡ Stop) }
+    fn stands_in(&self, which: Which) -> bool
+        ensures { result ≡ stands_in which (pc_at W.look self.now) }
+    {
+        match which {
+            Which::All => true,
+            Which::Within(from, to) => lies(from, to, self.pc_at()),
+        }
+    }
+
+    // Fetches an instruction and carries it out, if that is one of these steps: else `None`, and nothing
+    // changes. What instructions do is compiled into whatever calls this, and into `step`.
+    #[inline(always)]
+    #[tactic(auto, unfolding(crate::specs::Row::step_of, crate::specs::Row::jump_at, crate::specs::Within::is_of))]
+    pub(crate) fn advance(&mut self, which: Which) -> Option<Step>
+        ensures none { IfNone result (is_of W.look which self.old ≡ false) }
         ensures same { IfNone result (self.new ≡ self.old) }
-        ensures some { on_xjmp ≡ Stop → IfSome result (λ _. jump_at W.look self.old ≡ None) }
+        ensures some { IfSome result (λ _. is_of W.look which self.old ≡ true) }
         ensures meets { IfSome result (λ step.
             Meets self.old (step_of W.look W.plain self.old) step self.new) }
     {
+        if !self.stands_in(which) {
+            return None;
+        }
         match self.fetch_on() {
             Err(cause) => Some(Step::Failed(cause, self.pc_at())),
             Ok((instr, next)) => {
-                if is_xjmp(instr) && matches!(on_xjmp, OnXjmp::Stop) {
+                if is_xjmp(instr) && matches!(which, Which::Within(_, _)) {
                     None
                 } else {
                     Some(self.execute(instr, next))

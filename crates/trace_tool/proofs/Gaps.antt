@@ -77,7 +77,7 @@ inward_same Went inward = refl
 inward_same Halted inward = refl
 inward_same (Failed c at) inward = refl
 
-abbrev HasNone : Layout → Watched → Type 0
+abbrev pub HasNone : Layout → Watched → Type 0
 HasNone l w = (line_next l w ≡ []) × ((watched_next l w).inward ≡ w.inward)
 
 quiet_none : (l : Layout) (s : State Word) (n : ℕ) (inward : Bool) → IsQuiet l s

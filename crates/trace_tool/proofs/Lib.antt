@@ -9,6 +9,7 @@ pub mod Tracing
 mod Untrusted
 mod Between
 mod Gaps
+mod InGaps
 mod ReturnLines
 mod LinesBracketed
 mod TraceTold

@@ -1,8 +1,10 @@
 -- Addresses at which no site ends.
-use Rattle.std.specs.Prelude.{◌≡◌, ℕ, zero, suc, ◌+◌, ◌-◌, ◌^◌, ◌<◌, ◌≤◌, nat_lt, nat_le, Bool, false, ◌&&◌}
+use Rattle.std.specs.Prelude.{◌≡◌, ℕ, zero, suc, ◌+◌, ◌-◌, ◌^◌, ◌<◌, ◌≤◌, nat_lt, Bool, true, false}
 use Rattle.std.specs.Prelude.{if◌then◌else◌, ℤ, pos, negsuc, List, length, slice_index_or}
 use Rattle.std.specs.List.{All}
 use Rattle.call_sequence.specs.declared.TheConstants.{CALL_WORDS, RETURN_WORDS}
+use Rattle.lcm_machine.specs.Run.{Run, plain}
+use Rattle.lcm_machine.specs.Within.{lies, within}
 use Rattle.component_linker.specs.declared.owners.Site.{Site}
 use Rattle.trace_tool.specs.declared.gap.Gap.{Gap}
 use Rattle.trace_tool.specs.Layout.{no_site}
@@ -13,12 +15,15 @@ last_word s = s.at + (CALL_WORDS + RETURN_WORDS - 1)
 
 -- whether an address is in the gap
 abbrev pub has : Gap → ℤ → Bool
-has g (pos a) = nat_le g.from a && nat_lt a g.to
-has g (negsuc n) = false
+has g z = lies g.from g.to z
 
 -- no site ends there
 abbrev pub IsGap : List Site → Gap → Type 0
 IsGap sites g = All (λ s. has g (pos (last_word s)) ≡ false) sites
+
+-- so many instructions of a machine stand in the gap, and none is an `xjmp`
+abbrev pub AreWithin : Gap → Run → ℕ → Type 0
+AreWithin g r n = (k : ℕ) → k < n → within g.from g.to (plain k r) ≡ true
 
 -- around an address, or right behind it
 abbrev pub IsAround : ℕ → Gap → Type 0

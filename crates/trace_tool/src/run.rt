@@ -7,9 +7,10 @@ ghost use Rattle.component_linker.specs.LinkedStarts.{IsLinkedStart};
 ghost use Rattle.trace_tool.specs.Headline.{Headline};
 ghost use Rattle.trace_tool.specs.OpenCalls.{CallsAreKept};
 ghost use Rattle.outside_io.specs.Writes.{Writes};
-ghost use Rattle.lcm_machine.specs.Run.{next_state, answer};
+ghost use Rattle.lcm_machine.specs.Run.{next_state, plain, answer};
 ghost use Rattle.trace_tool.specs.Layout.{layout};
-ghost use Rattle.trace_tool.specs.Gaps.{IsGap};
+ghost use Rattle.trace_tool.specs.EndLines.{end_line};
+ghost use Rattle.trace_tool.specs.Gaps.{IsGap, AreWithin};
 ghost use Rattle.trace_tool.specs.Texts.{lines_pieces};
 ghost use Rattle.trace_tool.specs.Runs.{watching, watched_next, line_next, end_of, Runs, EndsBy};
 
@@ -61,31 +62,6 @@ fn noted_turn<S: Sink>(start: &mut Start, inward: &mut bool, out: &mut S) -> Res
     }
 }
 
-// The same. In the gap an instruction has no line, unless it is an `xjmp`, and so nothing is looked up.
-fn turn<S: Sink>(
-    start: &mut Start,
-    inward: &mut bool,
-    gap: &mut Gap,
-    out: &mut S,
-) -> Result<Step, Failed>
-    requires count { start.old.state.count < 2 ^ 63 }
-    requires gap { IsGap start.old.sites gap.old }
-    ensures gap { IsGap start.new.sites gap.new }
-    ensures state { start.new ≡ record start.old { state = next_state start.old.state } }
-    ensures inward { let w = watching start.old inward.old in
-        inward.new ≡ (watched_next (layout start.old) w).inward }
-    ensures answer { IfOk result (λ s. s ≡ answer (next_state start.old.state)) }
-    ensures line { let lines = line_next (layout start.old) (watching start.old inward.old) in
-        Writes (S.seen out.old) (lines_pieces lines) result (S.seen out.new) }
-{
-    if !gap.has(start.state().pc_at()) {
-        *gap = gap_around(start);
-    } else if let Some(step) = start.state_mut().step_unless_xjmp() {
-        return Ok(step);
-    }
-    noted_turn(start, inward, out)
-}
-
 /// Writes a last line, in one piece, and answers the end, or that the write failed.
 pub(crate) fn finish<S: Sink>(out: &mut S, line: &str, end: RunEnd) -> RunEnd
     requires { 0 < length line.now }
@@ -107,6 +83,15 @@ fn end_of(step: Step) -> RunEnd
     }
 }
 
+// Writes the end line of a machine that has come to this step.
+fn end_run<S: Sink>(start: &Start, step: Step, out: &mut S) -> RunEnd
+    requires { step ≡ answer start.now.state }
+    ensures { EndsBy (S.seen out.old) (end_line start.now.state) (end_of step) (S.seen out.new) result }
+{
+    let line = end_line(start.state(), step);
+    finish(out, line.as_str(), end_of(step))
+}
+
 // Whether a part is trusted: without one there are no events.
 fn has_trusted(start: &Start) -> bool
     ensures { result ≡ list_any (λ o. o.trusted) start.now.owners }
@@ -121,8 +106,64 @@ fn run_untrusted<S: Sink>(start: &mut Start, steps: u64, out: &mut S) -> RunEnd
     ensures { Runs start.old steps (S.seen out.old) start.new (S.seen out.new) result }
 {
     let step = start.state_mut().run(steps);
-    let line = end_line(start.state(), step);
-    finish(out, line.as_str(), end_of(step))
+    end_run(start, step, out)
+}
+
+// Makes up to so many instructions in a gap, as long as none is an `xjmp`. How many were made, and what
+// the last one came to.
+fn stretch(start: &mut Start, left: u64, gap: Gap) -> (u64, Step)
+    requires { start.old.state.count + left ≤ 2 ^ 63 }
+    ensures state { start.new ≡ record start.old { state = plain result.0 start.old.state } }
+    ensures most { result.0 ≤ left }
+    ensures within { AreWithin gap start.old.state result.0 }
+    ensures last { result.1 ≡ answer start.new.state }
+{
+    start.state_mut().run_within(left, gap.from, gap.to)
+}
+
+// This gap where pc stands in it, and else the one around pc.
+fn gap_ahead(start: &Start, gap: Gap) -> Gap
+    requires { IsGap start.now.sites gap }
+    ensures { IsGap start.now.sites result }
+{
+    if gap.has(start.state().pc_at()) {
+        gap
+    } else {
+        gap_around(start)
+    }
+}
+
+// Runs so many instructions, and writes the line of each event and the end line. In a gap an instruction
+// has no line, unless it is an `xjmp`: so a whole stretch of them is made with nothing looked up, and then
+// one that may have a line.
+fn run_noted<S: Sink>(start: &mut Start, steps: u64, out: &mut S) -> RunEnd
+    requires fresh { start.old.state.end ≡ None }
+    requires count { start.old.state.count + steps ≤ 2 ^ 63 }
+    ensures { Runs start.old steps (S.seen out.old) start.new (S.seen out.new) result }
+{
+    let mut inward = false;
+    let mut gap = gap_around(start);
+    let mut done = 0;
+    'turns: loop {
+        let (made, last) = stretch(start, steps - done, gap);
+        done += made;
+        if last != Step::Went {
+            return end_run(start, last, out);
+        }
+        if done == steps {
+            return end_run(start, Step::Went, out);
+        }
+        match noted_turn(start, &mut inward, out) {
+            Ok(step) => {
+                if step != Step::Went {
+                    return end_run(start, step, out);
+                }
+            }
+            Err(Failed) => return RunEnd::WriteFault,
+        }
+        done += 1;
+        gap = gap_ahead(start, gap);
+    }
 }
 
 /// Runs the machine of a start for so many instructions, or up to its end, and writes the line of
@@ -144,22 +185,9 @@ pub fn run_plain<S: Sink>(start: &mut Start, steps: u64, out: &mut S) -> RunEnd
 {
     the_headline();
     open_calls_are_kept();
-    if !has_trusted(start) {
-        return run_untrusted(start, steps, out);
+    if has_trusted(start) {
+        run_noted(start, steps, out)
+    } else {
+        run_untrusted(start, steps, out)
     }
-    let mut inward = false;
-    let mut gap = gap_around(start);
-    for _i in 0..steps {
-        match turn(start, &mut inward, &mut gap, out) {
-            Ok(step) => {
-                if step != Step::Went {
-                    let line = end_line(start.state(), step);
-                    return finish(out, line.as_str(), end_of(step));
-                }
-            }
-            Err(Failed) => return RunEnd::WriteFault,
-        }
-    }
-    let line = end_line(start.state(), Step::Went);
-    finish(out, line.as_str(), RunEnd::Running)
 }

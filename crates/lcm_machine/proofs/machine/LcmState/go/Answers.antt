@@ -1,86 +1,87 @@
-use Rattle.std.proofs.Common.{◌≡◌, ◌≤◌, refl, sym, ap, subst, ◌∙◌, arith, rules}
-use Rattle.std.specs.Prelude.{true, false, not, is_some, if◌then◌else◌}
-use Rattle.std.proofs.lemmas.Bool.{not-true}
-use Rattle.lcm_machine.specs.Run.{Run, plain, next_state, next_jump}
-use Rattle.lcm_machine.proofs.RunLemmas.{count_next, plain_more, plain_over, ended_jumps}
-use Rattle.lcm_machine.proofs.RunLemmas.{left_out, is_none}
+use Rattle.std.proofs.Common.{◌+◌, Some, ◌∙◌, ap, refl, sym, subst, arith, rules}
+use Rattle.std.specs.Int.{w64}
+use Rattle.std.proofs.lemmas.Int.{to_z-of_z}
+use Rattle.lcm_machine.specs.declared.End.TheVariants.{Failed as AtFailure}
+use Rattle.lcm_machine.specs.Ends.{Meets}
+use Rattle.lcm_machine.specs.Row.{step_of}
+use Rattle.lcm_machine.specs.declared.Step.TheVariants.{Halted, Failed}
+use Rattle.lcm_machine.specs.Run.{Run, plain}
+use Rattle.lcm_machine.specs.Within.{is_of}
+use Rattle.lcm_machine.proofs.RunLemmas.{Making, making_none, making_went, making_ended, each_next}
+use Rattle.lcm_machine.proofs.RunLemmas.{none_ended, none_of}
+use Rattle.std.specs.Prelude.{is_some}
 use Rattle.lcm_machine.proofs.machine.LcmState.go.Goals as goal
 
-pub loop-i-init : goal.loop-i-init
-loop-i-init c = (refl, omega arith, λ stop some. absurd (omega (arith, some)))
+pub loop-made-init : goal.loop-made-init
+loop-made-init c = making_none c.args.which c.args.self.now (search rules)
 
-pub returns-then-is_some-clause-unless : goal.returns-then-is_some-clause-unless
-returns-then-is_some-clause-unless c = λ stop.
-    let over : is_some c.loop-i.self.end ≡ true = search rules in
-    let one = c.requires.one stop in
-    let lt = c.loop-i-test.true in
-    let zero : c.loop-i._i ≡ 0 = omega (arith, one, lt) in
-    let same : c.loop-i.self ≡ c.args.self.now =
-    c.loop-i.invariant.0 ∙ ap (λ k. plain k c.args.self.now) zero in
-    sym (ap (λ o. not (is_some o))
-    (ended_jumps c.args.self.now (subst (λ (r : Run). is_some r.end ≡ true) same over)))
+pub returns-then-is_some-clause-stops : goal.returns-then-is_some-clause-stops
+returns-then-is_some-clause-stops c = λ lt. none_ended c.args.which c.args.self.now (search rules)
 
-pub returns-then-is_some-clause-after : goal.returns-then-is_some-clause-after
-returns-then-is_some-clause-after c =
-    let over : is_some c.loop-i.self.end ≡ true = search rules in
-    let before : c.loop-i._i ≤ c.args.n = omega arith in
-    plain_over c.args.n c.loop-i._i c.args.self.now c.loop-i.self before c.loop-i.invariant.0 over
+pub loop-made-preserved : goal.loop-made-preserved
+loop-made-preserved c =
+    let s = c.self-in-loop-made.inside in
+    let t : Run = record { maps = s.maps; count = s.count; end = s.end } in
+    let k = subst (Making c.args.which c.args.self.now c.loop-made.made) (sym c.self-in-loop-made.view_is)
+    c.loop-made.invariant in
+    let m = subst (λ r. Meets s.maps (step_of (λ w. w) (λ w. w) s.maps) r c.advance.new.self)
+    c.in-Some-Went.field-0-is c.in-Some-Went.ensures.meets in
+    making_went c.args.which c.args.self.now c.loop-made.made t (record t { maps = c.advance.new.self }) k m
+    refl c.in-Some-Went.ensures.some
 
-pub advance-requires : goal.advance-requires
-advance-requires c =
-    let room = c.requires.room in
-    let lt = c.loop-i-test.true in
-    let few = c.loop-i.invariant.1 in
-    let on : is_some c.loop-i.self.end ≡ false = search rules in
-    record { room = omega (arith, room, lt, few); on = is_none c.loop-i.self.end on }
+pub returns-in-Some-Halted : goal.returns-in-Some-Halted
+returns-in-Some-Halted c =
+    let s = c.self-in-loop-made.inside in
+    let t : Run = record { maps = s.maps; count = s.count; end = s.end } in
+    let k = subst (Making c.args.which c.args.self.now c.loop-made.made) (sym c.self-in-loop-made.view_is)
+    c.loop-made.invariant in
+    let m = subst (λ r. Meets s.maps (step_of (λ w. w) (λ w. w) s.maps) r c.advance.new.self)
+    c.in-Some-Halted.field-0-is c.in-Some-Halted.ensures.meets in
+    let lt = c.loop-made-test.true in
+    let all = c.finish.ensures.all in
+    record {
+      after = making_ended c.args.which c.args.self.now c.loop-made.made t
+          (record t { maps = c.advance.new.self }) c.finish.new.self Halted k
+          m refl c.finish.ensures.ended
+          ∙ ap (λ k. plain k c.args.self.now) (sym all);
+      most = omega (arith, lt, all);
+      made = rw all
+          (each_next c.args.which c.args.self.now c.loop-made.made t k c.in-Some-Halted.ensures.some);
+      stops = λ less. none_ended c.args.which c.finish.new.self
+          (ap (λ (r : Run). is_some r.end) c.finish.ensures.ended);
+    }
 
-pub returns-then-not-advance-clause-unless : goal.returns-then-not-advance-clause-unless
-returns-then-not-advance-clause-unless c = λ stop.
-    let one = c.requires.one stop in
-    let lt = c.loop-i-test.true in
-    let zero : c.loop-i._i ≡ 0 = omega (arith, one, lt) in
-    let same : c.loop-i.self ≡ c.args.self.now =
-    c.loop-i.invariant.0 ∙ ap (λ k. plain k c.args.self.now) zero in
-    sym c.if-not-advance.true ∙ c.advance.ensures.unless stop
-    ∙ ap (λ s. not (is_some (next_jump s))) same
+pub returns-in-Some-Failed : goal.returns-in-Some-Failed
+returns-in-Some-Failed c =
+    let s = c.self-in-loop-made.inside in
+    let t : Run = record { maps = s.maps; count = s.count; end = s.end } in
+    let k = subst (Making c.args.which c.args.self.now c.loop-made.made) (sym c.self-in-loop-made.view_is)
+    c.loop-made.invariant in
+    let m = subst (λ r. Meets s.maps (step_of (λ w. w) (λ w. w) s.maps) r c.advance.new.self)
+    c.in-Some-Failed.field-0-is c.in-Some-Failed.ensures.meets in
+    let at = to_z-of_z w64 c.in-Some-Failed.at (search rules) in
+    let lt = c.loop-made-test.true in
+    let all = c.finish-in-Some-Failed.ensures.all in
+    record {
+      after = making_ended c.args.which c.args.self.now c.loop-made.made t
+          (record t { maps = c.advance.new.self }) c.finish-in-Some-Failed.new.self
+          (Failed c.in-Some-Failed.cause c.in-Some-Failed.at) k m refl (c.finish-in-Some-Failed.ensures.ended
+          ∙ ap (λ z. let r : Run = record {
+            maps = c.advance.new.self;
+            count = s.count + c.loop-made.made + 1;
+            end = Some (AtFailure c.in-Some-Failed.cause z);
+          } in r) at)
+          ∙ ap (λ k. plain k c.args.self.now) (sym all);
+      most = omega (arith, lt, all);
+      made = rw all
+          (each_next c.args.which c.args.self.now c.loop-made.made t k c.in-Some-Failed.ensures.some);
+      stops = λ less. none_ended c.args.which c.finish-in-Some-Failed.new.self
+          (ap (λ (r : Run). is_some r.end) c.finish-in-Some-Failed.ensures.ended);
+    }
 
-pub returns-then-not-advance-clause-after : goal.returns-then-not-advance-clause-after
-returns-then-not-advance-clause-after c =
-    let no = c.if-not-advance.true in
-    let one = c.requires.one (left_out c.args.on_xjmp c.advance.result c.advance.ensures.made no) in
-    let lt = c.loop-i-test.true in
-    let zero : c.loop-i._i ≡ 0 = omega (arith, one, lt) in
-    c.advance.ensures.after ∙ ap (λ b. if b then next_state c.loop-i.self else c.loop-i.self) no
-    ∙ c.loop-i.invariant.0 ∙ ap (λ k. plain k c.args.self.now) zero
-
-pub loop-i-preserved : goal.loop-i-preserved
-loop-i-preserved c =
-    let made = c.if-not-advance.false in
-    let next : c.advance.new.self ≡ next_state c.loop-i.self =
-    c.advance.ensures.after ∙ ap (λ b. if b then next_state c.loop-i.self else c.loop-i.self) made in
-    let few = c.loop-i.invariant.1 in
-    let more = count_next c.loop-i.self in
-    let count = ap (λ (r : Run). r.count) next in (
-      next ∙ ap next_state c.loop-i.invariant.0 ∙ sym (plain_more c.loop-i._i c.args.self.now),
-      omega (arith, few, more, count),
-      λ stop some.
-          let one = c.requires.one stop in
-          let lt = c.loop-i-test.true in
-          let zero : c.loop-i._i ≡ 0 = omega (arith, one, lt) in
-          let same : c.loop-i.self ≡ c.args.self.now =
-          c.loop-i.invariant.0 ∙ ap (λ k. plain k c.args.self.now) zero in
-          let e : not (is_some (next_jump c.loop-i.self)) ≡ true =
-          sym (c.advance.ensures.unless stop) ∙ made in
-          ap next_jump (sym same) ∙ is_none (next_jump c.loop-i.self) (not-true _ e),
-    )
-
-pub returns-clause-unless : goal.returns-clause-unless
-returns-clause-unless c = λ stop.
-    let one = c.requires.one stop in
-    let some : 1 ≤ c.loop-i._i = omega (arith, one) in
-    sym (ap (λ o. not (is_some o)) (c.loop-i.invariant.2 stop some))
-
-pub returns-clause-after : goal.returns-clause-after
-returns-clause-after c =
-    let all : c.loop-i._i ≡ c.args.n = omega arith in
-    c.loop-i.invariant.0 ∙ ap (λ k. plain k c.args.self.now) all
+pub returns-in-None-clause-stops : goal.returns-in-None-clause-stops
+returns-in-None-clause-stops c = λ lt.
+    let s = c.self-in-loop-made.inside in
+    none_of c.args.which
+    (record { maps = c.advance.new.self; count = s.count + c.loop-made.made; end = s.end })
+    (ap (is_of (λ w. w) c.args.which) c.in-None.ensures.same ∙ c.in-None.ensures.none)

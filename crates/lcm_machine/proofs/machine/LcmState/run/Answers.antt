@@ -1,15 +1,17 @@
-use Rattle.std.proofs.Common.{◌≡◌, refl, ap, ◌∙◌}
-use Rattle.std.specs.Prelude.{if◌then◌else◌}
+use Rattle.std.proofs.Common.{◌≡◌}
 use Rattle.lcm_machine.specs.Run.{plain}
-use Rattle.lcm_machine.proofs.RunLemmas.{run_ended}
+use Rattle.lcm_machine.proofs.RunLemmas.{run_ended, all_made}
 use Rattle.lcm_machine.proofs.TouchLemmas.{plain_same}
 use Rattle.lcm_machine.proofs.HeldOnce.{plain_stays}
 use Rattle.lcm_machine.proofs.machine.LcmState.run.Goals as goal
 
 came : (c : goal.After-last_answer) → c.go.new.self ≡ plain c.args.n c.args.self.now
 came c =
-    c.go.ensures.after
-    ∙ ap (λ b. if b then plain c.args.n c.args.self.now else c.args.self.now) (c.go.ensures.made refl)
+    all_made c.args.n c.go.result c.args.self.now c.go.new.self c.go.ensures.after c.go.ensures.most
+    c.go.ensures.stops
+
+pub returns-clause-after : goal.returns-clause-after
+returns-clause-after c = came c
 
 pub returns-clause-ended : goal.returns-clause-ended
 returns-clause-ended c =

@@ -1,15 +1,17 @@
-use Rattle.std.proofs.Common.{◌≡◌, refl, ap, ◌∙◌}
-use Rattle.std.specs.Prelude.{if◌then◌else◌}
+use Rattle.std.proofs.Common.{◌≡◌, ap, ◌∙◌}
 use Rattle.lcm_machine.specs.Run.{plain, answer}
-use Rattle.lcm_machine.proofs.RunLemmas.{run_ended, next_stays}
+use Rattle.lcm_machine.proofs.RunLemmas.{run_ended, next_stays, all_made}
 use Rattle.lcm_machine.proofs.TouchLemmas.{next_state_same, next_state_untouched}
 use Rattle.lcm_machine.proofs.HeldOnce.{next_state_stays}
 use Rattle.lcm_machine.proofs.machine.LcmState.step.Goals as goal
 
 came : (c : goal.After-last_answer) → c.go.new.self ≡ plain 1 c.args.self.now
 came c =
-    c.go.ensures.after
-    ∙ ap (λ b. if b then plain 1 c.args.self.now else c.args.self.now) (c.go.ensures.made refl)
+    all_made 1 c.go.result c.args.self.now c.go.new.self c.go.ensures.after c.go.ensures.most
+    c.go.ensures.stops
+
+pub returns-clause-after : goal.returns-clause-after
+returns-clause-after c = came c
 
 pub returns-clause-ended : goal.returns-clause-ended
 returns-clause-ended c =
