@@ -1,5 +1,5 @@
 -- What instructions read of a word, and that the ranges in it are in order.
-use Rattle.std.specs.Prelude.{Option, Some, None}
+use Rattle.std.specs.Prelude.{ℤ, Option, Some, None}
 use Rattle.cap_words.specs.Ranges.{IsRange}
 use Rattle.cap_words.specs.declared.Lin.TheVariants.{Normal}
 use Rattle.cap_words.specs.declared.CapFields.{CapFields}
@@ -28,6 +28,13 @@ opened_of (Mem c) = None
 opened_of (Seal s) = None
 opened_of (SealedWord o (MemIn c)) = Some (record { seal = o; content = MemContent c })
 opened_of (SealedWord o (SealIn s)) = Some (record { seal = o; content = SealContent s })
+
+-- a word that looks like a memory capability, at another address; another word stays as it is
+abbrev pub pointed : {W : Type 0} → (Word → W) → ℤ → W → Word → W
+pointed plain addr w (Mem c) = plain (Mem (record c { addr = addr }))
+pointed plain addr w (Int n) = w
+pointed plain addr w (Seal s) = w
+pointed plain addr w (SealedWord o x) = w
 
 abbrev pub CapInOrder : CapFields → Type 0
 CapInOrder c = IsRange c.base c.end

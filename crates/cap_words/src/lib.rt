@@ -14,7 +14,7 @@ ghost use Rattle.cap_words.specs.declared.Word.{Word};
 ghost use Rattle.cap_words.specs.declared.Word.TheVariants.{Int};
 ghost use Rattle.cap_words.specs.Linear.{lin_is, is_linear, copied, left_of};
 ghost use Rattle.cap_words.specs.Face.{face_of, opened_of, FaceInOrder, OpenedInOrder, SomeCapInOrder};
-ghost use Rattle.cap_words.specs.Face.{SomeSealsInOrder};
+ghost use Rattle.cap_words.specs.Face.{SomeSealsInOrder, pointed};
 ghost use Rattle.cap_words.specs.Faces.{may_write, may_read, may_run, perm_number, perm_at, is_below};
 ghost use Rattle.cap_words.specs.Faces.{same_kind, int_in, memory_in, seals_in, face_linear, face_number};
 ghost use Rattle.cap_words.specs.Faces.{face_address, face_base, face_end, face_perm, seals_at, address};
@@ -258,6 +258,13 @@ impl Cap {
         ensures { result ≡ fields }
     {
         Cap { fields }
+    }
+
+    /// Points it to another address.
+    pub fn point_to(&mut self, addr: i64)
+        ensures { self.new ≡ record self.old { addr = addr } }
+    {
+        self.fields.addr = addr;
     }
 
     /// Its description.
@@ -640,6 +647,11 @@ pub trait MachineWord: Drop {
     fn from_word(word: Word) -> Self
         ensures { result ≡ plain word };
 
+    /// Points a word that looks like a memory capability to another address. Another word stays as it
+    /// is.
+    fn point_to(&mut self, addr: i64)
+        ensures { self.new ≡ pointed plain addr self.old (look self.old) };
+
     ghost looks_plain: { (word : Word) → look (plain word) ≡ word };
 }
 
@@ -666,6 +678,14 @@ impl MachineWord for Word {
 
     fn from_word(word: Word) -> Self {
         word
+    }
+
+    #[inline(always)]
+    fn point_to(&mut self, addr: i64) {
+        match self {
+            Word::Mem(c) => c.point_to(addr),
+            Word::Int(_) | Word::Seal(_) | Word::Sealed(_, _) => {}
+        }
     }
 
     ghost looks_plain = { λ w. refl };

@@ -10,7 +10,7 @@ use Rattle.lcm_machine.specs.declared.plan.Effect.{Effect}
 use Rattle.lcm_machine.specs.Plan.{Goes, IsJump, is_jump}
 use Rattle.lcm_machine.specs.Maps.{State}
 use Rattle.lcm_machine.specs.Places.{reg}
-use Rattle.lcm_machine.specs.Row.{perform, clear, plan_in, put, MoveFits}
+use Rattle.lcm_machine.specs.Row.{perform, clear, plan_in, put, CanPerform}
 use Rattle.lcm_machine.proofs.Plans.{Gives, gives_goes, Gives-need, Gives-ask, Gives-effect}
 
 module _ {W : Type 0} (look : W → Word) (s : State W) where
@@ -23,8 +23,8 @@ module _ {W : Type 0} (look : W → Word) (s : State W) where
       Gives-ask _ _ _ (λ _. Gives-need _ _ _ (λ c e. Gives-ask _ _ _ (λ _. Gives-ask _ _ _ (λ _.
       Gives-ask _ _ _ (λ _. gives_goes (is_jump _ _))))))))))
 
-  pub jump-fits : (r : Reg) (e : Effect) → IsJump r e → MoveFits s e.moved
-  jump-fits r e (is_jump v w) = tt
+  pub jump-can : (r : Reg) (e : Effect) → IsJump r e → CanPerform look s e
+  jump-can r e (is_jump v w) = (tt, tt, tt)
 
 -- it doesn't touch memory
 pub jump-cells : {W : Type 0} (look : W → Word) (plain : Word → W) (s : State W) (r : Reg) (e : Effect)

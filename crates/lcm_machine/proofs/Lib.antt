@@ -5,6 +5,7 @@ pub mod SpanLemmas
 pub mod StateLemmas
 pub mod Plans
 pub mod RowLemmas
+mod Onward
 mod RowsMet
 pub mod TouchLemmas
 pub mod JumpLemmas

@@ -22,7 +22,7 @@ pub use Rattle.lcm_machine.proofs.RowLemmas.{fetch_normal, fetch_some, look_memo
 pub use Rattle.lcm_machine.proofs.TouchLemmas.{after_each, after_went, fetched_row, plain_same, row_cells}
 pub use Rattle.lcm_machine.proofs.TouchLemmas.{row_others, there_same, touched_by, used_target}
 -- the effect of an `xjmp` that goes
-pub use Rattle.lcm_machine.proofs.JumpLemmas.{jump-cells, plan-jump}
+pub use Rattle.lcm_machine.proofs.JumpLemmas.{jump-can, jump-cells, plan-jump}
 -- a closed property of words is kept by every row
 pub use Rattle.lcm_machine.proofs.WordsKept.{row_keeps, step_keeps}
 -- words that have a spelling, along steps and runs

@@ -10,14 +10,14 @@ use Rattle.lcm_machine.specs.declared.plan.Effect.{Effect}
 use Rattle.lcm_machine.specs.Plan.{Goes}
 use Rattle.lcm_machine.specs.Maps.{State}
 use Rattle.lcm_machine.specs.Ends.{Meets}
-use Rattle.lcm_machine.specs.Row.{plan_in, planned, MoveFits, outcome, row}
-use Rattle.lcm_machine.proofs.RowLemmas.{plan_fits}
+use Rattle.lcm_machine.specs.Row.{plan_in, planned, CanPerform, GoesOnTo, outcome, row}
+use Rattle.lcm_machine.proofs.Onward.{plan_can}
 
 module _ {W : Type 0} (look : W → Word) (plain : Word → W) (s : State W) where
-  -- a row's answer that is its plan: the places of its move are there
-  pub planned_fits : (i : Instr) (next : Word) (a : Result Effect FailCause)
-      → planned a ≡ plan_in look s i next → (e : Effect) → planned a ≡ Goes e → MoveFits s e.moved
-  planned_fits i next a is e h = plan_fits look plain s i next e (sym is ∙ h)
+  -- a row's answer that is its plan can be carried out
+  pub planned_can : (i : Instr) (next : Word) (a : Result Effect FailCause) → GoesOnTo look s next
+      → planned a ≡ plan_in look s i next → (e : Effect) → planned a ≡ Goes e → CanPerform look s e
+  planned_can i next a g is e h = plan_can look plain s i next e g (sym is ∙ h)
 
   -- and it is carried out as the row
   pub planned_meets : (i j : Instr) (next : Word) (a : Result Effect FailCause) (step : Step) (t : State W)

@@ -1,6 +1,6 @@
 -- One instruction and one step, said once for words of any kind: `look` is the plain word that the table
 -- reads in a word, and `plain` makes a word of a plain one. On the plain machine both are the identity.
-use Rattle.std.specs.Prelude.{ℕ, ℤ, pos, negsuc, ◌+ℤ◌, Option, Some, None, if◌then◌else◌, unwrap_or, not}
+use Rattle.std.specs.Prelude.{ℕ, ℤ, pos, negsuc, ◌+ℤ◌, ◌≡◌, false, Option, Some, None, if◌then◌else◌, unwrap_or, not}
 use Rattle.std.specs.Prelude.{◌&&◌, IsSome, Result, Ok, Err}
 use Rattle.lcm_machine.specs.declared.Place.{Place}
 use Rattle.lcm_machine.specs.declared.Place.TheVariants.{R, Cell}
@@ -27,7 +27,7 @@ use Rattle.lcm_isa.specs.Numbers.{decode_of}
 use Rattle.lcm_machine.specs.Maps.{State}
 use Rattle.lcm_machine.specs.Places.{reg, set_reg}
 use Rattle.lcm_machine.specs.Cells.{cell, set_cell}
-use Rattle.lcm_machine.specs.Table.{plan, target}
+use Rattle.lcm_machine.specs.Table.{plan, target, is_pc}
 use Rattle.cap_words.specs.Faces.{target_of, may_run}
 
 -- the word at a place, if the place is there
@@ -114,6 +114,39 @@ planned (Err f) = Fails f
 abbrev pub MoveFits : {W : Type 0} → State W → Option Moved → Type 0
 MoveFits s None = Unit {0}
 MoveFits s (Some m) = HasPlace s m.from × HasPlace s m.to
+
+-- ---- pc goes on in its own word
+
+-- pc's word is a normal memory capability, and this is it at another address
+abbrev pub GoesOnTo : {W : Type 0} → (W → Word) → State W → Word → Type 0
+GoesOnTo look s w = (c : CapFields) × (addr : ℤ) × (look (reg s.regs Pc) ≡ Mem c) × (lin_is c.lin ≡ false)
+    × (w ≡ Mem (record c { addr = addr }))
+
+abbrev pub IsNoPc : Place → Type 0
+IsNoPc (R r) = is_pc r ≡ false
+IsNoPc (Cell a) = Unit {0}
+
+abbrev pub MovesElsewhere : Option Moved → Type 0
+MovesElsewhere None = Unit {0}
+MovesElsewhere (Some m) = IsNoPc m.to
+
+abbrev pub MakesElsewhere : Option Made → Type 0
+MakesElsewhere None = Unit {0}
+MakesElsewhere (Some m) = is_pc m.reg ≡ false
+
+-- where an effect sets pc to its next word, that is pc's own at another address, and the effect sets it to no
+-- other
+abbrev pub NextFits : {W : Type 0} → (W → Word) → State W → Option Word → Type 0
+NextFits look s None = Unit {0}
+NextFits look s (Some w) = GoesOnTo look s w
+
+abbrev pub SetsElsewhere : Option Word → Effect → Type 0
+SetsElsewhere None e = Unit {0}
+SetsElsewhere (Some w) e = MovesElsewhere e.moved × MakesElsewhere e.first × MakesElsewhere e.second
+
+-- an effect can be carried out in a state
+abbrev pub CanPerform : {W : Type 0} → (W → Word) → State W → Effect → Type 0
+CanPerform look s e = MoveFits s e.moved × NextFits look s e.next × SetsElsewhere e.next e
 
 -- how a step ends: with a new state, or with an end that leaves the state as it was
 pub data Outcome (W : Type 0) : Type 0 where

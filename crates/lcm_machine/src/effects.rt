@@ -1,6 +1,7 @@
 //! Effects carried out: takings before settings.
 ghost use Rattle.std.specs.Prelude.{◌≡◌};
-ghost use Rattle.lcm_machine.specs.Row.{perform, MoveFits, move_on, spend, make, go_on};
+ghost use Rattle.lcm_machine.specs.Row.{perform, MoveFits, move_on, spend, make, go_on, NextFits};
+ghost use Rattle.lcm_machine.specs.Row.{CanPerform};
 
 use crate::Place;
 use crate::plan::{Effect, Made, Moved};
@@ -42,22 +43,24 @@ impl<W: MachineWord> State<W> {
         }
     }
 
-    // Sets pc to its next word.
+    // Sets pc to its next word: that is its own word at another address, so nothing else of it is written.
     #[inline(always)]
     fn go_on(&mut self, next: Option<Word>)
+        requires { NextFits W.look self.old next }
         ensures { self.new ≡ go_on W.plain self.old next }
     {
-        if let Some(word) = next {
-            self.set(Place::R(Reg::Pc), Held::of(W::from_word(word)));
+        if let Some(Word::Mem(c)) = next {
+            self.point_pc(c.fields().addr);
         }
     }
 
     /// Carries out an effect: takings before settings, settings from left to right. A cell that it moves
-    /// a word from or to has to be there.
+    /// a word from or to has to be there. pc's next word is its own, a normal memory capability, at
+    /// another address, and nothing else is set in pc then.
     #[tactic(auto, unfolding(crate::specs::Row::perform))]
     #[inline(always)]
     pub fn perform(&mut self, effect: Effect)
-        requires { MoveFits self.old effect.moved }
+        requires { CanPerform W.look self.old effect }
         ensures { self.new ≡ perform W.look W.plain self.old effect }
     {
         let Effect {

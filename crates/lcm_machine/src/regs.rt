@@ -3,6 +3,8 @@ ghost use Rattle.std.specs.Prelude.{◌≡◌, ◌<◌, length, slice_index_or, 
 ghost use Rattle.lcm_machine.specs.Places.{reg, set_reg};
 ghost use Rattle.lcm_machine.specs.Spans.{zero_regs};
 ghost use Rattle.cap_words.specs.Linear.{zero_word};
+ghost use Rattle.cap_words.specs.Face.{pointed};
+ghost use Rattle.lcm_isa.specs.declared.Reg.TheVariants.{Pc};
 
 use cap_words::{MachineWord, Word};
 use lcm_isa::Reg;
@@ -34,6 +36,16 @@ fn swap_at<W>(slots: &mut [W], i: usize, word: W) -> W
     ensures now { slots.new ≡ slice_set slots.old i word }
 {
     mem::replace(&mut slots[i], word)
+}
+
+// Points the word of a slot to another address.
+#[inline(always)]
+fn point_at<W: MachineWord>(slots: &mut [W], i: usize, addr: i64)
+    requires { i < length slots.old }
+    ensures { let w = slice_index_or slots.old i (zero_word W.plain) in
+        slots.new ≡ slice_set slots.old i (pointed W.plain addr w (W.look w)) }
+{
+    slots[i].point_to(addr);
 }
 
 // Integer 0.
@@ -74,6 +86,15 @@ impl<W: MachineWord> Regs<W> {
         ensures { result.now ≡ reg self.now r }
     {
         &self.words[r.number() as usize]
+    }
+
+    /// Points pc to another address, where its word looks like a memory capability.
+    #[inline(always)]
+    pub fn point_pc(&mut self, addr: i64)
+        ensures { self.new ≡ set_reg self.old Pc (pointed W.plain addr (reg self.old Pc)
+            (W.look (reg self.old Pc))) }
+    {
+        point_at(&mut self.words, 0, addr);
     }
 
     /// Sets the word of a register, and gives the word that was there.

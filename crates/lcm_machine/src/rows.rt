@@ -10,7 +10,7 @@ ghost use Rattle.cap_words.specs.Face.{CapInOrder};
 ghost use Rattle.lcm_machine.specs.Table.{is_pc, into, makes, bit, operand, fits_64};
 ghost use Rattle.cap_words.specs.Faces.{face_linear, int_in, memory_in, address, can_split, same_kind};
 ghost use Rattle.lcm_machine.specs.Ends.{Meets};
-ghost use Rattle.lcm_machine.specs.Row.{plan_in, planned, faces, row, outcome, MoveFits};
+ghost use Rattle.lcm_machine.specs.Row.{plan_in, planned, faces, row, outcome, CanPerform, GoesOnTo};
 ghost use Rattle.lcm_machine.specs.declared.plan.Effect.{Effect};
 ghost use Rattle.lcm_machine.specs.declared.FailCause.TheVariants.{F5, F6, F9, F13, F14};
 ghost use Rattle.lcm_machine.specs.Plan.{Goes};
@@ -420,7 +420,7 @@ impl<W: MachineWord> State<W> {
     // Carries out a row's effect. A failure leaves the state as it was.
     #[inline(always)]
     fn carry_out(&mut self, answer: Result<Effect, FailCause>) -> Step
-        requires { (e : Effect) → planned answer ≡ Goes e → MoveFits self.old e.moved }
+        requires { (e : Effect) → planned answer ≡ Goes e → CanPerform W.look self.old e }
         ensures { Meets self.old (outcome W.look W.plain self.old (planned answer)) result self.new }
     {
         match answer {
@@ -436,6 +436,7 @@ impl<W: MachineWord> State<W> {
     #[inline(never)]
     #[tactic(auto, unfolding(crate::specs::Row::row))]
     fn execute_xjmp(&mut self, r1: Reg, r2: Reg, next: Word) -> Step
+        requires { GoesOnTo W.look self.old next }
         ensures { Meets self.old (row W.look W.plain (Instr.Xjmp r1 r2) next self.old) result self.new }
     {
         self.carry_out(self.plan_xjmp(r1, r2, next))
@@ -446,6 +447,7 @@ impl<W: MachineWord> State<W> {
     #[inline(always)]
     #[tactic(auto, unfolding(crate::specs::Row::row))]
     pub(crate) fn execute(&mut self, instr: Instr, next: Word) -> Step
+        requires { GoesOnTo W.look self.old next }
         ensures { Meets self.old (row W.look W.plain instr next self.old) result self.new }
     {
         match instr {

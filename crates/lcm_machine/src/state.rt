@@ -1,6 +1,8 @@
 //! Registers and memory, over words of any kind.
 ghost use Rattle.std.specs.Prelude.{◌≡◌, ℕ, IfOk, IsSome, is_some, IsTrue, Some, None, Option};
-ghost use Rattle.cap_words.specs.Face.{FaceInOrder, OpenedInOrder};
+ghost use Rattle.cap_words.specs.Face.{FaceInOrder, OpenedInOrder, pointed};
+ghost use Rattle.lcm_isa.specs.declared.Reg.TheVariants.{Pc};
+ghost use Rattle.lcm_machine.specs.declared.Place.TheVariants.{R};
 ghost use Rattle.lcm_machine.specs.Places.{reg};
 ghost use Rattle.lcm_machine.specs.Cells.{cell, set_cell, drop_cell};
 ghost use Rattle.lcm_machine.specs.Spans.{AreSpans, in_spans, slot, zero_regs};
@@ -136,6 +138,15 @@ impl<W: MachineWord> State<W> {
         ensures { self.new ≡ put self.old place held }
     {
         let _ = self.swap(place, held.into_word());
+    }
+
+    /// Points pc to another address, where its word looks like a memory capability.
+    #[inline(always)]
+    pub fn point_pc(&mut self, addr: i64)
+        ensures { let w = reg self.old.regs Pc in
+            self.new ≡ put self.old (R Pc) (pointed W.plain addr w (W.look w)) }
+    {
+        self.regs.point_pc(addr);
     }
 
     /// Takes the word of a place, which has to be there: a linear word leaves integer 0, and another

@@ -72,6 +72,15 @@ impl MachineWord for OWord {
         OWord::Plain(word)
     }
 
+    #[inline(always)]
+    fn point_to(&mut self, addr: i64) {
+        match self {
+            OWord::Plain(Word::Mem(c)) => c.point_to(addr),
+            OWord::Plain(Word::Int(_) | Word::Seal(_) | Word::Sealed(_, _)) => {}
+            OWord::RetCode(_) | OWord::RetData(_) => {}
+        }
+    }
+
     ghost looks_plain = { λ w. refl };
 }
 

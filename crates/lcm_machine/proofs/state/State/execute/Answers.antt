@@ -1,6 +1,6 @@
 use Rattle.std.proofs.Common.{rules}
 use Rattle.lcm_machine.specs.Row.{row, plan_in}
-use Rattle.lcm_machine.proofs.RowsMet.{planned_fits, planned_meets}
+use Rattle.lcm_machine.proofs.RowsMet.{planned_can, planned_meets}
 use Rattle.lcm_machine.proofs.state.State.execute.Goals as goal
 
 pub returns-in-Fail : goal.returns-in-Fail
@@ -18,8 +18,8 @@ returns-in-Jmp g c = search rules
 pub carry_out-requires-in-Jnz : goal.carry_out-requires-in-Jnz
 carry_out-requires-in-Jnz g c = (
   search rules,
-  planned_fits g.W.MachineWord.look g.W.MachineWord.plain c.args.self.now _ _ _
-      c.plan_jnz.ensures,
+  planned_can g.W.MachineWord.look g.W.MachineWord.plain c.args.self.now _ _ _
+      c.requires c.plan_jnz.ensures,
 )
 
 pub returns-in-Jnz : goal.returns-in-Jnz
@@ -30,8 +30,8 @@ returns-in-Jnz g c =
 pub carry_out-requires-in-Gettype : goal.carry_out-requires-in-Gettype
 carry_out-requires-in-Gettype g c = (
   search rules,
-  planned_fits g.W.MachineWord.look g.W.MachineWord.plain c.args.self.now _ _ _
-      c.plan_gettype.ensures,
+  planned_can g.W.MachineWord.look g.W.MachineWord.plain c.args.self.now _ _ _
+      c.requires c.plan_gettype.ensures,
 )
 
 pub returns-in-Gettype : goal.returns-in-Gettype
@@ -42,8 +42,8 @@ returns-in-Gettype g c =
 pub carry_out-requires-in-Geta : goal.carry_out-requires-in-Geta
 carry_out-requires-in-Geta g c = (
   search rules,
-  planned_fits g.W.MachineWord.look g.W.MachineWord.plain c.args.self.now _ _ _
-      c.plan_geta.ensures,
+  planned_can g.W.MachineWord.look g.W.MachineWord.plain c.args.self.now _ _ _
+      c.requires c.plan_geta.ensures,
 )
 
 pub returns-in-Geta : goal.returns-in-Geta
@@ -54,8 +54,8 @@ returns-in-Geta g c =
 pub carry_out-requires-in-Getb : goal.carry_out-requires-in-Getb
 carry_out-requires-in-Getb g c = (
   search rules,
-  planned_fits g.W.MachineWord.look g.W.MachineWord.plain c.args.self.now _ _ _
-      c.plan_getb.ensures,
+  planned_can g.W.MachineWord.look g.W.MachineWord.plain c.args.self.now _ _ _
+      c.requires c.plan_getb.ensures,
 )
 
 pub returns-in-Getb : goal.returns-in-Getb
@@ -66,8 +66,8 @@ returns-in-Getb g c =
 pub carry_out-requires-in-Gete : goal.carry_out-requires-in-Gete
 carry_out-requires-in-Gete g c = (
   search rules,
-  planned_fits g.W.MachineWord.look g.W.MachineWord.plain c.args.self.now _ _ _
-      c.plan_gete.ensures,
+  planned_can g.W.MachineWord.look g.W.MachineWord.plain c.args.self.now _ _ _
+      c.requires c.plan_gete.ensures,
 )
 
 pub returns-in-Gete : goal.returns-in-Gete
@@ -78,8 +78,8 @@ returns-in-Gete g c =
 pub carry_out-requires-in-Getp : goal.carry_out-requires-in-Getp
 carry_out-requires-in-Getp g c = (
   search rules,
-  planned_fits g.W.MachineWord.look g.W.MachineWord.plain c.args.self.now _ _ _
-      c.plan_getp.ensures,
+  planned_can g.W.MachineWord.look g.W.MachineWord.plain c.args.self.now _ _ _
+      c.requires c.plan_getp.ensures,
 )
 
 pub returns-in-Getp : goal.returns-in-Getp
@@ -90,8 +90,8 @@ returns-in-Getp g c =
 pub carry_out-requires-in-Getlin : goal.carry_out-requires-in-Getlin
 carry_out-requires-in-Getlin g c = (
   search rules,
-  planned_fits g.W.MachineWord.look g.W.MachineWord.plain c.args.self.now _ _ _
-      c.plan_getlin.ensures,
+  planned_can g.W.MachineWord.look g.W.MachineWord.plain c.args.self.now _ _ _
+      c.requires c.plan_getlin.ensures,
 )
 
 pub returns-in-Getlin : goal.returns-in-Getlin
@@ -102,8 +102,8 @@ returns-in-Getlin g c =
 pub carry_out-requires-in-Move : goal.carry_out-requires-in-Move
 carry_out-requires-in-Move g c = (
   search rules,
-  planned_fits g.W.MachineWord.look g.W.MachineWord.plain c.args.self.now _ _ _
-      c.plan_move.ensures,
+  planned_can g.W.MachineWord.look g.W.MachineWord.plain c.args.self.now _ _ _
+      c.requires c.plan_move.ensures,
 )
 
 pub returns-in-Move : goal.returns-in-Move
@@ -115,8 +115,8 @@ pub carry_out-requires-in-Store : goal.carry_out-requires-in-Store
 carry_out-requires-in-Store g c = (
   search rules,
   rw c.plan_store-plan.ensures.same
-      (planned_fits g.W.MachineWord.look g.W.MachineWord.plain c.args.self.now _ _ _
-      c.plan_store-plan.ensures.is),
+      (planned_can g.W.MachineWord.look g.W.MachineWord.plain c.args.self.now _ _ _
+      c.requires c.plan_store-plan.ensures.is),
 )
 
 pub returns-in-Store : goal.returns-in-Store
@@ -128,8 +128,8 @@ pub carry_out-requires-in-Load : goal.carry_out-requires-in-Load
 carry_out-requires-in-Load g c = (
   search rules,
   rw c.plan_load-plan.ensures.same
-      (planned_fits g.W.MachineWord.look g.W.MachineWord.plain c.args.self.now _ _ _
-      c.plan_load-plan.ensures.is),
+      (planned_can g.W.MachineWord.look g.W.MachineWord.plain c.args.self.now _ _ _
+      c.requires c.plan_load-plan.ensures.is),
 )
 
 pub returns-in-Load : goal.returns-in-Load
@@ -140,8 +140,8 @@ returns-in-Load g c =
 pub carry_out-requires-in-Cca : goal.carry_out-requires-in-Cca
 carry_out-requires-in-Cca g c = (
   search rules,
-  planned_fits g.W.MachineWord.look g.W.MachineWord.plain c.args.self.now _ _ _
-      c.plan_cca.ensures,
+  planned_can g.W.MachineWord.look g.W.MachineWord.plain c.args.self.now _ _ _
+      c.requires c.plan_cca.ensures,
 )
 
 pub returns-in-Cca : goal.returns-in-Cca
@@ -152,8 +152,8 @@ returns-in-Cca g c =
 pub carry_out-requires-in-Restrict : goal.carry_out-requires-in-Restrict
 carry_out-requires-in-Restrict g c = (
   search rules,
-  planned_fits g.W.MachineWord.look g.W.MachineWord.plain c.args.self.now _ _ _
-      c.plan_restrict.ensures,
+  planned_can g.W.MachineWord.look g.W.MachineWord.plain c.args.self.now _ _ _
+      c.requires c.plan_restrict.ensures,
 )
 
 pub returns-in-Restrict : goal.returns-in-Restrict
@@ -164,8 +164,8 @@ returns-in-Restrict g c =
 pub carry_out-requires-in-Lt : goal.carry_out-requires-in-Lt
 carry_out-requires-in-Lt g c = (
   search rules,
-  planned_fits g.W.MachineWord.look g.W.MachineWord.plain c.args.self.now _ _ _
-      c.plan_lt.ensures,
+  planned_can g.W.MachineWord.look g.W.MachineWord.plain c.args.self.now _ _ _
+      c.requires c.plan_lt.ensures,
 )
 
 pub returns-in-Lt : goal.returns-in-Lt
@@ -176,8 +176,8 @@ returns-in-Lt g c =
 pub carry_out-requires-in-Plus : goal.carry_out-requires-in-Plus
 carry_out-requires-in-Plus g c = (
   search rules,
-  planned_fits g.W.MachineWord.look g.W.MachineWord.plain c.args.self.now _ _ _
-      c.plan_plus.ensures,
+  planned_can g.W.MachineWord.look g.W.MachineWord.plain c.args.self.now _ _ _
+      c.requires c.plan_plus.ensures,
 )
 
 pub returns-in-Plus : goal.returns-in-Plus
@@ -188,8 +188,8 @@ returns-in-Plus g c =
 pub carry_out-requires-in-Minus : goal.carry_out-requires-in-Minus
 carry_out-requires-in-Minus g c = (
   search rules,
-  planned_fits g.W.MachineWord.look g.W.MachineWord.plain c.args.self.now _ _ _
-      c.plan_minus.ensures,
+  planned_can g.W.MachineWord.look g.W.MachineWord.plain c.args.self.now _ _ _
+      c.requires c.plan_minus.ensures,
 )
 
 pub returns-in-Minus : goal.returns-in-Minus
@@ -200,8 +200,8 @@ returns-in-Minus g c =
 pub carry_out-requires-in-Seta2b : goal.carry_out-requires-in-Seta2b
 carry_out-requires-in-Seta2b g c = (
   search rules,
-  planned_fits g.W.MachineWord.look g.W.MachineWord.plain c.args.self.now _ _ _
-      c.plan_seta2b.ensures,
+  planned_can g.W.MachineWord.look g.W.MachineWord.plain c.args.self.now _ _ _
+      c.requires c.plan_seta2b.ensures,
 )
 
 pub returns-in-Seta2b : goal.returns-in-Seta2b
@@ -215,8 +215,8 @@ returns-in-Xjmp g c = rw c.in-Xjmp.is c.execute_xjmp.ensures
 pub carry_out-requires-in-Cseal : goal.carry_out-requires-in-Cseal
 carry_out-requires-in-Cseal g c = (
   search rules,
-  planned_fits g.W.MachineWord.look g.W.MachineWord.plain c.args.self.now _ _ _
-      c.plan_cseal.ensures,
+  planned_can g.W.MachineWord.look g.W.MachineWord.plain c.args.self.now _ _ _
+      c.requires c.plan_cseal.ensures,
 )
 
 pub returns-in-Cseal : goal.returns-in-Cseal
@@ -227,8 +227,8 @@ returns-in-Cseal g c =
 pub carry_out-requires-in-Split : goal.carry_out-requires-in-Split
 carry_out-requires-in-Split g c = (
   search rules,
-  planned_fits g.W.MachineWord.look g.W.MachineWord.plain c.args.self.now _ _ _
-      c.plan_split.ensures,
+  planned_can g.W.MachineWord.look g.W.MachineWord.plain c.args.self.now _ _ _
+      c.requires c.plan_split.ensures,
 )
 
 pub returns-in-Split : goal.returns-in-Split
@@ -239,8 +239,8 @@ returns-in-Split g c =
 pub carry_out-requires-in-Splice : goal.carry_out-requires-in-Splice
 carry_out-requires-in-Splice g c = (
   search rules,
-  planned_fits g.W.MachineWord.look g.W.MachineWord.plain c.args.self.now _ _ _
-      c.plan_splice.ensures,
+  planned_can g.W.MachineWord.look g.W.MachineWord.plain c.args.self.now _ _ _
+      c.requires c.plan_splice.ensures,
 )
 
 pub returns-in-Splice : goal.returns-in-Splice

@@ -1,3 +1,5 @@
+use Rattle.std.proofs.Common.{rules}
+use Rattle.lcm_machine.proofs.Onward.{fetched_goes_on}
 use Rattle.lcm_machine.proofs.TouchLemmas.{row_same, row_untouched, same_as_is, untouched_as_is}
 use Rattle.lcm_machine.proofs.HeldOnce.{row_stays, unchanged_stays}
 use Rattle.lcm_machine.proofs.state.State.step.Goals as goal
@@ -31,3 +33,10 @@ returns-in-Ok-clause-untouched g c =
     row_untouched g.W.MachineWord.look g.W.MachineWord.plain c.args.self.now c.execute.new.self
     c.in-Ok.instr c.in-Ok.next c.execute.result c.in-Ok.ensures.is
     (rw c.fetch_on.ensures.same at c.execute.ensures)
+
+pub execute-requires : goal.execute-requires
+execute-requires g c = (
+  search rules,
+  rw c.fetch_on.ensures.same
+      (fetched_goes_on g.W.MachineWord.look g.W.MachineWord.plain c.args.self.now _ _ _ c.in-Ok.ensures.is),
+)
