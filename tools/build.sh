@@ -12,7 +12,7 @@ end_build() {
     trap '' HUP INT TERM USR1
     [ -z "$started" ] || kill $started 2>/dev/null
     wait
-    rm -rf "$room" || { sleep 1 && rm -rf "$room"; }
+    rm -rf "$room" "$talk" || { sleep 1 && rm -rf "$room" "$talk"; }
     exit "$1"
 }
 
@@ -155,7 +155,9 @@ build() {
         [ ! -d "$room" ] || kill -0 "${room##*.}" 2>/dev/null || rm -rf "$room"
     done
     room=$out/lanes.$$
-    mkdir -p "$room/taken" "$room/proved" && mkfifo "$room/said" && : >"$log" || stop "can't write in $out"
+    mkdir -p "$room/taken" "$room/proved" && : >"$log" || stop "can't write in $out"
+    # (rt refuses a crate's folder that has a pipe in it)
+    talk=$(mktemp -d) && mkfifo "$talk/said" || stop "can't make a pipe"
     trap 'end_build 130' HUP INT TERM
     trap end_failed USR1
     files crates.txt HANDLES crates >"$room/files"
@@ -175,11 +177,11 @@ build() {
     done
     [ -z "$started" ] || wait $started
     started=
-    tee "$log" <"$room/said" | sed -un 's/^crate \([a-z0-9_]*\):.*/'$name': \1/p' >&2 &
-    run_rt "$home" run >"$room/said" 2>&1
+    tee "$log" <"$talk/said" | sed -un 's/^crate \([a-z0-9_]*\):.*/'$name': \1/p' >&2 &
+    run_rt "$home" run >"$talk/said" 2>&1
     [ $? = 10 ] || end_failed
     wait
     files "crates/$name/out/$name" >>"$room/files" && mv "$room/files" "$built" || end_build 126
-    rm -rf "$room"
+    rm -rf "$room" "$talk"
     trap - HUP INT TERM USR1
 }
