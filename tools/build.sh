@@ -101,18 +101,19 @@ are_proved() {
 }
 
 # Takes the first crate that nobody has taken and that stands on proved ones alone. The processors that other
-# lanes have no use for just then are for its check.
+# lanes have no use for just then are for its check, unless it names many: each job reads all that stands below,
+# which takes longer than what there is to prove.
 take() {
-    crate=
+    crate= names=
     ready=0
     while read -r next named; do
         [ ! -e "$room/taken/$next" ] && are_proved $named || continue
-        [ -n "$crate" ] || ! mkdir "$room/taken/$next" 2>/dev/null || crate=$next
+        [ -n "$crate" ] || ! mkdir "$room/taken/$next" 2>/dev/null || { crate=$next && names=$named; }
         ready=$((ready + 1))
     done <"$room/order"
     running=$(($(ls "$room/taken" | wc -l) - $(ls "$room/proved" | wc -l)))
     jobs=$((lanes - running - ready + 2))
-    [ "$jobs" -ge 1 ] || jobs=1
+    [ "$jobs" -ge 1 ] && [ "$(echo $names | wc -w)" -lt 15 ] || jobs=1
     [ -n "$crate" ]
 }
 
