@@ -1,5 +1,5 @@
 -- What the words of a call do, for words of any kind.
-use Rattle.std.proofs.Common.{◌≡◌, ℕ, zero, suc, ◌+◌, ◌≤◌, pos, negsuc, ℤ, ◌+ℤ◌, ◌-ℤ◌, true, false, Some}
+use Rattle.std.proofs.Common.{◌≡◌, ℕ, zero, suc, ◌+◌, ◌-◌, ◌≤◌, pos, negsuc, ℤ, ◌+ℤ◌, ◌-ℤ◌, true, false, Some}
 use Rattle.std.proofs.Common.{refl, ap, ◌∙◌, arith, rules, FitsSigned, w32}
 use Rattle.std.proofs.lemmas.Int.{ints}
 use Rattle.std.proofs.lemmas.Bool.{lt-leb}
@@ -23,6 +23,7 @@ use Rattle.lcm_machine.proofs.Offers.{cell-set_other, go, ran, stays, leaves, nu
 use Rattle.lcm_machine.proofs.Offers.{store_goes, load_goes, cca_goes, cca_seal_goes, geta_goes, minus_goes}
 use Rattle.lcm_machine.proofs.Offers.{split_goes, cseal_goes, run_then, step_row, run_one, store_fails}
 use Rattle.lcm_machine.proofs.Offers.{split_fails, stops, then_failed}
+use Rattle.call_sequence.specs.declared.TheConstants.{CALL_WORDS}
 use Rattle.call_sequence.specs.Sequences.{call_code, distance}
 use Rattle.call_sequence.specs.SequenceRuns.{stack_cap, IsOutsideRange, HasCall, at_xjmp, CallRuns, CallJumps}
 use Rattle.call_sequence.specs.SequenceRuns.{CallAtBaseFails, CallOutsideFails}
@@ -146,9 +147,10 @@ module _ {W : Type 0} (look : W → Word) (plain : Word → W) (seen : (x : Word
       })) ends
 
   -- the call's last word, once a cell outside the code was set
-  xjmp_stands : (m : FinMap nat_cmp W) (base last at seal a : ℕ) (w : W) → HasCall look m base last at seal
+  pub xjmp_stands : (m : FinMap nat_cmp W) (base last at seal a : ℕ) (w : W) → HasCall look m base last at seal
       → IsOutsideRange a base last
-      → look_face look (cell (set_cell m a w) (at + 15)) ≡ Some (Number (pos (number_of (Xjmp C1 C2))))
+      → look_face look (cell (set_cell m a w) (at + (CALL_WORDS - 1)))
+      ≡ Some (Number (pos (number_of (Xjmp C1 C2))))
   unfolding call_code
   xjmp_stands m base last at seal a w h out =
       let ai = h.at_is in
@@ -156,7 +158,7 @@ module _ {W : Type 0} (look : W → Word) (plain : Word → W) (seen : (x : Word
       let c : Stands look (set_cell m a w) at (call_code h.literal h.offset h.number) =
       Stands-outside look m a w base last at (call_code h.literal h.offset h.number)
       out (omega (arith, ai)) (omega (arith, en)) h.code in
-      let e : at + 1 + 1 + 1 + 1 + 1 + 1 + 1 + 1 + 1 + 1 + 1 + 1 + 1 + 1 + 1 ≡ at + 15 = omega arith in
+      let e : at + 1 + 1 + 1 + 1 + 1 + 1 + 1 + 1 + 1 + 1 + 1 + 1 + 1 + 1 + 1 ≡ at + (CALL_WORDS - 1) = omega arith in
       rw (← e) c.1.1.1.1.1.1.1.1.1.1.1.1.1.1.1.0
 
   pub call_jumps : CallJumps look plain
@@ -164,11 +166,11 @@ module _ {W : Type 0} (look : W → Word) (plain : Word → W) (seen : (x : Word
       let ai = h.at_is in
       let en = h.ends in
       let t : State W = at_xjmp plain s base last at seal sb se b in
-      let e : at + 15 + 1 ≡ at + 16 = omega arith in
-      run_then look plain 15 1 s t _
+      let e : at + (CALL_WORDS - 1) + 1 ≡ at + CALL_WORDS = omega arith in
+      run_then look plain (CALL_WORDS - 1) 1 s t _
       (call_runs s base last at seal sb se b w h hpc hstk hdat sl sh small out there)
       (run_one look plain t
-      ∙ step_row look plain t base last (at + 15) (Xjmp C1 C2) (seen _) (omega (arith, ai))
+      ∙ step_row look plain t base last (at + (CALL_WORDS - 1)) (Xjmp C1 C2) (seen _) (omega (arith, ai))
       (omega (arith, en)) (xjmp_stands s.cells base last at seal (b + 1) s.regs.dat h out) tt
       ∙ ap (λ k. row look plain (Xjmp C1 C2) (Mem (code_cap base last k)) t) e)
 

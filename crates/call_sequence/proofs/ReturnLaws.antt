@@ -1,6 +1,6 @@
 -- What the words of a return do, for words of any kind.
-use Rattle.std.proofs.Common.{◌≡◌, ◌≢◌, ℕ, ◌+◌, ◌≤◌, pos, ℤ, ◌+ℤ◌, ◌-ℤ◌, true, [], ◌∷◌, refl, ap, sym}
-use Rattle.std.proofs.Common.{◌∙◌}
+use Rattle.std.proofs.Common.{◌≡◌, ◌≢◌, ℕ, ◌+◌, ◌-◌, ◌≤◌, pos, ℤ, ◌+ℤ◌, ◌-ℤ◌, true, [], ◌∷◌, refl, ap, sym}
+use Rattle.std.proofs.Common.{◌∙◌, Some, false}
 use Rattle.std.proofs.Common.{arith, rules, FitsSigned, w32}
 use Rattle.std.proofs.lemmas.Int.{ints}
 use Rattle.std.specs.Ordering.{nat_cmp}
@@ -11,17 +11,21 @@ use Rattle.cap_words.specs.declared.CapFields.{CapFields}
 use Rattle.cap_words.specs.declared.Word.TheVariants.{Int, Mem}
 use Rattle.cap_words.specs.Faces.{same_kind}
 use Rattle.cap_words.specs.Linear.{is_linear, lin_is, zero_word}
-use Rattle.lcm_isa.specs.declared.Reg.TheVariants.{Stk, Dat}
-use Rattle.lcm_isa.specs.declared.Instr.TheVariants.{Splice, Fail}
+use Rattle.cap_words.specs.declared.Face.TheVariants.{Number}
+use Rattle.lcm_isa.specs.declared.Reg.TheVariants.{Stk, Dat, T2}
+use Rattle.lcm_isa.specs.declared.Operand.TheVariants.{Imm}
+use Rattle.lcm_isa.specs.declared.Instr.TheVariants.{Splice, Fail, Move}
+use Rattle.lcm_isa.specs.Numbers.{number_of}
 use Rattle.lcm_machine.specs.declared.FailCause.TheVariants.{F4}
-use Rattle.lcm_machine.specs.Cells.{set_cell}
+use Rattle.lcm_machine.specs.Cells.{cell, set_cell}
 use Rattle.lcm_machine.specs.Maps.{State}
-use Rattle.lcm_machine.specs.Row.{Outcome, went, faces, step_of}
+use Rattle.lcm_machine.specs.Row.{Outcome, went, faces, look_face, step_of}
 use Rattle.lcm_machine.specs.Runs.{run_of, Stands, code_cap}
 use Rattle.lcm_machine.proofs.Offers.{is_linear-face, go, ran, stop, stays, leaves, fail_fails, move_goes}
 use Rattle.lcm_machine.proofs.Offers.{set_goes, store_goes, load_goes, cca_goes, getb_goes, minus_goes}
 use Rattle.lcm_machine.proofs.Offers.{splice_goes, jnz_goes, jnz_jumps, splice_fails, stops, run_one}
 use Rattle.lcm_machine.proofs.Offers.{run_then, step_row}
+use Rattle.call_sequence.specs.declared.TheConstants.{RETURN_WORDS}
 use Rattle.call_sequence.specs.Sequences.{return_code, distance}
 use Rattle.call_sequence.specs.SequenceRuns.{stack_cap, IsOutsideRange, HasReturn, ReturnRuns}
 use Rattle.call_sequence.specs.SequenceRuns.{ReturnApartFails}
@@ -126,19 +130,32 @@ module _ {W : Type 0} (look : W → Word) (plain : Word → W) (seen : (x : Word
         ∙ jnz_jumps look plain _ _ _ _ _ (pos low.base -ℤ pos sb) (seen _) (not_zero low.base sb ne)
         (stays look plain _ _ (ap is_linear (seen _))))
 
-  pub return_runs : ReturnRuns look plain
+  -- all words but the last, which leaves T2 to be cleared
+  pub return_nine : (s : State W) (base last at sb low b end : ℕ) (to : ℤ) (w : W)
+      → (h : HasReturn look s.cells base last at sb)
+      → look s.regs.pc ≡ Mem (code_cap base last at)
+      → look s.regs.stk ≡ Mem (record (stack_cap sb low 0) { addr = to })
+      → look s.regs.dat ≡ Mem (stack_cap b end b)
+      → low + 1 ≡ b → sb ≤ b → b ≤ end → end ≤ LAST_PLACE
+      → IsOutsideRange b base last → cell s.cells b ≡ Some w → is_linear (look w) ≡ false
+      → run_of look plain (RETURN_WORDS - 1) s ≡ went (record s {
+        regs = record s.regs {
+          pc = plain (Mem (code_cap base last (at + (RETURN_WORDS - 1))));
+          stk = plain (Mem (stack_cap sb end b));
+          dat = w;
+          t1 = zero_word plain;
+          t2 = plain (Mem (code_cap base last (base + h.fail)));
+        };
+        cells = set_cell s.cells b (zero_word plain);
+      })
   unfolding return_code
-  return_runs s base last at sb low b end to w h hpc hstk hdat joint sl le small out there lin =
+  return_nine s base last at sb low b end to w h hpc hstk hdat joint sl le small out there lin =
       let code = h.code in
       let ai = h.at_is in
       let en = h.ends in
-      let m' : FinMap nat_cmp W = set_cell s.cells b (zero_word plain) in
-      let c : Stands look m' at (return_code h.fail h.offset sb) =
-      Stands-outside look s.cells b _ base last at (return_code h.fail h.offset sb)
-      out (omega (arith, ai)) (omega (arith, en)) code in
       let six : at + 6 ≡ at + 1 + 1 + 1 + 1 + 1 + 1 = omega arith in
-      let ends : at + 1 + 1 + 1 + 1 + 1 + 1 + 1 + 1 + 1 + 1 ≡ at + 10 = omega arith in
-      run_then look plain 6 4 s _ _
+      let ends : at + 1 + 1 + 1 + 1 + 1 + 1 + 1 + 1 + 1 ≡ at + (RETURN_WORDS - 1) = omega arith in
+      run_then look plain 6 3 s _ _
       (return_tests s base last at sb (record (stack_cap sb low 0) { addr = to }) (stack_cap b end b)
       h hpc hstk hdat refl refl refl joint (omega (arith, sl, le, small)) (omega (arith, sl, le, small))
       refl ∙ ap (λ y. went (tested s base last y (base + h.fail) (stack_cap sb end b) (pos 0))) six)
@@ -154,8 +171,45 @@ module _ {W : Type 0} (look : W → Word) (plain : Word → W) (seen : (x : Word
       code.1.1.1.1.1.1.1.1.0 tt
       (store_goes look plain _ _ _ _ _ (stack_cap sb end b) b w (seen _)
       refl refl sl le there (stays look plain _ _ (ap is_linear (seen _))))
-      ∙ go look plain _ _ _ base last (at + 1 + 1 + 1 + 1 + 1 + 1 + 1 + 1 + 1) _ (seen _) (omega (arith, ai))
-      (omega (arith, en)) c.1.1.1.1.1.1.1.1.1.0 (search rules) (set_goes look plain _ _ _ _ refl)
+      ∙ ran look plain _
+      ∙ ap (λ k.
+      went (record s {
+        regs = record s.regs {
+          pc = plain (Mem (code_cap base last k));
+          stk = plain (Mem (stack_cap sb end b));
+          dat = w;
+          t1 =
+              zero_word plain;
+          t2 = plain (Mem (code_cap base last (base + h.fail)));
+        };
+        cells = set_cell s.cells b (zero_word plain);
+      })) ends)
+
+  -- the last word stands where a cell outside the code was set
+  pub clearing_stands : (m : FinMap nat_cmp W) (base last at sb a : ℕ) (w : W)
+      → IsOutsideRange a base last → HasReturn look m base last at sb
+      → look_face look (cell (set_cell m a w) (at + (RETURN_WORDS - 1)))
+      ≡ Some (Number (pos (number_of (Move T2 (Imm (pos 0))))))
+  unfolding return_code
+  clearing_stands m base last at sb a w out h =
+      let ai = h.at_is in
+      let en = h.ends in
+      let c : Stands look (set_cell m a w) at (return_code h.fail h.offset sb) =
+      Stands-outside look m a w base last at (return_code h.fail h.offset sb)
+      out (omega (arith, ai)) (omega (arith, en)) h.code in
+      let e : at + 1 + 1 + 1 + 1 + 1 + 1 + 1 + 1 + 1 ≡ at + (RETURN_WORDS - 1) = omega arith in
+      rw (← e) c.1.1.1.1.1.1.1.1.1.0
+
+  pub return_runs : ReturnRuns look plain
+  return_runs s base last at sb low b end to w h hpc hstk hdat joint sl le small out there lin =
+      let ai = h.at_is in
+      let en = h.ends in
+      let ends : at + (RETURN_WORDS - 1) + 1 ≡ at + RETURN_WORDS = omega arith in
+      run_then look plain (RETURN_WORDS - 1) 1 s _ _
+      (return_nine s base last at sb low b end to w h hpc hstk hdat joint sl le small out there lin)
+      (go look plain _ _ _ base last (at + (RETURN_WORDS - 1)) _ (seen _) (omega (arith, ai))
+      (omega (arith, en)) (clearing_stands s.cells base last at sb b (zero_word plain) out h) (search rules)
+      (set_goes look plain _ _ _ _ refl)
       ∙ ran look plain _
       ∙ ap (λ k.
       went (record s {
@@ -167,7 +221,7 @@ module _ {W : Type 0} (look : W → Word) (plain : Word → W) (seen : (x : Word
               zero_word plain;
           t2 = zero_word plain;
         };
-        cells = m';
+        cells = set_cell s.cells b (zero_word plain);
       })) ends)
 
   pub return_off_base : ReturnOffBaseFails look plain

@@ -1,3 +1,4 @@
 pub mod Sequences
 pub mod Standing
 pub mod SequenceRuns
+pub mod SequenceWords

@@ -1,5 +1,5 @@
 -- What the sequences do where they stand in the code of a part, for words of any kind.
-use Rattle.std.specs.Prelude.{◌≡◌, ◌≢◌, ◌⊎◌, ℕ, ◌+◌, ◌-◌, ◌<◌, ◌≤◌, ◌==◌, ◌&&◌, Bool, true, false, ℤ, pos}
+use Rattle.std.specs.Prelude.{◌≡◌, ◌≢◌, ◌⊎◌, ℕ, ◌+◌, ◌-◌, ◌<◌, ◌≤◌, ◌==◌, Bool, true, false, ℤ, pos}
 use Rattle.std.specs.Prelude.{[], ◌∷◌, Some}
 use Rattle.std.specs.Ordering.{nat_cmp}
 use Rattle.std.specs.FinMap.{FinMap}
@@ -26,7 +26,7 @@ use Rattle.lcm_machine.specs.Row.{row, went, failed}
 use Rattle.lcm_machine.specs.Runs.{run_of, Stands, code_cap}
 use Rattle.lcm_machine.specs.Refusals.{HasFailed, CannotJoin}
 use Rattle.call_sequence.specs.declared.TheConstants.{CALL_WORDS, RETURN_WORDS, ENTRY_WORDS}
-use Rattle.call_sequence.specs.Sequences.{call_code, return_code, entry_code}
+use Rattle.call_sequence.specs.Sequences.{call_code, return_code, entry_code, split_word, load_word}
 
 -- a linear rw capability over stack cells
 abbrev pub stack_cap : ℕ → ℕ → ℕ → CapFields
@@ -122,7 +122,7 @@ CallJumps {W} look plain = (s : State W) (base last at seal stack_base end b : �
     ≡ row look plain (Xjmp C1 C2) (Mem (code_cap base last (at + CALL_WORDS)))
     (at_xjmp plain s base last at seal stack_base end b)
 
--- with stk at its base it fails within its first eight words
+-- with stk at its base it fails where it should split the stack, or before
 abbrev pub CallAtBaseFails : {W : Type 0} → (W → Word) → (Word → W) → Type 0
 CallAtBaseFails {W} look plain = (s : State W) (base last at seal stack_base end : ℕ) (w : W)
     → HasCall look s.cells base last at seal
@@ -130,7 +130,7 @@ CallAtBaseFails {W} look plain = (s : State W) (base last at seal stack_base end
     → look s.regs.stk ≡ Mem (stack_cap stack_base end stack_base)
     → is_linear (look s.regs.dat) ≡ false → stack_base ≤ end → end ≤ LAST_PLACE
     → IsOutsideRange stack_base base last → cell s.cells stack_base ≡ Some w
-    → HasFailed (run_of look plain 8 s)
+    → HasFailed (run_of look plain (split_word + 1) s)
 
 -- with stk outside its range it fails at its first word, a `store`
 abbrev pub CallOutsideFails : {W : Type 0} → (W → Word) → (Word → W) → Type 0
@@ -170,14 +170,14 @@ ReturnApartFails {W} look plain = (s : State W) (base last at stack_base : ℕ)
     → CannotJoin (face_of (look s.regs.stk)) (face_of (look s.regs.dat))
     → HasFailed (run_of look plain 1 s)
 
--- and where what is joined doesn't begin at the stack's base, at the `fail`
+-- and where what is joined doesn't begin at the stack's base, at the `fail`, in place of the load
 abbrev pub ReturnOffBaseFails : {W : Type 0} → (W → Word) → (Word → W) → Type 0
 ReturnOffBaseFails {W} look plain = (s : State W) (base last at stack_base : ℕ) (low high : CapFields)
     → (code : HasReturn look s.cells base last at stack_base)
     → look s.regs.pc ≡ Mem (code_cap base last at) → look s.regs.stk ≡ Mem low → look s.regs.dat ≡ Mem high
     → lin_is low.lin ≡ true → lin_is high.lin ≡ true → same_kind low high ≡ true → low.end + 1 ≡ high.base
     → low.base ≤ LAST_PLACE → stack_base ≤ LAST_PLACE → low.base ≢ stack_base
-    → run_of look plain 7 s ≡ failed F4 (pos (base + code.fail))
+    → run_of look plain (load_word + 1) s ≡ failed F4 (pos (base + code.fail))
 
 -- ---- an entry
 

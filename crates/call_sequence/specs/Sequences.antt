@@ -76,6 +76,17 @@ entry_code fail at stack_base =
     ∷ Move T2 (Imm (pos 0))
     ∷ []
 
+-- words that are spoken of, counted from 0: the one of a call that splits the stack, and those of a return
+-- that load `data` and wipe where it stood
+abbrev pub split_word : ℕ
+split_word = 7
+
+abbrev pub load_word : ℕ
+load_word = 6
+
+abbrev pub wipe_word : ℕ
+wipe_word = 8
+
 -- the words of some code
 abbrev pub numbers : List Instr → List ℤ
 numbers code = map (λ i. pos (number_of i)) code

@@ -7,6 +7,7 @@ ghost use Rattle.call_sequence.specs.Standing.{is_site, is_entry, SiteStands, En
 ghost use Rattle.call_sequence.specs.SequenceRuns.{CallRuns, CallJumps, CallAtBaseFails, CallOutsideFails};
 ghost use Rattle.call_sequence.specs.SequenceRuns.{ReturnRuns, ReturnApartFails, ReturnOffBaseFails};
 ghost use Rattle.call_sequence.specs.SequenceRuns.{EntryRuns, EntryFails};
+ghost use Rattle.call_sequence.specs.SequenceWords.{CallWords, EntryWords, ReturnWords, JointReturnWords};
 
 use cap_words::MachineWord;
 
@@ -18,26 +19,30 @@ pub fn sequences_stand_word_by_word()
 
 /// What a call's words do: `data` is stored where stk stands, the stack is split behind that, the
 /// two halves of the return are sealed, and the last word is an `xjmp`. With stk at its base or
-/// outside its range they fail.
+/// outside its range they fail. Whatever comes of them, but for their own code they touch stk's range alone.
 pub fn calls_run<W: MachineWord>()
     ensures above { CallRuns W.look W.plain }
     ensures jumps { CallJumps W.look W.plain }
     ensures at_base { CallAtBaseFails W.look W.plain }
     ensures outside { CallOutsideFails W.look W.plain }
+    ensures words { CallWords W.look W.plain }
 {}
 
 /// What a return's words do: stk and `data` are joined, and `data` is read back from the first cell of
 /// its stretch. Where they can't be joined, or what is joined doesn't begin at the stack's base, they
-/// fail.
+/// fail. But for their own code only the word that loads and the one that wipes touch memory.
 pub fn returns_run<W: MachineWord>()
     ensures joint { ReturnRuns W.look W.plain }
     ensures apart { ReturnApartFails W.look W.plain }
     ensures off_base { ReturnOffBaseFails W.look W.plain }
+    ensures words { ReturnWords W.look W.plain }
+    ensures joint_words { JointReturnWords W.look W.plain }
 {}
 
 /// What an entry's words do: stk is set to its end, where it is a linear capability with rw that
-/// begins at the stack's base, and else they end at the part's `fail`.
+/// begins at the stack's base, and else they end at the part's `fail`. They touch their code alone.
 pub fn entries_run<W: MachineWord>()
     ensures stack { EntryRuns W.look W.plain }
     ensures others { EntryFails W.look W.plain }
+    ensures words { EntryWords W.look W.plain }
 {}

@@ -15,7 +15,7 @@ use Rattle.component_linker.specs.Start.{Exported, main_of, start_cell, start_re
 use Rattle.component_linker.specs.Started.{StartSeen, Starts}
 use Rattle.component_linker.specs.Linked.{Linked}
 use Rattle.component_linker.proofs.LinksKept.{are_linked}
-use Rattle.component_linker.proofs.ExampleParts.{caller, other, pair, each, keeps}
+use Rattle.component_linker.proofs.ExampleParts.{caller, other, pair, each, keeps, site_at}
 use Rattle.component_linker.proofs.PairStart.{filled, cells_filled, site_of, sites_are, owners_of, owners_are}
 
 -- ---- the start
@@ -38,7 +38,7 @@ start = record {
     count = 0;
     end = None;
   };
-  sites = site_of caller 23 ∷ [];
+  sites = site_of caller site_at ∷ [];
   owners = owners_of caller other;
   stack = record { base = 67; end = 70 };
 }
@@ -92,7 +92,7 @@ is_start = record {
 pub starts : Starts pair 4 start
 starts = record {
   state = is_start;
-  sites = sites_are caller other 23 refl;
+  sites = sites_are caller other site_at refl;
   owners = owners_are caller other (omega arith);
   stack = refl;
 }

@@ -1,6 +1,6 @@
 -- An instance: a trusted part with an entry and a site, whose import is what it calls, and an adversary that
 -- goes right back. They keep the rules.
-use Rattle.std.proofs.Common.{◌≡◌, ℕ, zero, suc, inl, inr, pos, Bool, true, false, List, [], ◌∷◌, ◌++◌, map}
+use Rattle.std.proofs.Common.{◌≡◌, ℕ, zero, suc, ◌+◌, inl, inr, pos, Bool, true, false, List, [], ◌∷◌, ◌++◌, map}
 use Rattle.std.proofs.Common.{Some, None, Ok, refl, sym, ap, ◌∙◌, arith, subst, rules, ne_eqb}
 use Rattle.std.specs.Prelude.{◌==◌, ◌<◌, ◌||◌, ◌&&◌, nat_lt, slice_get, Option, ◌^◌}
 use Rattle.std.specs.List.{list_all}
@@ -24,6 +24,7 @@ use Rattle.component_check.specs.Places.{Test, BrokenAt}
 use Rattle.component_check.specs.Verdict.{NoneBroken, IsFirstBroken, check_from}
 use Rattle.component_check.specs.Rules.{rules_c, c1, c2, c3, c4, c5, c6, c7, c8, c9, c10, c11, c12}
 use Rattle.component_check.proofs.Offers.{first_broken}
+use Rattle.call_sequence.specs.declared.TheConstants.{CALL_WORDS, ENTRY_WORDS, SITE_WORDS}
 use Rattle.call_sequence.specs.Sequences.{call_code, return_code, entry_code}
 use Rattle.call_sequence.specs.Standing.{sequence_difference, is_entry}
 use Rattle.flow_check.specs.Kinds.{kind_of, set_kind}
@@ -42,12 +43,23 @@ use Rattle.component_linker.proofs.FirstIn.{first_broken_in}
 abbrev pub as_word : Instr → Word
 as_word i = Int (pos (number_of i))
 
--- the entry at 0, the slot's halves loaded from 20 on, the site at 23, `halt` at 49, `fail` at 50, the seals
--- at 51
+-- the entry at 0, behind it the slot's halves are loaded, then the site, `halt`, `fail`, and the seals
+abbrev pub site_at : ℕ
+site_at = ENTRY_WORDS + 3
+
+abbrev pub halt_at : ℕ
+halt_at = site_at + SITE_WORDS
+
+abbrev fails_at : ℕ
+fails_at = halt_at + 1
+
+abbrev pub seals_at : ℕ
+seals_at = fails_at + 1
+
 abbrev caller_instrs : List Instr
 caller_instrs =
-    entry_code 50 0 67 ++ (Load C1 Dat ∷ Cca Dat (Imm (pos 1)) ∷ Load C2 Dat ∷ []) ++ call_code 51 23 0
-    ++ return_code 50 39 67 ++ Halt ∷ Fail ∷ []
+    entry_code fails_at 0 67 ++ (Load C1 Dat ∷ Cca Dat (Imm (pos 1)) ∷ Load C2 Dat ∷ [])
+    ++ call_code seals_at site_at 0 ++ return_code fails_at (site_at + CALL_WORDS) 67 ++ Halt ∷ Fail ∷ []
 
 abbrev caller_seals : Word
 caller_seals = Seal (record { base = 12; end = 12; cur = pos 12 })
@@ -68,9 +80,9 @@ caller = record {
   data_words = Int (pos 0) ∷ Int (pos 0) ∷ [];
   imports = record { part = 117 ∷ []; name = 102 ∷ []; slot = 0 } ∷ [];
   exports = record { name = 109 ∷ 97 ∷ 105 ∷ 110 ∷ []; offset = 0; shared = true } ∷ [];
-  sites = 23 ∷ [];
-  fail_at = Some 50;
-  literal_at = Some 51;
+  sites = site_at ∷ [];
+  fail_at = Some fails_at;
+  literal_at = Some seals_at;
   rows = [];
   movable = false;
 }

@@ -52,7 +52,8 @@ pub use Rattle.component_linker.proofs.DropFirst.{keeps_all}
 -- there is one answer that is right of a part
 pub use Rattle.component_linker.proofs.Accepted.{accepted_is, accepts_is}
 -- an instance
-pub use Rattle.component_linker.proofs.ExampleParts.{as_word, caller, each, keeps, no_rule, other, pair}
+pub use Rattle.component_linker.proofs.ExampleParts.{as_word, caller, each, halt_at, keeps, no_rule, other}
+pub use Rattle.component_linker.proofs.ExampleParts.{pair, seals_at, site_at}
 -- the memory of a start, and the sites and owners of one of two parts
 pub use Rattle.component_linker.proofs.PairStart.{cells_filled, owners_are, owners_of, site_of, sites_are}
 unfoldable pub use Rattle.component_linker.proofs.PairStart.{filled}

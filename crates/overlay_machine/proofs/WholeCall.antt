@@ -25,6 +25,7 @@ use Rattle.lcm_machine.specs.Refusals.{HasFailed, CannotJoin, Refuses}
 use Rattle.lcm_machine.proofs.Offers.{xjmp_goes, left, failed_more, then_failed, xjmp_fails, xjmp_runs_fails}
 use Rattle.lcm_machine.proofs.Offers.{opened-memory}
 use Rattle.call_sequence.specs.declared.TheConstants.{CALL_WORDS}
+use Rattle.call_sequence.specs.Sequences.{split_word}
 use Rattle.call_sequence.specs.SequenceRuns.{stack_cap, HasCall}
 use Rattle.call_sequence.proofs.Offers.{call_at_base, call_outside, return_apart, HasReturn-set}
 use Rattle.trusted_border.specs.declared.layout.Layout.{Layout}
@@ -47,7 +48,7 @@ use Rattle.overlay_machine.proofs.CallAgrees.{its_site, owns, dat_normal, t15, p
 abbrev id : Word → Word
 id w = w
 
--- what fails within sixteen fails within a call's weight
+-- what fails within a call's words fails within its weight
 within : (t : State Word) (n m : ℕ) (b : Bool) → n + m ≡ CALL_WORDS → HasFailed (run_of id id n t)
     → HasFailed (run_of id id (if b then CALL_WORDS + 1 else CALL_WORDS) t)
 within t n m true e h = let f : n + (m + 1) ≡ (CALL_WORDS + 1) =
@@ -81,7 +82,7 @@ module _ (l : Layout) (i : ℕ) (o : OState) (t : State Word) (at_site : AtSite 
   outside z e h =
       call_outside id id t its.base its.end its.at its.seal (stack z) has_call pc_is (stk_is z e) h
 
-  pub lowest : at_site.to ≡ pos l.stack.base → l.stack.base ≤ at_site.end → HasFailed (run_of id id 8 t)
+  pub lowest : at_site.to ≡ pos l.stack.base → l.stack.base ≤ at_site.end → HasFailed (run_of id id (split_word + 1) t)
   lowest e h =
       let s = at_site.in_stack in
       let d = at_site.small_stack in
@@ -272,7 +273,7 @@ module _ (l : Layout) (i : ℕ) (o : OState) (t : State Word) (at_site : AtSite 
                   (elim (cases_eq a l.stack.base)
                   as (λ _. HasFailed (run_of id id (weight_by o.maps (Call i)) t)) [
                     | inl same ↦
-                        within t 8 8 (is_ret_code o.maps.regs.c1)
+                        within t (split_word + 1) (CALL_WORDS - (split_word + 1)) (is_ret_code o.maps.regs.c1)
                         refl (lowest (e ∙ ap pos same) (omega arith))
                     | inr ne ↦
                         within t 1 (CALL_WORDS - 1) (is_ret_code o.maps.regs.c1)

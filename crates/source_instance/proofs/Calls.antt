@@ -1,6 +1,6 @@
 -- The module comes to its call, and the adversary goes right back.
 use Rattle.std.proofs.Common.{◌≡◌, ℕ, pos, negsuc, true, false, [], ◌∷◌, Some, None, refl, ap, ◌∙◌, arith}
-use Rattle.std.proofs.Common.{inl, ◌≢◌}
+use Rattle.std.proofs.Common.{inl, ◌≢◌, ◌+◌, ◌-◌}
 use Rattle.cap_words.specs.declared.Word.TheVariants.{Int, Mem}
 use Rattle.cap_words.specs.declared.Content.TheVariants.{Mem as MemC}
 use Rattle.lcm_isa.specs.declared.Reg.TheVariants.{Pc, Rcode, Rdata, Stk, Dat, T2, C1, C2, A0, A1, A2, A3, G0}
@@ -12,6 +12,7 @@ use Rattle.lcm_machine.specs.Maps.{State}
 use Rattle.lcm_machine.specs.Cells.{cell, set_cell, all_there, words_from, without, put_back}
 use Rattle.lcm_machine.specs.Row.{faces, opens, row, went}
 use Rattle.lcm_machine.proofs.Offers.{stays, xjmp_goes, cell-without_out, cell-set_other, cell-set_same}
+use Rattle.call_sequence.specs.declared.TheConstants.{CALL_WORDS, RETURN_WORDS}
 use Rattle.call_sequence.specs.Sequences.{call_code, return_code, entry_code}
 use Rattle.component_linker.specs.Regions.{regions_of}
 use Rattle.component_linker.specs.Start.{start_cell, part_word}
@@ -29,7 +30,7 @@ use Rattle.overlay_machine.specs.Step.{entry_step, call_step, return_step, step_
 use Rattle.overlay_machine.specs.Step.{weight_of}
 use Rattle.overlay_machine.specs.Events.{note_by, event_after, step_event}
 use Rattle.proc_templates.specs.Items.{zero_of}
-use Rattle.source_instance.proofs.Module.{as_word}
+use Rattle.source_instance.proofs.Module.{as_word, behind, site_at}
 use Rattle.source_instance.proofs.Parts.{parts}
 use Rattle.source_instance.proofs.Machine.{L, M, has, IsSame, at_start, has_in, set_above}
 use Rattle.source_instance.proofs.Machine.{maps, state, own_code, own_data, its_code, its_data, stack, g_code}
@@ -301,7 +302,7 @@ call_case = refl
 
 abbrev at_jump : State OWord
 at_jump = maps
-    (regs_with (Plain (Mem (own_code 54))) (RetCode 0) (RetData 0) (Plain (Mem (stack 115 115)))
+    (regs_with (Plain (Mem (own_code (1 + site_at + (CALL_WORDS - 1))))) (RetCode 0) (RetData 0) (Plain (Mem (stack 115 115)))
     (Plain (Mem (own_data 90))) (Plain g_code) (Plain g_data)) taken
 
 call_row : row look Plain (Xjmp C1 C2) (Int (pos 0)) at_jump ≡ went o26.maps
@@ -318,7 +319,7 @@ call_told : event_after L (note_by L o25 (Call 0)) o26 ≡ Some call_event
 unfolding faces opens owner_of entry_code call_code return_code
 call_told = refl
 
-pub call_made : Makes o25 o26 16 (Some call_event)
+pub call_made : Makes o25 o26 CALL_WORDS (Some call_event)
 unfolding overlay_step weight_of step_event
 call_made = record {
   goes_on = ap (λ c. step_by L c o25) call_case ∙ call_goes;
@@ -336,7 +337,7 @@ return_event = Returned false 0 116 118
 
 abbrev pub o27 : OState
 o27 = state
-    (maps (regs_with (Plain (Mem (own_code 65))) (RetCode 0) zero_ (Plain (Mem (stack 118 116)))
+    (maps (regs_with (Plain (Mem (own_code (behind 0)))) (RetCode 0) zero_ (Plain (Mem (stack 118 116)))
     (Plain (Mem (own_data 90))) (Plain g_code) (Plain g_data)) given_back) [] 1
 
 still : cell taken 104 ≡ Some (Plain (as_word (Xjmp Rcode Rdata)))
@@ -359,7 +360,7 @@ back_told : event_after L (note_by L o26 (Back Rcode Rdata)) o27 ≡ Some return
 unfolding faces owner_of entry_code call_code return_code
 back_told = refl
 
-pub return_made : Makes o26 o27 11 (Some return_event)
+pub return_made : Makes o26 o27 (RETURN_WORDS + 1) (Some return_event)
 unfolding overlay_step weight_of step_event
 return_made = record {
   goes_on = ap (λ c. step_by L c o26) back_case ∙ back_goes;

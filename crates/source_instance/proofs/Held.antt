@@ -18,6 +18,7 @@ use Rattle.proc_semantics.specs.Marked.{Thing}
 use Rattle.template_runs.specs.Runs.{is_inside}
 use Rattle.source_laws.specs.Seen.{Back, Shown, event_outs, event_items, call_shown, thing_of}
 use Rattle.source_laws.specs.Wiped.{TellsSince, none_yet, and_then, last_outside}
+use Rattle.source_instance.proofs.Module.{behind}
 use Rattle.source_instance.proofs.Machine.{L, Makes, own_code, its_code}
 use Rattle.source_instance.proofs.Enters as enters
 use Rattle.source_instance.proofs.Calls as calls
@@ -137,24 +138,24 @@ pub to_leave : Since (call_told ∷ []) (entry ∷ answer ∷ []) calls.o26 leav
 to_leave =
     let c = more to_call calls.call_made (call_told ∷ []) [] refl refl true (inside calls.o25 39 refl) in
     let a = more c calls.return_made [] (answer ∷ []) refl answered_by false (outside calls.o26 104 refl) in
-    let r27 = within a leaves.step27 65 refl in
-    let r28 = within r27 leaves.step28 66 refl in
-    let r29 = within r28 leaves.step29 67 refl in
-    let r30 = within r29 leaves.step30 68 refl in
-    let r31 = within r30 leaves.step31 69 refl in
-    let r32 = within r31 leaves.step32 71 refl in
-    let r33 = within r32 leaves.step33 72 refl in
-    let r34 = within r33 leaves.step34 73 refl in
-    let r35 = within r34 leaves.step35 74 refl in
-    let r36 = within r35 leaves.step36 75 refl in
-    let r37 = within r36 leaves.step37 76 refl in
-    let r38 = within r37 leaves.step38 77 refl in
-    let r39 = within r38 leaves.step39 78 refl in
-    let r40 = within r39 leaves.step40 79 refl in
-    let r41 = within r40 leaves.step41 80 refl in
-    let r42 = within r41 leaves.step42 81 refl in
-    let r43 = within r42 leaves.step43 82 refl in
-    let r44 = within r43 leaves.step44 83 refl in
-    let r45 = within r44 leaves.step45 84 refl in
-    let r46 = within r45 leaves.step46 85 refl in
-    within r46 leaves.step47 86 refl
+    let r27 = within a leaves.step27 (behind 0) refl in
+    let r28 = within r27 leaves.step28 (behind 1) refl in
+    let r29 = within r28 leaves.step29 (behind 2) refl in
+    let r30 = within r29 leaves.step30 (behind 3) refl in
+    let r31 = within r30 leaves.step31 (behind 4) refl in
+    let r32 = within r31 leaves.step32 (behind 6) refl in
+    let r33 = within r32 leaves.step33 (behind 7) refl in
+    let r34 = within r33 leaves.step34 (behind 8) refl in
+    let r35 = within r34 leaves.step35 (behind 9) refl in
+    let r36 = within r35 leaves.step36 (behind 10) refl in
+    let r37 = within r36 leaves.step37 (behind 11) refl in
+    let r38 = within r37 leaves.step38 (behind 12) refl in
+    let r39 = within r38 leaves.step39 (behind 13) refl in
+    let r40 = within r39 leaves.step40 (behind 14) refl in
+    let r41 = within r40 leaves.step41 (behind 15) refl in
+    let r42 = within r41 leaves.step42 (behind 16) refl in
+    let r43 = within r42 leaves.step43 (behind 17) refl in
+    let r44 = within r43 leaves.step44 (behind 18) refl in
+    let r45 = within r44 leaves.step45 (behind 19) refl in
+    let r46 = within r45 leaves.step46 (behind 20) refl in
+    within r46 leaves.step47 (behind 21) refl

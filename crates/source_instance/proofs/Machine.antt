@@ -46,7 +46,7 @@ use Rattle.overlay_machine.proofs.Offers.{is_overlay, start_word_is}
 use Rattle.trace_tool.specs.Layout.{layout}
 use Rattle.trace_tool.proofs.Offers.{zero_}
 use Rattle.proc_templates.specs.Items.{zero_of}
-use Rattle.source_instance.proofs.Module.{as_word}
+use Rattle.source_instance.proofs.Module.{as_word, behind}
 use Rattle.source_instance.proofs.Parts.{parts}
 use Rattle.source_instance.proofs.Start.{start, spans, cells_are, is_start_of}
 
@@ -89,7 +89,7 @@ state s fs n = record { maps = s; frames = fs; calls = n }
 
 -- the module's code and data, the adversary's, and the stack up to an end
 abbrev pub own_code : ℕ → CapFields
-own_code n = code_cap 1 87 n
+own_code n = code_cap 1 (behind 22) n
 
 abbrev pub own_data : ℕ → CapFields
 own_data n = record { perm = Rw; lin = Normal; base = 90; end = 93; addr = pos n }
@@ -129,11 +129,12 @@ pub record Stands (o : OState) (i : Instr) (next : CapFields) : Type 0 where
   pub fetched : fetch (faces look o.maps Pc) (cell_faces look o.maps) ≡ some i (Mem next)
   pub place : case_trusted L (trusted_at L (faces look o.maps Pc)) Other ≡ Other
 
-pub own_stands : (o : OState) (a : ℕ) (i : Instr) → look o.maps.regs.pc ≡ Mem (own_code a) → 1 ≤ a → a ≤ 87
+pub own_stands : (o : OState) (a : ℕ) (i : Instr) → look o.maps.regs.pc ≡ Mem (own_code a) → 1 ≤ a
+    → a ≤ behind 22
     → cell o.maps.cells a ≡ Some (Plain (as_word i)) → IsInstr i
     → case_trusted L (trusted_at L (faces look o.maps Pc)) Other ≡ Other → Stands o i (own_code (a + 1))
 own_stands o a i pc low high there ok place = record {
-  fetched = fetch_at look Plain o.maps 1 87 a i pc low high (ap (look_face look) there) ok;
+  fetched = fetch_at look Plain o.maps 1 (behind 22) a i pc low high (ap (look_face look) there) ok;
   place = place;
 }
 

@@ -1,5 +1,5 @@
 -- A module of one procedure, which hands on what a procedure of another part answers, and its component.
-use Rattle.std.proofs.Common.{◌≡◌, ℕ, pos, negsuc, true, false, List, [], ◌∷◌, ◌++◌, map, Some, refl, arith}
+use Rattle.std.proofs.Common.{◌≡◌, ℕ, ◌+◌, pos, negsuc, true, false, List, [], ◌∷◌, ◌++◌, map, Some, refl, arith}
 use Rattle.std.proofs.Common.{subst}
 use Rattle.cap_words.specs.Names as names
 use Rattle.cap_words.specs.declared.Word.{Word}
@@ -12,6 +12,7 @@ use Rattle.lcm_isa.specs.declared.Reg.TheVariants.{Pc, Rcode, Rdata, Stk, Dat, T
 use Rattle.lcm_isa.specs.declared.Reg.TheVariants.{G0, G1, G2}
 use Rattle.component_file.specs.declared.component.ComponentFields.{ComponentFields}
 use Rattle.component_file.specs.Limits.{IsComponent}
+use Rattle.call_sequence.specs.declared.TheConstants.{CALL_WORDS, ENTRY_WORDS, SITE_WORDS}
 use Rattle.call_sequence.specs.Sequences.{call_code, return_code, entry_code}
 use Rattle.flow_check.specs.Verdict.{IsKept}
 use Rattle.proc_language.specs.declared.tree.Name.{Name}
@@ -93,7 +94,14 @@ resolved = refl
 abbrev pub as_word : Instr → Word
 as_word i = Int (pos (number_of i))
 
--- the procedure is entered at 2, calls at 38, and ends from 70 on
+-- the procedure is entered at 2, and there is its site
+abbrev pub site_at : ℕ
+site_at = 2 + ENTRY_WORDS + 16
+
+-- addresses behind it: six words further on the procedure ends
+abbrev pub behind : ℕ → ℕ
+behind k = 1 + site_at + SITE_WORDS + k
+
 abbrev pub source_instrs : List Instr
 source_instrs =
     entry_code 0 2 111
@@ -101,7 +109,7 @@ source_instrs =
     ∷ zero_of A0 ∷ zero_of A1 ∷ zero_of A2 ∷ zero_of A3
     ∷ Cca Dat (Imm (pos 0)) ∷ Load C1 Dat ∷ Cca Dat (Imm (pos 1)) ∷ Load C2 Dat ∷ Cca Dat (Imm (negsuc 0))
     ∷ zero_of G0 ∷ zero_of G1 ∷ zero_of G2 ∷ [])
-    ++ call_code 1 38 0 ++ return_code 0 54 111
+    ++ call_code 1 site_at 0 ++ return_code 0 (site_at + CALL_WORDS) 111
     ++ (Plus G0 A0 (Imm (pos 0)) ∷ Move A0 (R G0)
     ∷ Move T2 (R Pc) ∷ Cca T2 (Imm (pos 4)) ∷ Jmp T2 ∷ zero_of A0
     ∷ zero_of T1 ∷ Cca Stk (Imm (pos 1)) ∷ Load Rdata Stk ∷ Store Stk T1
@@ -126,10 +134,10 @@ trusted = record {
   imports = record { part = 117 ∷ []; name = 103 ∷ []; slot = 0 }
       ∷ record { part = 116 ∷ []; name = 102 ∷ []; slot = 2 } ∷ [];
   exports = record { name = 102 ∷ []; offset = 2; shared = true } ∷ [];
-  sites = 38 ∷ [];
+  sites = site_at ∷ [];
   fail_at = Some 0;
   literal_at = Some 1;
-  rows = row_at_label 70 ∷ [];
+  rows = row_at_label (site_at + SITE_WORDS + 6) ∷ [];
   movable = false;
 }
 

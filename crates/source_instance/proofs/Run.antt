@@ -10,6 +10,7 @@ use Rattle.lcm_machine.specs.Run.{plain}
 use Rattle.lcm_machine.specs.Row.{faces}
 use Rattle.lcm_machine.specs.Cells.{cell}
 use Rattle.lcm_machine.proofs.Offers.{cell-without_in}
+use Rattle.call_sequence.specs.declared.TheConstants.{CALL_WORDS, SITE_WORDS}
 use Rattle.call_sequence.specs.Sequences.{call_code, return_code, entry_code}
 use Rattle.component_linker.specs.Owners.{owner_of}
 use Rattle.component_linker.specs.Parts.{PartSeen}
@@ -211,14 +212,18 @@ to_call =
     let r15 = tells r14 calls.step23 no_event in
     tells r15 calls.step24 no_event
 
-called : Comes 60 (enter_line ∷ call_line ∷ []) (call_out ∷ []) (enter_item ∷ []) calls.o26
+called : Comes (44 + CALL_WORDS) (enter_line ∷ call_line ∷ []) (call_out ∷ []) (enter_item ∷ []) calls.o26
 called = tells to_call calls.call_made call_told
 
-answered : Comes 71 (enter_line ∷ call_line ∷ ret_line ∷ []) (call_out ∷ [])
+answered : Comes (44 + SITE_WORDS + 1) (enter_line ∷ call_line ∷ ret_line ∷ []) (call_out ∷ [])
     (enter_item ∷ ret_item ∷ []) calls.o27
 answered = tells called calls.return_made ret_told
 
-pub to_leave : Comes 92 (enter_line ∷ call_line ∷ ret_line ∷ []) (call_out ∷ [])
+-- behind so many instructions it leaves
+abbrev pub leaving_at : ℕ
+leaving_at = 44 + SITE_WORDS + 22
+
+pub to_leave : Comes leaving_at (enter_line ∷ call_line ∷ ret_line ∷ []) (call_out ∷ [])
     (enter_item ∷ ret_item ∷ []) leaves.o48
 to_leave =
     let r0 = tells answered leaves.step27 no_event in
@@ -243,7 +248,7 @@ to_leave =
     let r19 = tells r18 leaves.step46 no_event in
     tells r19 leaves.step47 no_event
 
-left : Comes 93 (enter_line ∷ call_line ∷ ret_line ∷ leave_line ∷ [])
+left : Comes (leaving_at + 1) (enter_line ∷ call_line ∷ ret_line ∷ leave_line ∷ [])
     (call_out ∷ leave_out ∷ [])
     (enter_item ∷ ret_item ∷ []) leaves.o49
 left = tells to_leave leaves.step48 leave_told
@@ -269,10 +274,10 @@ abbrev all_lines : List Line
 all_lines = enter_line ∷ call_line ∷ ret_line ∷ leave_line ∷ []
 
 -- the plain run writes what the overlay's steps tell
-it_writes : StartLinesAgree → written start 93 ≡ all_lines
-it_writes agree = (agree parts 8 start is_start_of).matched 93 all_lines leaves.o49 left.lines
+it_writes : StartLinesAgree → written start (leaving_at + 1) ≡ all_lines
+it_writes agree = (agree parts 8 start is_start_of).matched (leaving_at + 1) all_lines leaves.o49 left.lines
 
-came : StartLinesAgree → items_in 111 (written start 93) ≡ enter_item ∷ ret_item ∷ []
+came : StartLinesAgree → items_in 111 (written start (leaving_at + 1)) ≡ enter_item ∷ ret_item ∷ []
 came agree = ap (items_in 111) (it_writes agree)
 
 abbrev world : World
@@ -281,7 +286,7 @@ world = map part_of (source ∷ [])
 -- where it stands outside, the meaning waits
 it_means : MeansAlways world 8 start
     → MeaningEnds world 8 (enter_item ∷ ret_item ∷ []) (call_out ∷ leave_out ∷ []) Waiting
-it_means mean = (mean 93 left.weight _ _ leaves.o49 left.shows).waits stands_outside
+it_means mean = (mean (leaving_at + 1) left.weight _ _ leaves.o49 left.shows).waits stands_outside
 
 abbrev StartsMean : Type 0
 StartsMean =
@@ -299,13 +304,13 @@ source_there headline agree mean = record {
   other = second;
   other_in = (1, omega arith, refl);
   untrusted = refl;
-  steps = 93;
+  steps = (leaving_at + 1);
   steps_are = refl;
   overlay = leaves.o49;
   matched = left.reached;
   outside =
-      runs_outside start 93 leaves.o49 (Mem (its_code 104))
-      ((headline parts 8 start is_start_of).agrees.matched 93 leaves.o49 left.reached).1 refl stops_outside;
+      runs_outside start (leaving_at + 1) leaves.o49 (Mem (its_code 104))
+      ((headline parts 8 start is_start_of).agrees.matched (leaving_at + 1) leaves.o49 left.reached).1 refl stops_outside;
   part = 116 ∷ [];
   name = 102 ∷ [];
   stk = stack_word;

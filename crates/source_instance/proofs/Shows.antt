@@ -23,7 +23,7 @@ use Rattle.source_laws.proofs.Offers.{meaning, whence_same, tells_of, low_same}
 use Rattle.source_starts.specs.Sources.{SourcesLeaveNothing, linked_at}
 use Rattle.source_starts.specs.PlainWiped.{PlainRunsWipe}
 use Rattle.source_instance.specs.Shows.{LetsGoThere, SourceShows}
-use Rattle.source_instance.proofs.Module.{source}
+use Rattle.source_instance.proofs.Module.{source, behind}
 use Rattle.source_instance.proofs.Parts.{parts, are_sources}
 use Rattle.source_instance.proofs.Start.{start, is_start_of}
 use Rattle.source_instance.proofs.Machine.{L, its_code, its_data}
@@ -89,8 +89,8 @@ module _ (each : EachLetsGo) (law : SourcesLeaveNothing) (wipe : PlainRunsWipe) 
       (outside o26 104 refl)
 
   leaves : LetsGoThere (source ∷ []) parts 8 start (call_told ∷ []) (entry ∷ answer ∷ []) o26 o48 o49
-  leaves = there 92 (call_told ∷ []) (entry ∷ answer ∷ []) o26 o48 o49 run.to_leave.reached held.to_leave
-      (inside o48 87 refl) step48.goes_on (outside o49 104 refl)
+  leaves = there run.leaving_at (call_told ∷ []) (entry ∷ answer ∷ []) o26 o48 o49 run.to_leave.reached held.to_leave
+      (inside o48 (behind 22) refl) step48.goes_on (outside o49 104 refl)
 
   -- the end of the stack that is given away, by stk
   end_is : (b q : OState) (low : Option ℕ) (w : Wiped G low b q) (end : ℕ)

@@ -17,7 +17,7 @@ use Rattle.component_linker.specs.Linked.{Linked}
 use Rattle.component_linker.proofs.Offers.{are_linked, filled, cells_filled, site_of, sites_are, owners_of}
 use Rattle.component_linker.proofs.Offers.{owners_are}
 use Rattle.component_linker.specs.LinkedStarts.{IsStartOf}
-use Rattle.source_instance.proofs.Module.{trusted}
+use Rattle.source_instance.proofs.Module.{trusted, site_at}
 use Rattle.source_instance.proofs.Parts.{adversary, second, parts, each, keeps, has_room}
 
 -- ---- the start
@@ -41,7 +41,7 @@ start = record {
     count = 0;
     end = None;
   };
-  sites = site_of trusted 38 ∷ [];
+  sites = site_of trusted site_at ∷ [];
   owners = owners_of trusted adversary;
   stack = record { base = 111; end = 118 };
 }
@@ -75,7 +75,7 @@ is_start = record {
 pub starts : Starts parts 8 start
 starts = record {
   state = is_start;
-  sites = sites_are trusted adversary 38 refl;
+  sites = sites_are trusted adversary site_at refl;
   owners = owners_are trusted adversary (omega arith);
   stack = refl;
 }

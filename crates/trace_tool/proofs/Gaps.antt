@@ -16,6 +16,7 @@ use Rattle.lcm_machine.specs.declared.End.{End}
 use Rattle.lcm_machine.specs.Maps.{State}
 use Rattle.lcm_machine.specs.Row.{faces, pc_of, pc_at}
 use Rattle.lcm_machine.specs.Run.{Run, next_state, answer, jump_by, next_jump}
+use Rattle.call_sequence.specs.declared.TheConstants.{SITE_WORDS}
 use Rattle.component_linker.specs.declared.owners.Site.{Site}
 use Rattle.component_linker.specs.Started.{StartSeen}
 use Rattle.trusted_border.specs.declared.layout.Layout.{Layout}
@@ -41,22 +42,24 @@ none_placed sites o other =
     rw (last, past) refl
 
 module _ (l : Layout) (g : Gap) (free : IsGap l.sites g) where
-  none_ends : (a : ℕ) → has g (pos a) ≡ true → site_before l 25 a ≡ None
-  none_ends a h = by_place (nat_le 25 a) refl
+  none_ends : (a : ℕ) → has g (pos a) ≡ true → site_before l (SITE_WORDS - 1) a ≡ None
+  none_ends a h = by_place (nat_le (SITE_WORDS - 1) a) refl
     where
-      by_place : (b : Bool) → nat_le 25 a ≡ b
-          → (if b then option_and_then numbered (position (λ (s : Site). s.at == a - 25) l.sites) else None)
+      by_place : (b : Bool) → nat_le (SITE_WORDS - 1) a ≡ b
+          → (if b
+          then option_and_then numbered (position (λ (s : Site). s.at == a - (SITE_WORDS - 1)) l.sites)
+          else None)
           ≡ None
       by_place false e = refl
       by_place true e =
-          ap (option_and_then numbered) (none_placed l.sites (a - 25) (λ i lt same.
-          let ends : has g (pos ((get_or l.sites i no_site).at + 25)) ≡ false = free i no_site lt in
-          let le : 25 ≤ a = leb-true 25 a e in
-          let at : (get_or l.sites i no_site).at + 25 ≡ a = omega (arith, same, le) in
+          ap (option_and_then numbered) (none_placed l.sites (a - (SITE_WORDS - 1)) (λ i lt same.
+          let ends : has g (pos ((get_or l.sites i no_site).at + (SITE_WORDS - 1))) ≡ false = free i no_site lt in
+          let le : (SITE_WORDS - 1) ≤ a = leb-true (SITE_WORDS - 1) a e in
+          let at : (get_or l.sites i no_site).at + (SITE_WORDS - 1) ≡ a = omega (arith, same, le) in
           let other : has g (pos a) ≡ false = ap (λ n. has g (pos n)) (sym at) ∙ ends in
           cc))
 
-  by_face : (f : Face) (z : ℤ) → pc_of f ≡ z → has g z ≡ true → site_word l 25 f ≡ None
+  by_face : (f : Face) (z : ℤ) → pc_of f ≡ z → has g z ≡ true → site_word l (SITE_WORDS - 1) f ≡ None
   unfolding site_word
   by_face (Number n) z e h = refl
   by_face (Seals s) z e h = refl
@@ -64,11 +67,11 @@ module _ (l : Layout) (g : Gap) (free : IsGap l.sites g) where
   by_face (Memory c) (negsuc n) e h = cc
   by_face (Memory c) (pos a) e h = by_tests (is_some (trusted_owner l (Memory c))) (covers c c.addr)
     where
-      by_tests : (t b : Bool) → option_and_then (site_before l 25)
+      by_tests : (t b : Bool) → option_and_then (site_before l (SITE_WORDS - 1))
           (if t then (if b then Some (address c.addr) else None) else None) ≡ None
       by_tests false b = refl
       by_tests true false = refl
-      by_tests true true = ap (λ z. site_before l 25 (address z)) e ∙ none_ends a h
+      by_tests true true = ap (λ z. site_before l (SITE_WORDS - 1) (address z)) e ∙ none_ends a h
 
 -- ---- so there is no line
 

@@ -1,6 +1,6 @@
 -- The run of the instance: the steps of its overlay are an entry, three instructions, a call, and the return
 -- to it.
-use Rattle.std.proofs.Common.{◌≡◌, ℕ, ◌+◌, pos, true, false, List, [], ◌∷◌, ◌++◌, Some, None, refl, ap, ◌∙◌}
+use Rattle.std.proofs.Common.{◌≡◌, ℕ, ◌+◌, ◌-◌, pos, true, false, List, [], ◌∷◌, ◌++◌, Some, None, refl, ap, ◌∙◌}
 use Rattle.std.proofs.Common.{arith, subst, inl}
 use Rattle.std.specs.Prelude.{option_map, ◌&&◌, is_some}
 use Rattle.cap_words.specs.declared.Word.{Word}
@@ -21,7 +21,7 @@ use Rattle.lcm_machine.specs.Row.{faces, cell_faces, fetch, some, look_face, ope
 use Rattle.lcm_machine.specs.Runs.{code_cap}
 use Rattle.lcm_machine.proofs.Offers.{cell-without_in, cell-without_out, stays, load_goes, cca_goes}
 use Rattle.lcm_machine.proofs.Offers.{xjmp_goes, fetch_at, step_row}
-use Rattle.call_sequence.specs.declared.TheConstants.{CALL_WORDS, ENTRY_WORDS}
+use Rattle.call_sequence.specs.declared.TheConstants.{CALL_WORDS, ENTRY_WORDS, RETURN_WORDS}
 use Rattle.call_sequence.specs.Sequences.{call_code, return_code, entry_code}
 use Rattle.component_linker.specs.Regions.{regions_of}
 use Rattle.component_linker.specs.Start.{start_cell, start_regs, part_word}
@@ -47,7 +47,19 @@ use Rattle.trace_tool.specs.Lines.{Line, Args, call, ret, lines_for}
 use Rattle.trace_tool.specs.Alike.{StartLinesAgree}
 use Rattle.trace_tool.specs.Headline.{CallThere}
 use Rattle.trace_tool.specs.Told.{step_lines, Told, none_yet, and_then}
-use Rattle.component_linker.proofs.Offers.{as_word, pair, start, spans, cells_are}
+use Rattle.component_linker.proofs.Offers.{as_word, pair, start, spans, cells_are, site_at, halt_at, seals_at}
+
+-- ---- how many instructions lead to where
+
+-- to its call, behind the call's `xjmp`, and behind the answer's and the return
+abbrev pub to_call : ℕ
+to_call = site_at
+
+abbrev pub to_callee : ℕ
+to_callee = to_call + CALL_WORDS
+
+abbrev pub to_end : ℕ
+to_end = to_callee + (1 + RETURN_WORDS)
 
 -- ---- the cells of the overlay
 
@@ -125,8 +137,12 @@ regs_with pc rcode rdata stk dat c1 c2 = record {
 abbrev state : Regs OWord → Cells → List OpenFrame → ℕ → OState
 state rs m fs n = record { maps = record { regs = rs; cells = m; spans = spans }; frames = fs; calls = n }
 
+-- the part's code has its seals at its end
+abbrev code_end : ℕ
+code_end = 1 + seals_at
+
 abbrev code : ℕ → OWord
-code n = Plain (Mem (code_cap 1 52 n))
+code n = Plain (Mem (code_cap 1 code_end n))
 
 abbrev stack : ℕ → OWord
 stack e = Plain (Mem (record { perm = Rw; lin = Linear; base = 67; end = e; addr = pos e }))
@@ -169,7 +185,7 @@ o5 = state
 
 abbrev pub o6 : OState
 o6 = state
-    (regs_with (code 50) (RetCode 0) zero_ (stack 70) (Plain (Mem (own_data 55))) (Plain code_word)
+    (regs_with (code (1 + halt_at)) (RetCode 0) zero_ (stack 70) (Plain (Mem (own_data 55))) (Plain code_word)
     (Plain data_word)) (put_back (without M 70 70) 70 (zero_ ∷ [])) [] 1
 
 -- ---- the entry
@@ -189,8 +205,8 @@ lines0 = refl
 
 -- ---- three instructions
 
-fetch1 : fetch (faces look o1.maps Pc) (cell_faces look o1.maps) ≡ some (Load C1 Dat) (Mem (code_cap 1 52 22))
-fetch1 = fetch_at look Plain o1.maps 1 52 21 (Load C1 Dat) refl (omega arith) (omega arith)
+fetch1 : fetch (faces look o1.maps Pc) (cell_faces look o1.maps) ≡ some (Load C1 Dat) (Mem (code_cap 1 code_end 22))
+fetch1 = fetch_at look Plain o1.maps 1 code_end 21 (Load C1 Dat) refl (omega arith) (omega arith)
     (ap (look_face look) (has 21 _ at21)) tt
 
 case1 : case_of L o1.maps ≡ Other
@@ -201,9 +217,9 @@ step1 : overlay_step L o1 ≡ goes o2
 unfolding overlay_step other_step
 step1 = ap (λ c. step_by L c o1) case1
     ∙ ap (with_frames [] 0)
-    (step_row look Plain o1.maps 1 52 21 (Load C1 Dat) refl (omega arith) (omega arith)
+    (step_row look Plain o1.maps 1 code_end 21 (Load C1 Dat) refl (omega arith) (omega arith)
     (ap (look_face look) (has 21 _ at21)) tt
-    ∙ load_goes look Plain C1 Dat (Mem (code_cap 1 52 22)) o1.maps (own_data 54) 54 (Plain code_word)
+    ∙ load_goes look Plain C1 Dat (Mem (code_cap 1 code_end 22)) o1.maps (own_data 54) 54 (Plain code_word)
     code_word refl refl refl refl (omega arith) (omega arith) (has 54 _ at54) refl refl refl)
 
 weight1 : weight_of L o1 ≡ 1
@@ -218,8 +234,8 @@ lines1 = ap (λ c. lines_for L (flat_view L o2) (event_after L (note_by L o1 c) 
     fetch1
 
 fetch2 : fetch (faces look o2.maps Pc) (cell_faces look o2.maps) ≡ some (Cca Dat (Imm (pos 1)))
-    (Mem (code_cap 1 52 23))
-fetch2 = fetch_at look Plain o2.maps 1 52 22 (Cca Dat (Imm (pos 1))) refl (omega arith) (omega arith)
+    (Mem (code_cap 1 code_end 23))
+fetch2 = fetch_at look Plain o2.maps 1 code_end 22 (Cca Dat (Imm (pos 1))) refl (omega arith) (omega arith)
     (ap (look_face look) (has 22 _ at22)) (record { sfits = omega arith })
 
 case2 : case_of L o2.maps ≡ Other
@@ -230,9 +246,9 @@ step2 : overlay_step L o2 ≡ goes o3
 unfolding overlay_step other_step
 step2 = ap (λ c. step_by L c o2) case2
     ∙ ap (with_frames [] 0)
-    (step_row look Plain o2.maps 1 52 22 (Cca Dat (Imm (pos 1))) refl (omega arith) (omega arith)
+    (step_row look Plain o2.maps 1 code_end 22 (Cca Dat (Imm (pos 1))) refl (omega arith) (omega arith)
     (ap (look_face look) (has 22 _ at22)) (record { sfits = omega arith })
-    ∙ cca_goes look Plain Dat (Imm (pos 1)) (Mem (code_cap 1 52 23)) o2.maps (own_data 54) (pos 1) (pos 55)
+    ∙ cca_goes look Plain Dat (Imm (pos 1)) (Mem (code_cap 1 code_end 23)) o2.maps (own_data 54) (pos 1) (pos 55)
     refl refl refl refl refl)
 
 weight2 : weight_of L o2 ≡ 1
@@ -246,8 +262,8 @@ lines2 = ap (λ c. lines_for L (flat_view L o3) (event_after L (note_by L o2 c) 
     (event_after L (note_jump (option_map (λ p. p.part) (owner_now L o2)) (jump_seal o2.maps f)) o3))
     fetch2
 
-fetch3 : fetch (faces look o3.maps Pc) (cell_faces look o3.maps) ≡ some (Load C2 Dat) (Mem (code_cap 1 52 24))
-fetch3 = fetch_at look Plain o3.maps 1 52 23 (Load C2 Dat) refl (omega arith) (omega arith)
+fetch3 : fetch (faces look o3.maps Pc) (cell_faces look o3.maps) ≡ some (Load C2 Dat) (Mem (code_cap 1 code_end 24))
+fetch3 = fetch_at look Plain o3.maps 1 code_end 23 (Load C2 Dat) refl (omega arith) (omega arith)
     (ap (look_face look) (has 23 _ at23)) tt
 
 case3 : case_of L o3.maps ≡ Other
@@ -258,9 +274,9 @@ step3 : overlay_step L o3 ≡ goes o4
 unfolding overlay_step other_step
 step3 = ap (λ c. step_by L c o3) case3
     ∙ ap (with_frames [] 0)
-    (step_row look Plain o3.maps 1 52 23 (Load C2 Dat) refl (omega arith) (omega arith)
+    (step_row look Plain o3.maps 1 code_end 23 (Load C2 Dat) refl (omega arith) (omega arith)
     (ap (look_face look) (has 23 _ at23)) tt
-    ∙ load_goes look Plain C2 Dat (Mem (code_cap 1 52 24)) o3.maps (own_data 55) 55 (Plain data_word)
+    ∙ load_goes look Plain C2 Dat (Mem (code_cap 1 code_end 24)) o3.maps (own_data 55) 55 (Plain data_word)
     data_word refl refl refl refl (omega arith) (omega arith) (has 55 _ at55) refl refl refl)
 
 weight3 : weight_of L o3 ≡ 1
@@ -286,7 +302,7 @@ there4 = ap (λ x. is_some x && true) (has 70 _ at70)
 
 abbrev jump4 : State OWord
 jump4 = record {
-  regs = regs_with (code 39) (RetCode 0) (RetData 0) (stack 69) (Plain (Mem (own_data 55)))
+  regs = regs_with (code (1 + site_at + (CALL_WORDS - 1))) (RetCode 0) (RetData 0) (stack 69) (Plain (Mem (own_data 55)))
       (Plain code_word) (Plain data_word);
   cells = without M 70 70;
   spans = spans;
@@ -347,7 +363,7 @@ step5 : overlay_step L o5 ≡ goes o6
 unfolding overlay_step
 step5 = ap (λ c. step_by L c o5) case5 ∙ returned5
 
-pub weight5 : weight_of L o5 ≡ 11
+pub weight5 : weight_of L o5 ≡ 1 + RETURN_WORDS
 unfolding weight_of
 weight5 = ap (weight_by o5.maps) case5
 
@@ -376,20 +392,20 @@ told2 = next_told 1 [] told1 step1 weight1 lines1
 told3 : Told L o0 22 [] o3
 told3 = next_told 1 [] told2 step2 weight2 lines2
 
-pub told4 : Told L o0 23 [] o4
+pub told4 : Told L o0 to_call [] o4
 told4 = next_told 1 [] told3 step3 weight3 lines3
 
-pub told5 : Told L o0 39 (call_line ∷ []) o5
+pub told5 : Told L o0 to_callee (call_line ∷ []) o5
 told5 = next_told CALL_WORDS (call_line ∷ []) told4 step4 weight4 lines4
 
-told6 : Told L o0 50 (call_line ∷ ret_line ∷ []) o6
-told6 = next_told 11 (ret_line ∷ []) told5 step5 weight5 lines5
+told6 : Told L o0 to_end (call_line ∷ ret_line ∷ []) o6
+told6 = next_told (1 + RETURN_WORDS) (ret_line ∷ []) told5 step5 weight5 lines5
 
 -- what the plain run writes, since it writes what the overlay's steps tell
 pub call_there : StartLinesAgree → CallThere
 call_there agree = record {
   there = start_there;
-  n = 50;
+  n = to_end;
   part = 116 ∷ [];
   site = 0;
   base = 70;
@@ -397,5 +413,5 @@ call_there agree = record {
   args = zeros;
   a0 = Int (pos 0);
   words = Mem (own_data 55) ∷ [];
-  lines = (agree pair 4 start is_linked).matched 50 (call_line ∷ ret_line ∷ []) o6 told6;
+  lines = (agree pair 4 start is_linked).matched to_end (call_line ∷ ret_line ∷ []) o6 told6;
 }

@@ -2,10 +2,7 @@
 -- which instructions of a call, an entry and a return touch the stack, whether they go or fail; so of a step,
 -- and of a run.
 pub mod TouchAt
-pub mod ArmedSpares
-pub mod CallSpares
-pub mod EntrySpares
-pub mod ReturnSpares
+pub mod SequencesSpare
 pub mod OwnReturn
 pub mod StepSpares
 pub mod CallTail

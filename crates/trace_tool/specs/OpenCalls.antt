@@ -16,6 +16,7 @@ use Rattle.lcm_machine.specs.Run.{plain}
 use Rattle.lcm_machine.specs.Runs.{code_cap}
 use Rattle.lcm_machine.specs.Touched.{Touches}
 use Rattle.call_sequence.specs.declared.TheConstants.{CALL_WORDS}
+use Rattle.call_sequence.specs.Sequences.{load_word, wipe_word}
 use Rattle.call_sequence.specs.SequenceRuns.{stack_cap}
 use Rattle.component_linker.specs.declared.owners.Site.{Site}
 use Rattle.component_linker.specs.Parts.{PartSeen}
@@ -92,9 +93,9 @@ pub record IsOwnReturn (s : StartSeen) (n : ℕ) (c : LineTold) (word : ℕ) : T
   pub stk : reg (after s before).regs Stk
       ≡ Mem (record (stack_cap (layout s).stack.base last_below 0) { addr = stk_at })
 
--- words 6 and 8 of a return load the call's first word and wipe it
+-- two words of a return load the call's first word and wipe it
 abbrev pub ReadsOrWipes : StartSeen → ℕ → LineTold → ℕ → Type 0
-ReadsOrWipes s n c a = (a ≡ c.base) × (IsOwnReturn s n c 6 ⊎ IsOwnReturn s n c 8)
+ReadsOrWipes s n c a = (a ≡ c.base) × (IsOwnReturn s n c load_word ⊎ IsOwnReturn s n c wipe_word)
 
 -- the instruction behind n others touches an address of an open call's range
 pub record UsesRange (s : StartSeen) (n a : ℕ) (c : LineTold) : Type 0 where

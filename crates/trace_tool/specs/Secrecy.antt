@@ -7,6 +7,7 @@ use Rattle.cap_words.specs.declared.Word.{Word}
 use Rattle.lcm_machine.specs.Maps.{State}
 use Rattle.lcm_machine.specs.Cells.{cell}
 use Rattle.lcm_machine.specs.Run.{Run, plain}
+use Rattle.call_sequence.specs.Sequences.{load_word, wipe_word}
 use Rattle.component_linker.specs.Parts.{PartSeen}
 use Rattle.component_linker.specs.Started.{StartSeen}
 use Rattle.component_linker.specs.LinkedStarts.{IsLinkedStart}
@@ -27,7 +28,7 @@ pub record StayOpen (s : StartSeen) (n m : ℕ) (cs : List LineTold) : Type 0 wh
   pub opened : (k : ℕ) (c : LineTold) → k ≤ m → Contains cs c
       → Contains (open_behind [] (written s (n + k))) c
   pub unread : (k : ℕ) (c : LineTold) → k < m → Contains cs c
-      → ¬ (IsOwnReturn s (n + k) c 6 ⊎ IsOwnReturn s (n + k) c 8)
+      → ¬ (IsOwnReturn s (n + k) c load_word ⊎ IsOwnReturn s (n + k) c wipe_word)
 
 -- the machine behind n instructions with other registers and cells, watched as the run itself
 abbrev pub instead : StartSeen → ℕ → State Word → Watched

@@ -1,5 +1,5 @@
 -- From the invariant: what each step writes, and so what a run does.
-use Rattle.call_sequence.specs.declared.TheConstants.{CALL_WORDS, RETURN_WORDS, ENTRY_WORDS}
+use Rattle.call_sequence.specs.declared.TheConstants.{CALL_WORDS, RETURN_WORDS, ENTRY_WORDS, SITE_WORDS}
 use Rattle.std.proofs.Common.{◌≡◌, ℕ, zero, suc, ◌+◌, ◌-◌, ◌<◌, ◌≤◌, Bool, true, List, [], ◌++◌, Some}
 use Rattle.std.proofs.Common.{refl, sym, ap, ◌∙◌, arith, subst}
 use Rattle.std.specs.Prelude.{if◌then◌else◌}
@@ -48,7 +48,7 @@ use Rattle.trace_tool.proofs.alike.Calm.{id, at_state, IsEnd, Calm}
 use Rattle.trace_tool.proofs.alike.Mute.{Mute, calm_mute, mute_lines, mute_ends, alike_goes, alike_ends}
 use Rattle.trace_tool.proofs.alike.Laying.{NoEnd}
 use Rattle.trace_tool.proofs.alike.Apart.{site_outer, entry_outer, no_end}
-use Rattle.trace_tool.proofs.alike.Entries.{entry_calm}
+use Rattle.trace_tool.proofs.alike.SequencesCalm.{entry_calm}
 use Rattle.trace_tool.proofs.alike.Others.{other_whole}
 use Rattle.trace_tool.proofs.alike.CallLine.{whole_calm, call_whole, ret_mute}
 use Rattle.trace_tool.proofs.alike.Returns.{back_mute}
@@ -63,13 +63,14 @@ module _ (g : Link) (linked : Linked g) where
   l = g.layout
 
   -- no site ends inside a site or an entry
-  pub site_free : (i : ℕ) (s : SiteCode) → site_code l i ≡ Some s → NoEnd l s.at (s.at + 25)
+  pub site_free : (i : ℕ) (s : SiteCode) → site_code l i ≡ Some s → NoEnd l s.at (s.at + (SITE_WORDS - 1))
   site_free i s es =
       let f = linked.sites i s es in
       let st = f.3 in
       let at = st.at_is in
       let ins = st.inside in
-      λ a lo hi. no_end g linked f.0 st.offset 25 f.2 (site_outer g linked f.0 st.offset f.2 st.site)
+      λ a lo hi. no_end g linked f.0 st.offset (SITE_WORDS - 1) f.2
+      (site_outer g linked f.0 st.offset f.2 st.site)
       (omega (arith, ins)) (omega arith) a (omega (arith, at, lo)) (omega (arith, at, hi))
 
   entry_free : (p : PartSeen) (o a : ℕ) → IsTrusted g p → a ≡ p.component.code_base + o
@@ -130,12 +131,12 @@ module _ (g : Link) (linked : Linked g) where
     back_muted r1 r2 v rd = by_word (reg o.maps.regs r1) refl
       where
         by_word : (w : OWord) → reg o.maps.regs r1 ≡ w → Muted (Back r1 r2)
-        by_word (Plain w) e = (0, ap (λ y. if is_ret_code y then 11 else 1) e, tt)
-        by_word (RetData n) e = (0, ap (λ y. if is_ret_code y then 11 else 1) e, tt)
+        by_word (Plain w) e = (0, ap (λ y. if is_ret_code y then RETURN_WORDS + 1 else 1) e, tt)
+        by_word (RetData n) e = (0, ap (λ y. if is_ret_code y then RETURN_WORDS + 1 else 1) e, tt)
         by_word (RetCode j) e = (
             let s = inv.met (R r1) (RetCode j) (ap Some e) in (
               RETURN_WORDS,
-              ap (λ y. if is_ret_code y then 11 else 1)
+              ap (λ y. if is_ret_code y then RETURN_WORDS + 1 else 1)
                   e,
               back_mute g linked r1 r2 o t rd m k v j s.0 s.1 (code_some l r1 r2 o t rd m k j s.0 e s.1)
                   (λ q lo hi. site_free j s.0 s.1 q (omega (arith, lo)) hi),
@@ -143,7 +144,11 @@ module _ (g : Link) (linked : Linked g) where
 
     muted : (c : Case) → View g o.frames o.maps c → ReadyFor l o c → Muted c
     muted (Call i) v r = call_muted i r
-    muted (Entry a) v r = (19, refl, calm_mute l 19 t (calm_less l 19 t (entry_muted a v r)))
+    muted (Entry a) v r = (
+      ENTRY_WORDS - 1,
+      refl,
+      calm_mute l (ENTRY_WORDS - 1) t (calm_less l (ENTRY_WORDS - 1) t (entry_muted a v r)),
+    )
     muted (Back r1 r2) v r = back_muted r1 r2 v r
     muted Other v r = (0, refl, tt)
 
@@ -175,7 +180,8 @@ module _ (g : Link) (linked : Linked g) where
         (omega arith)
     whole_by (Back r1 r2) v r u q n inward e run mq kq =
         let y = returned l r1 r2 o q e in
-        let z : weight_by o.maps (Back r1 r2) ≡ 11 = ap (λ w. if is_ret_code w then 11 else 1) y.code_is in
+        let z : weight_by o.maps (Back r1 r2) ≡ RETURN_WORDS + 1 =
+        ap (λ w. if is_ret_code w then RETURN_WORDS + 1 else 1) y.code_is in
         ap (lines_of l (at_state t n inward)) z
         ∙ return_whole g linked r1 r2 o t r m k v q y
         (λ b lo hi. site_free (y.frame).site y.site y.site_is b (omega (arith, lo)) hi)

@@ -26,8 +26,9 @@ use Rattle.overlay_machine.specs.Linked.{Linked, SiteOf}
 use Rattle.overlay_machine.specs.Safe.{IsSafe}
 use Rattle.overlay_machine.specs.Invariant.{StandsAt}
 use Rattle.overlay_machine.proofs.Offers.{in_code, one_part, View, in_part, failing, out, pc_untrusted}
+use Rattle.call_sequence.proofs.Offers.{target_code}
 use Rattle.trace_tool.specs.Layout.{site_before, site_word}
-use Rattle.trace_tool.proofs.alike.Laying.{NoEnd, word_none, target_code}
+use Rattle.trace_tool.proofs.alike.Laying.{NoEnd, word_none}
 use Rattle.trace_tool.proofs.alike.Sites.{word_is}
 
 module _ (g : Link) (linked : Linked g) where
@@ -89,12 +90,12 @@ module _ (g : Link) (linked : Linked g) where
 
   -- a sequence that begins inside no other: no site ends at its words
   pub no_end : (p : PartSeen) (o n : ℕ) → IsTrusted g p → (Inside p.component o → ⊥)
-      → o + n ≤ length p.component.code → n ≤ 25
+      → o + n ≤ length p.component.code → n ≤ (SITE_WORDS - 1)
       → NoEnd g.layout (p.component.code_base + o) (p.component.code_base + o + n)
-  no_end p o n ip free inside few = λ a lo hi. not_found 25 a (λ i s q k iq st e.
+  no_end p o n ip free inside few = λ a lo hi. not_found (SITE_WORDS - 1) a (λ i s q k iq st e.
       let ai = st.at_is in
       let ins = st.inside in
-      let top = in_code g linked q (st.offset + 25) iq (omega (arith, ins)) in
+      let top = in_code g linked q (st.offset + (SITE_WORDS - 1)) iq (omega (arith, ins)) in
       let mine = in_code g linked p (a - p.component.code_base) ip (omega (arith, lo, hi, inside)) in
       let same : q ≡ p = one_part g linked q p a iq ip (omega (arith, ai, e)) (omega (arith, ai, e, top))
       (omega (arith, lo)) (omega (arith, lo, mine)) in
@@ -102,7 +103,7 @@ module _ (g : Link) (linked : Linked g) where
     where
       -- it would begin before the sequence, and end within it
       before : (a : ℕ) → p.component.code_base + o ≤ a → a < p.component.code_base + o + n
-          → (q : PartSeen) (k : ℕ) (s : SiteCode) → q ≡ p → SiteOf q k s → a ≡ s.at + 25
+          → (q : PartSeen) (k : ℕ) (s : SiteCode) → q ≡ p → SiteOf q k s → a ≡ s.at + (SITE_WORDS - 1)
           → Inside p.component o
       before a lo hi q k s same st e =
           let st' : SiteOf p k s = subst (λ y. SiteOf y k s) same st in

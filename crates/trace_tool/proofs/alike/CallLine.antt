@@ -16,13 +16,13 @@ use Rattle.lcm_isa.specs.Numbers.{number_of}
 use Rattle.lcm_machine.specs.Maps.{State}
 use Rattle.lcm_machine.specs.Cells.{cell}
 use Rattle.lcm_machine.specs.Row.{faces, opens, row, step_of, went}
-use Rattle.lcm_machine.specs.Runs.{run_of, Stands, code_cap}
+use Rattle.lcm_machine.specs.Runs.{run_of, code_cap}
 use Rattle.lcm_machine.specs.Refusals.{HasFailed}
 use Rattle.lcm_machine.proofs.Offers.{failed_more, step_row}
 use Rattle.call_sequence.specs.declared.TheConstants.{CALL_WORDS}
-use Rattle.call_sequence.specs.Sequences.{call_code}
+use Rattle.call_sequence.specs.Sequences.{split_word}
 use Rattle.call_sequence.specs.SequenceRuns.{stack_cap, HasCall}
-use Rattle.call_sequence.proofs.Offers.{call_runs}
+use Rattle.call_sequence.proofs.Offers.{call_runs, xjmp_stands as call_xjmp, target_code}
 use Rattle.trusted_border.specs.declared.layout.Layout.{Layout}
 use Rattle.trusted_border.specs.declared.layout.SiteCode.{SiteCode}
 use Rattle.trusted_border.specs.declared.events.Event.TheVariants.{Called as CalledEvent}
@@ -50,13 +50,12 @@ use Rattle.trace_tool.specs.Events.{noted, noted_by, reaches_trusted, leapt_by, 
 use Rattle.trace_tool.specs.Events.{called as called_event}
 use Rattle.trace_tool.specs.Lines.{lines_for}
 use Rattle.trace_tool.specs.Runs.{lines_of}
-use Rattle.trace_tool.proofs.alike.Calm.{id, at_state, Calm, calm_then}
+use Rattle.trace_tool.proofs.alike.Calm.{id, Num, at_state, Calm, calm_then}
 use Rattle.trace_tool.proofs.alike.Mute.{Mute, calm_mute, mute_more, line_goes, line_flat}
-use Rattle.trace_tool.proofs.alike.Straight.{Num}
-use Rattle.trace_tool.proofs.alike.Laying.{NoEnd, jump_is, word_at, target_code, shown_at}
-use Rattle.trace_tool.proofs.alike.Operands.{stands_outside, last_step}
+use Rattle.trace_tool.proofs.alike.Laying.{NoEnd, jump_is, word_at, shown_at}
+use Rattle.trace_tool.proofs.alike.Operands.{last_step}
 use Rattle.trace_tool.proofs.alike.Sites.{site_there, seal_there, trusted_code, foreign_none}
-use Rattle.trace_tool.proofs.alike.Calls.{call_calm}
+use Rattle.trace_tool.proofs.alike.SequencesCalm.{call_calm}
 use Rattle.trace_tool.proofs.alike.Lands.{xjmp_opens, rdata_stays}
 use Rattle.trace_tool.proofs.alike.Others.{face_now}
 
@@ -102,10 +101,11 @@ module _ (g : Link) (linked : Linked g) (i : ℕ) (o : OState) (t : State Word) 
   pub whole_calm : Calm l (CALL_WORDS - 1) t
   whole_calm =
       let top = at_site.in_stack in
-      call_calm l t site.base site.end site.at site.seal has_call
-      (record (stack_cap l.stack.base at_site.end 0) { addr = at_site.to })
+      call_calm l t site.base site.end site.at site.seal
+      (record (stack_cap l.stack.base at_site.end 0) { addr = at_site.to }) has_call
       (m.regs Pc ∙ flat-mem l o.frames _ _ at_site.pc) (m.regs Stk ∙ flat-mem l o.frames _ _ at_site.stk)
-      (λ q lo hi. (its_site l i o t at_site m k).apart q lo (omega (arith, hi, top))) free
+      (λ q inside. let hi = inside.1 in (its_site l i o t at_site m k).apart q inside.0 (omega (arith, hi, top)))
+      free
 
   c1_opened : (w : Word) → o.maps.regs.c1 ≡ Plain w → t.regs.c1 ≡ w
   unfolding flat
@@ -158,20 +158,10 @@ module _ (g : Link) (linked : Linked g) (i : ℕ) (o : OState) (t : State Word) 
       ends = let a = has_call.ends in omega (arith, a)
 
       xjmp_stands : Num s15 (site.at + (CALL_WORDS - 1)) (pos (number_of (Xjmp C1 C2)))
-      unfolding call_code
       xjmp_stands =
           let e = at_site.in_stack in
-          let ai = has_call.at_is in
-          let en = has_call.ends in
-          let c : Stands id s15.cells site.at (call_code has_call.literal has_call.offset has_call.number) =
-          stands_outside t.cells (b + 1)
-          t.regs.dat site.base site.end site.at (call_code has_call.literal has_call.offset has_call.number)
+          call_xjmp id id (λ x. refl) t.cells site.base site.end site.at site.seal (b + 1) t.regs.dat has_call
           ((its_site l i o t at_site m k).apart (b + 1) (omega (arith, low)) (omega (arith, e, high)))
-          (omega (arith, ai)) (omega (arith, en)) has_call.code in
-          let z : site.at + 1 + 1 + 1 + 1 + 1 + 1 + 1 + 1 + 1 + 1 + 1 + 1 + 1 + 1 + 1
-          ≡ site.at + (CALL_WORDS - 1) =
-          omega arith in
-          subst (λ a. Num s15 a (pos (number_of (Xjmp C1 C2)))) z c.1.1.1.1.1.1.1.1.1.1.1.1.1.1.1.0
 
       pc15 : s15.regs.pc ≡ Mem (code_cap site.base site.end (site.at + (CALL_WORDS - 1)))
       pc15 = refl
@@ -335,7 +325,7 @@ module _ (g : Link) (linked : Linked g) (i : ℕ) (o : OState) (t : State Word) 
         → Mute l 1 u
     at_address u r a e = elim (cases_lt at_site.end a) as (λ _. Mute l 1 u) [
       | inl past ↦
-          absurd (not_failed 1 14 u
+          absurd (not_failed 1 (CALL_WORDS - 2) u
           (outside l i o t at_site m k (pos a)
           e (and_right (nat_le l.stack.base a) (nat_le a at_site.end) (lt-leb a at_site.end past))) refl r)
       | inr le ↦ elim (cases_lt l.stack.base a) as (λ _. Mute l 1 u) [
@@ -348,10 +338,10 @@ module _ (g : Link) (linked : Linked g) (i : ℕ) (o : OState) (t : State Word) 
             subst (λ y. Mute l 1 y) same (last_mute (a - 1) cu lo hi))
         | inr ge ↦ elim (cases_eq a l.stack.base) as (λ _. Mute l 1 u) [
           | inl same ↦
-              absurd (not_failed 8 7 u
+              absurd (not_failed (split_word + 1) (CALL_WORDS - 2 - split_word) u
               (lowest l i o t at_site m k (e ∙ ap pos same) (omega (arith, same, le))) refl r)
           | inr ne ↦
-              absurd (not_failed 1 14 u
+              absurd (not_failed 1 (CALL_WORDS - 2) u
               (outside l i o t at_site m k (pos a)
               e (and_left (nat_le l.stack.base a) (nat_le a at_site.end)
               (lt-leb l.stack.base a (omega (arith, ge, ne))))) refl r)
@@ -363,7 +353,7 @@ module _ (g : Link) (linked : Linked g) (i : ℕ) (o : OState) (t : State Word) 
         → Mute l 1 u
     by_address u r (pos a) e = at_address u r a e
     by_address u r (negsuc a) e =
-        absurd (not_failed 1 14 u (outside l i o t at_site m k (negsuc a) e refl) refl r)
+        absurd (not_failed 1 (CALL_WORDS - 2) u (outside l i o t at_site m k (negsuc a) e refl) refl r)
 
     pub ret_mute : Mute l CALL_WORDS t
     ret_mute = mute_more l (CALL_WORDS - 1) 1 t (calm_mute l (CALL_WORDS - 1) t whole_calm)

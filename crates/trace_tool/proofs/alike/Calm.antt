@@ -1,15 +1,18 @@
 -- Instructions without a line: all but an `xjmp` and the last word of a site. Runs of them.
-use Rattle.std.proofs.Common.{◌≡◌, ℕ, zero, suc, ◌+◌, Bool, [], ◌++◌, Some, None, refl, ap, ◌∙◌, arith}
+use Rattle.std.proofs.Common.{◌≡◌, ℕ, zero, suc, ◌+◌, ◌-◌, ℤ, Bool, [], ◌++◌, Some, None, refl, ap, ◌∙◌, arith}
 use Rattle.cap_words.specs.declared.Word.{Word}
+use Rattle.cap_words.specs.declared.Face.TheVariants.{Number}
 use Rattle.lcm_isa.specs.declared.Reg.TheVariants.{Pc}
 use Rattle.lcm_machine.specs.declared.Step.{Step}
 use Rattle.lcm_machine.specs.declared.Step.TheVariants.{Went, Halted, Failed}
 use Rattle.lcm_machine.specs.declared.End.{End}
 use Rattle.lcm_machine.specs.declared.End.TheVariants.{Halted as AtHalt, Failed as AtFailure}
 use Rattle.lcm_machine.specs.Maps.{State}
-use Rattle.lcm_machine.specs.Row.{Outcome, went, halted, failed, faces, jump_at, step_of}
+use Rattle.lcm_machine.specs.Cells.{cell}
+use Rattle.lcm_machine.specs.Row.{Outcome, went, halted, failed, faces, look_face, jump_at, step_of}
 use Rattle.lcm_machine.specs.Run.{Run, moved, next_state, answer}
 use Rattle.lcm_machine.specs.Runs.{and_then, run_of}
+use Rattle.call_sequence.specs.declared.TheConstants.{SITE_WORDS}
 use Rattle.trusted_border.specs.declared.layout.Layout.{Layout}
 use Rattle.trace_tool.specs.declared.note.Note.{Note}
 use Rattle.trace_tool.specs.declared.note.Note.TheVariants.{Nothing}
@@ -23,6 +26,10 @@ use Rattle.trace_tool.proofs.Split.{lines_split}
 abbrev pub id : Word → Word
 id w = w
 
+-- the word of a number in a cell
+abbrev pub Num : State Word → ℕ → ℤ → Type 0
+Num s q z = look_face id (cell s.cells q) ≡ Some (Number z)
+
 -- a plain run that stands at a state
 abbrev pub at_state : State Word → ℕ → Bool → Watched
 at_state t n inward = record { run = record { maps = t; count = n; end = None }; inward = inward }
@@ -31,7 +38,7 @@ at_state t n inward = record { run = record { maps = t; count = n; end = None };
 
 -- it is no `xjmp`, and doesn't end a site
 abbrev pub IsQuiet : Layout → State Word → Type 0
-IsQuiet l s = (jump_at id s ≡ None) × (site_word l 25 (faces id s Pc) ≡ None)
+IsQuiet l s = (jump_at id s ≡ None) × (site_word l (SITE_WORDS - 1) (faces id s Pc) ≡ None)
 
 pub noted_quiet : (l : Layout) (s : State Word) → IsQuiet l s → noted l s ≡ Nothing
 unfolding noted

@@ -20,8 +20,8 @@ use Rattle.lcm_machine.specs.Places.{reg}
 use Rattle.lcm_machine.specs.Table.{plan, made, no_effect, memory_content}
 use Rattle.lcm_machine.specs.Row.{put, clear, perform, faces, opens, outcome, plan_in, row, went}
 use Rattle.lcm_machine.proofs.Offers.{Gives, gives_goes, Gives-effect, Gives-ask, Gives-need}
-use Rattle.trace_tool.proofs.alike.Calm.{id}
-use Rattle.trace_tool.proofs.alike.Straight.{Num, performed_num}
+use Rattle.call_sequence.proofs.Offers.{performed_num}
+use Rattle.trace_tool.proofs.alike.Calm.{id, Num}
 
 abbrev Lands : Option Opened → Reg → Effect → Type 0
 Lands o b e = (a : Opened) × (c : CapFields) × (d : Word) × (o ≡ Some a) × (memory_content a.content ≡ Some c)
@@ -51,7 +51,7 @@ landed : (s : State Word) (b : Reg) (c : CapFields) (d : Word)
     (perform id id s (record no_effect { spent = Some b; first = made Pc (Mem c); second = made Dat d }))
 landed s b c d = (
   performed_at s b c d,
-  λ q z. performed_num s
+  λ q z. performed_num id id s
       (record no_effect { spent = Some b; first = made Pc (Mem c); second = made Dat d }) q z tt,
 )
 

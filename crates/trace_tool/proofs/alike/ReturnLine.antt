@@ -20,13 +20,12 @@ use Rattle.lcm_machine.specs.Maps.{State}
 use Rattle.lcm_machine.specs.Places.{reg}
 use Rattle.lcm_machine.specs.Cells.{cell, set_cell}
 use Rattle.lcm_machine.specs.Row.{Outcome, faces, step_of, went}
-use Rattle.lcm_machine.specs.Runs.{and_then, run_of, Stands, code_cap}
+use Rattle.lcm_machine.specs.Runs.{and_then, run_of, code_cap}
 use Rattle.lcm_machine.specs.Mapped.{mapped_or}
 use Rattle.lcm_machine.proofs.Offers.{run_one}
 use Rattle.call_sequence.specs.declared.TheConstants.{CALL_WORDS, RETURN_WORDS, SITE_WORDS}
-use Rattle.call_sequence.specs.Sequences.{return_code}
 use Rattle.call_sequence.specs.SequenceRuns.{stack_cap, HasReturn}
-use Rattle.call_sequence.proofs.Offers.{return_runs}
+use Rattle.call_sequence.proofs.Offers.{clearing_stands, return_nine, return_runs, target_code}
 use Rattle.component_linker.specs.declared.owners.Owner.{Owner}
 use Rattle.trusted_border.specs.declared.layout.Layout.{Layout}
 use Rattle.trusted_border.specs.declared.events.Event.TheVariants.{Returned as ReturnedEvent}
@@ -49,15 +48,13 @@ use Rattle.trace_tool.specs.Events.{noted, noted_by, note_last, event_after, inw
 use Rattle.trace_tool.specs.Events.{returned as returned_event}
 use Rattle.trace_tool.specs.Lines.{lines_for}
 use Rattle.trace_tool.specs.Runs.{lines_of}
-use Rattle.trace_tool.proofs.alike.Calm.{id, at_state, calm_then}
+use Rattle.trace_tool.proofs.alike.Calm.{id, Num, at_state, calm_then}
 use Rattle.trace_tool.proofs.alike.Mute.{mute_step, line_flat}
-use Rattle.trace_tool.proofs.alike.Straight.{Num}
-use Rattle.trace_tool.proofs.alike.Laying.{NoEnd, jump_is, word_at, target_code, shown_at}
-use Rattle.trace_tool.proofs.alike.Operands.{stands_outside, last_step}
+use Rattle.trace_tool.proofs.alike.Laying.{NoEnd, jump_is, word_at, shown_at}
+use Rattle.trace_tool.proofs.alike.Operands.{last_step}
 use Rattle.trace_tool.proofs.alike.Sites.{site_there, trusted_code}
 use Rattle.trace_tool.proofs.alike.Others.{face_same}
 use Rattle.trace_tool.proofs.alike.Returns.{noted_back, back_line, calm_behind}
-use Rattle.trace_tool.proofs.alike.ReturnNine.{return_nine}
 
 after_step : (n : ℕ) (s u : State Word) (r : Outcome Word) → step_of id id s ≡ went u
     → run_of id id (suc n) s ≡ r → run_of id id n u ≡ r
@@ -139,7 +136,7 @@ module _ (g : Link) (linked : Linked g) (r1 r2 : Reg) (o : OState) (t : State Wo
   abbrev u9 : State Word
   u9 = record u {
     regs = record u.regs {
-      pc = Mem (code_cap y.site.base y.site.end (y.site.at + CALL_WORDS + 9));
+      pc = Mem (code_cap y.site.base y.site.end (y.site.at + CALL_WORDS + (RETURN_WORDS - 1)));
       stk = Mem (stack_cap l.stack.base F.end F.base);
       dat = sound.first;
       t1 = zero_word id;
@@ -148,10 +145,10 @@ module _ (g : Link) (linked : Linked g) (r1 r2 : Reg) (o : OState) (t : State Wo
     cells = set_cell u.cells F.base (zero_word id);
   }
 
-  nine : run_of id id 9 u ≡ went u9
+  nine : run_of id id (RETURN_WORDS - 1) u ≡ went u9
   nine =
       let ab = sound.above in let od = sound.order in let top = sound.in_stack in let sm = rd.small_stack in
-      return_nine u y.site.base y.site.end (y.site.at + CALL_WORDS)
+      return_nine id id (λ x. refl) u y.site.base y.site.end (y.site.at + CALL_WORDS)
       l.stack.base (y.cap).end F.base F.end (y.cap).addr sound.first code_u
       refl stk_u refl y.joins (omega (arith, ab)) od (omega (arith, top, sm))
       (its.apart F.base (omega (arith, ab)) (omega (arith, od, top))) first_cell sound.normal
@@ -176,51 +173,44 @@ module _ (g : Link) (linked : Linked g) (r1 r2 : Reg) (o : OState) (t : State Wo
       refl stk_u refl y.joins (omega (arith, ab)) od (omega (arith, top, sm))
       (its.apart F.base (omega (arith, ab)) (omega (arith, od, top))) first_cell sound.normal
 
-  starts : y.site.base ≤ y.site.at + CALL_WORDS + 9
+  starts : y.site.base ≤ y.site.at + CALL_WORDS + (RETURN_WORDS - 1)
   starts = let a = code_u.at_is in omega (arith, a)
 
-  ends : y.site.at + CALL_WORDS + 9 ≤ y.site.end
+  ends : y.site.at + CALL_WORDS + (RETURN_WORDS - 1) ≤ y.site.end
   ends = let a = code_u.ends in omega (arith, a)
 
-  move_stands : Num u9 (y.site.at + CALL_WORDS + 9) (pos (number_of (Move T2 (Imm (pos 0)))))
-  unfolding return_code
+  move_stands : Num u9 (y.site.at + CALL_WORDS + (RETURN_WORDS - 1))
+      (pos (number_of (Move T2 (Imm (pos 0)))))
   move_stands =
       let ab = sound.above in let od = sound.order in let top = sound.in_stack in
-      let ai = code_u.at_is in let en = code_u.ends in
-      let c : Stands id u9.cells (y.site.at + CALL_WORDS)
-      (return_code code_u.fail code_u.offset l.stack.base) =
-      stands_outside u.cells F.base (zero_word id) y.site.base y.site.end (y.site.at + CALL_WORDS)
-      (return_code code_u.fail code_u.offset l.stack.base)
-      (its.apart F.base (omega (arith, ab)) (omega (arith, od, top))) (omega (arith, ai))
-      (omega (arith, en)) code_u.code in
-      let z : y.site.at + CALL_WORDS + 1 + 1 + 1 + 1 + 1 + 1 + 1 + 1 + 1
-      ≡ y.site.at + CALL_WORDS + 9 = omega arith in
-      subst (λ a. Num u9 a (pos (number_of (Move T2 (Imm (pos 0)))))) z c.1.1.1.1.1.1.1.1.1.0
+      clearing_stands id id (λ x. refl) u.cells y.site.base y.site.end (y.site.at + CALL_WORDS) l.stack.base
+      F.base (zero_word id) (its.apart F.base (omega (arith, ab)) (omega (arith, od, top))) code_u
 
-  pc9 : u9.regs.pc ≡ Mem (code_cap y.site.base y.site.end (y.site.at + CALL_WORDS + 9))
+  pc9 : u9.regs.pc ≡ Mem (code_cap y.site.base y.site.end (y.site.at + CALL_WORDS + (RETURN_WORDS - 1)))
   pc9 = refl
 
   noted9 : noted l u9 ≡ Last F.site
   unfolding noted
   noted9 =
-      let w : y.site.at + (SITE_WORDS - 1) ≡ y.site.at + CALL_WORDS + 9 = omega arith in
+      let w : y.site.at + (SITE_WORDS - 1) ≡ y.site.at + CALL_WORDS + (RETURN_WORDS - 1) = omega arith in
       ap (noted_by l u9)
-      (jump_is u9 y.site.base y.site.end (y.site.at + CALL_WORDS + 9) (Move T2 (Imm (pos 0)))
+      (jump_is u9 y.site.base y.site.end (y.site.at + CALL_WORDS + (RETURN_WORDS - 1)) (Move T2 (Imm (pos 0)))
       pc9 starts ends move_stands (search rules))
       ∙ ap (λ f. note_last (site_word l (SITE_WORDS - 1) f))
-      (shown_at u9 y.site.base y.site.end (y.site.at + CALL_WORDS + 9) pc9)
+      (shown_at u9 y.site.base y.site.end (y.site.at + CALL_WORDS + (RETURN_WORDS - 1)) pc9)
       ∙ ap note_last
-      (word_at l (SITE_WORDS - 1) (y.site.at + CALL_WORDS + 9)
-      (Memory (code_cap y.site.base y.site.end (y.site.at + CALL_WORDS + 9)))
-      (Some F.site) (target_code y.site.base y.site.end (y.site.at + CALL_WORDS + 9) starts ends)
+      (word_at l (SITE_WORDS - 1) (y.site.at + CALL_WORDS + (RETURN_WORDS - 1))
+      (Memory (code_cap y.site.base y.site.end (y.site.at + CALL_WORDS + (RETURN_WORDS - 1))))
+      (Some F.site)
+      (target_code y.site.base y.site.end (y.site.at + CALL_WORDS + (RETURN_WORDS - 1)) starts ends)
       (subst (λ a. Rattle.trace_tool.specs.Layout.site_before l (SITE_WORDS - 1) a ≡ Some F.site)
       w (site_there g linked F.site (SITE_WORDS - 1) y.site y.site_is))
-      (trusted_code g linked F.site y.site y.site_is (y.site.at + CALL_WORDS + 9)))
+      (trusted_code g linked F.site y.site y.site_is (y.site.at + CALL_WORDS + (RETURN_WORDS - 1))))
 
-  same_end : (w : State Word) → run_of id id 11 t ≡ went w → u10 ≡ w
+  same_end : (w : State Word) → run_of id id (RETURN_WORDS + 1) t ≡ went w → u10 ≡ w
   same_end w e = let z : went u10 ≡ went w = sym ten ∙ after_step RETURN_WORDS t u (went w) jumped e in cc
 
-  event9 : (w : State Word) (inward : Bool) → run_of id id 11 t ≡ went w → IsFlat l q w
+  event9 : (w : State Word) (inward : Bool) → run_of id id (RETURN_WORDS + 1) t ≡ went w → IsFlat l q w
       → event_after l (Last F.site) inward (flat_view l q) ≡ Some (ReturnedEvent inward F.site F.base F.end)
   unfolding event_after
   event9 w inward e mq =
@@ -236,12 +226,12 @@ module _ (g : Link) (linked : Linked g) (r1 r2 : Reg) (o : OState) (t : State Wo
   told = sym (ap (λ fs. told_after l (note_return now fs) q) y.frames_are)
 
   -- its line is the overlay's
-  pub return_whole : (w : State Word) (n : ℕ) (inward : Bool) → run_of id id 11 t ≡ went w → IsFlat l q w
-      → lines_of l (at_state t n inward) 11 ≡ lines_for l (flat_view l q)
+  pub return_whole : (w : State Word) (n : ℕ) (inward : Bool) → run_of id id (RETURN_WORDS + 1) t ≡ went w → IsFlat l q w
+      → lines_of l (at_state t n inward) (RETURN_WORDS + 1) ≡ lines_for l (flat_view l q)
       (told_after l (note_by l o (Back r1 r2)) q)
   return_whole w n inward e mq =
       let step : step_of id id u9
-      ≡ went w = last_step 9 u u9 w nine (after_step RETURN_WORDS t u (went w) jumped e) in
+      ≡ went w = last_step (RETURN_WORDS - 1) u u9 w nine (after_step RETURN_WORDS t u (went w) jumped e) in
       let bit : inward_after (noted l t) inward ≡ now =
       ap (λ z. inward_after z inward) (noted_back g linked r1 r2 o t rd m k v F.site y.site y.site_is ex)
       ∙ ap (λ f. is_some (trusted_part l f)) (face_same l o t m k Pc)
@@ -249,8 +239,8 @@ module _ (g : Link) (linked : Linked g) (r1 r2 : Reg) (o : OState) (t : State Wo
       mute_step l t u n inward RETURN_WORDS
       (back_line g linked r1 r2 o t rd m k v F.site y.site y.site_is ex u n inward jumped) jumped
       ∙ ap (λ b. lines_of l (at_state u (n + 1) b) RETURN_WORDS) bit
-      ∙ calm_then l 9 1 u u9 (n + 1)
+      ∙ calm_then l (RETURN_WORDS - 1) 1 u u9 (n + 1)
       now (calm_behind g linked r1 r2 o t rd m k v F.site y.site y.site_is ex free u jumped) nine
-      ∙ line_flat l q u9 w (n + 1 + 9) now step mq
+      ∙ line_flat l q u9 w (n + 1 + (RETURN_WORDS - 1)) now step mq
       ∙ ap (λ z. lines_for l (flat_view l q) (event_after l z now (flat_view l q))) noted9
       ∙ ap (lines_for l (flat_view l q)) (event9 w now e mq ∙ told)

@@ -1,28 +1,24 @@
 -- An `xjmp` of a return word, and the words after it: no line but at the last.
-use Rattle.std.proofs.Common.{◌-◌}
-use Rattle.std.proofs.Common.{◌≡◌, inl, inr, ℕ, ◌+◌, ◌≤◌, ℤ, pos, Bool, true, [], ◌∷◌, Option, Some, None}
-use Rattle.std.proofs.Common.{refl, sym, ap, ◌∙◌, arith, rules}
+use Rattle.std.proofs.Common.{◌≡◌, ℕ, ◌+◌, ◌-◌, ℤ, Bool, true, [], ◌∷◌, Option, Some, None}
+use Rattle.std.proofs.Common.{refl, sym, ap, ◌∙◌, arith}
 use Rattle.std.specs.Prelude.{option_map}
 use Rattle.call_sequence.specs.declared.TheConstants.{CALL_WORDS, RETURN_WORDS, SITE_WORDS}
-use Rattle.call_sequence.proofs.Offers.{fits_small, small_operand, near_operand, leads}
-use Rattle.cap_words.specs.declared.TheConstants.{LAST_PLACE}
+use Rattle.call_sequence.proofs.Offers.{stands_kept}
 use Rattle.cap_words.specs.declared.Word.{Word}
-use Rattle.cap_words.specs.declared.Word.TheVariants.{Mem}
 use Rattle.cap_words.specs.declared.CapFields.{CapFields}
 use Rattle.cap_words.specs.declared.Opened.{Opened}
 use Rattle.cap_words.specs.declared.Content.TheVariants.{Mem as MemC}
 use Rattle.cap_words.specs.Face.{face_of, opened_of}
 use Rattle.lcm_isa.specs.declared.Reg.{Reg}
-use Rattle.lcm_isa.specs.declared.Reg.TheVariants.{Pc, Stk, Dat, T1, T2}
-use Rattle.lcm_isa.specs.declared.Operand.TheVariants.{Imm}
-use Rattle.lcm_isa.specs.declared.Instr.TheVariants.{Fail, Jnz, Getb, Move, Store, Load, Minus, Splice, Xjmp}
+use Rattle.lcm_isa.specs.declared.Reg.TheVariants.{Pc}
+use Rattle.lcm_isa.specs.declared.Instr.TheVariants.{Fail, Xjmp}
 use Rattle.lcm_machine.specs.Maps.{State}
 use Rattle.lcm_machine.specs.Places.{reg}
 use Rattle.lcm_machine.specs.Row.{faces, cell_faces, opens, fetch, some, jump_in, jump_at, row, step_fetched}
 use Rattle.lcm_machine.specs.Row.{step_of, went}
 use Rattle.lcm_machine.specs.Runs.{code_cap}
 use Rattle.lcm_machine.proofs.Offers.{fetch_mapped}
-use Rattle.call_sequence.specs.Sequences.{return_code, distance}
+use Rattle.call_sequence.specs.Sequences.{return_code}
 use Rattle.call_sequence.specs.SequenceRuns.{HasReturn}
 use Rattle.trusted_border.specs.declared.layout.Layout.{Layout}
 use Rattle.trusted_border.specs.declared.layout.SiteCode.{SiteCode}
@@ -43,68 +39,26 @@ use Rattle.trace_tool.specs.Views.{View as Shown, view_of}
 use Rattle.trace_tool.specs.Events.{noted, noted_by, event_after, reaches_trusted, leapt_by}
 use Rattle.trace_tool.specs.Lines.{lines_for}
 use Rattle.trace_tool.specs.Runs.{line_next}
-use Rattle.trace_tool.proofs.alike.Calm.{id, at_state, Calm}
+use Rattle.trace_tool.proofs.alike.Calm.{id, Num, at_state, Calm}
 use Rattle.trace_tool.proofs.alike.Mute.{Mute, calm_mute, line_goes}
-use Rattle.trace_tool.proofs.alike.Straight.{Num}
-use Rattle.trace_tool.proofs.alike.Laying.{NoEnd, calm_front, stands_kept}
-use Rattle.trace_tool.proofs.alike.Armed.{Armed, rest, tests, calm_arming}
+use Rattle.trace_tool.proofs.alike.Laying.{NoEnd}
+use Rattle.trace_tool.proofs.alike.SequencesCalm.{return_calm}
 use Rattle.trace_tool.proofs.alike.Sites.{trusted_code, no_closure}
 use Rattle.trace_tool.proofs.alike.Apart.{back_apart}
 use Rattle.trace_tool.proofs.alike.Lands.{Landed, xjmp_lands}
 use Rattle.trace_tool.proofs.alike.Others.{face_same}
 
--- ---- the words of a return
-
-back_rest : Armed (Jnz T2 T1 ∷ Load Dat Stk ∷ Move T1 (Imm (pos 0)) ∷ Store Stk T1 ∷ [])
-back_rest = tests T1 (rest (refl, inl refl, tt, (refl, inl refl, (search rules), (refl, inr refl, tt, tt))))
-
-module _ (l : Layout) (s : State Word) (base last at sb : ℕ) (h : HasReturn id s.cells base last at sb) where
-  -- all but the last of them are calm whatever they do
-  pub words_calm : s.regs.pc ≡ Mem (code_cap base last at) → sb ≤ LAST_PLACE → NoEnd l at (at + 9)
-      → Calm l 9 s
-  unfolding return_code
-  words_calm pc small free =
-      let ai = h.at_is in
-      let en = h.ends in
-      let sm = h.small in
-      let fh = h.fails.1 in
-      let c = h.code in
-      calm_front l base last (Splice Stk Stk Dat) s at 8 (refl, refl, tt) pc (omega (arith, ai))
-      (omega (arith, en)) c.0 (free _ (omega arith) (omega arith)) (λ s1 p1 n1.
-      calm_front l base last (Getb T1 Stk) s1 (at + 1) 7 (refl, refl, tt) p1 (omega (arith, ai))
-      (omega (arith, en)) (n1 _ _ c.1.0) (free _ (omega arith) (omega arith)) (λ s2 p2 n2.
-      calm_front l base last (Minus T1 T1 (Imm (pos sb))) s2 (at + 1 + 1)
-      6 (refl, refl, small_operand sb small) p2 (omega (arith, ai)) (omega (arith, en))
-      (n2 _ _ (n1 _ _ c.1.1.0)) (free _ (omega arith) (omega arith)) (λ s3 p3 n3.
-      let keep : (q : ℕ) (z : ℤ) → Num s q z → Num s3 q z = λ q z h. n3 q z (n2 q z (n1 q z h)) in
-      let c3 = stands_kept s s3 at (return_code h.fail h.offset sb) keep c in
-      calm_arming l base last (base + h.fail) (omega arith)
-      fh (Jnz T2 T1 ∷ Load Dat Stk ∷ Move T1 (Imm (pos 0)) ∷ Store Stk T1 ∷ [])
-      back_rest (distance (h.offset + 3) h.fail) s3 (at + 1 + 1 + 1) p3 (omega (arith, ai))
-      (omega (arith, en)) (
-        c3.1.1.1.0,
-        (
-          c3.1.1.1.1.0,
-          (c3.1.1.1.1.1.0, (c3.1.1.1.1.1.1.0, (c3.1.1.1.1.1.1.1.0, (c3.1.1.1.1.1.1.1.1.0, tt)))),
-        ),
-      )
-      (λ q lo hi. free q (omega (arith, lo)) (omega (arith, hi)))
-      (leads (at + 1 + 1 + 1) base (h.offset + 3) h.fail (omega (arith, ai)))
-      (fits_small (base + h.fail) (omega (arith, fh, sm)))
-      (near_operand (h.offset + 3) h.fail (omega (arith, ai, en, sm)) (omega (arith, fh, sm)))
-      (keep _ _ h.fails.0.0))))
-
 -- where numbers stay, a return stands as before
-return_kept : (s u : State Word) (base last at sb : ℕ) → ((q : ℕ) (z : ℤ) → Num s q z → Num u q z)
+pub return_kept : (s u : State Word) (base last at sb : ℕ) → ((q : ℕ) (z : ℤ) → Num s q z → Num u q z)
     → HasReturn id s.cells base last at sb → HasReturn id u.cells base last at sb
 return_kept s u base last at sb k h = record {
   offset = h.offset;
   fail = h.fail;
   at_is = h.at_is;
-  code = stands_kept s u at (return_code h.fail h.offset sb) k h.code;
+  code = stands_kept id id (λ x. refl) s u at (return_code h.fail h.offset sb) k h.code;
   ends = h.ends;
   small = h.small;
-  fails = (stands_kept s u (base + h.fail) (Fail ∷ []) k h.fails.0, h.fails.1);
+  fails = (stands_kept id id (λ x. refl) s u (base + h.fail) (Fail ∷ []) k h.fails.0, h.fails.1);
 }
 
 -- ---- the `xjmp`
@@ -178,10 +132,10 @@ module _ (g : Link) (linked : Linked g) (r1 r2 : Reg) (o : OState) (t : State Wo
       noted_back ∙ ap (lines_for l (view_of u)) (back_event u inward e)
 
   pub calm_behind : NoEnd l (s.at + CALL_WORDS) (s.at + (SITE_WORDS - 1)) → (u : State Word) → step_of id id t
-      ≡ went u → Calm l 9 u
+      ≡ went u → Calm l (RETURN_WORDS - 1) u
   calm_behind free u e =
       let y = lands u e in
-      words_calm l u s.base s.end (s.at + CALL_WORDS)
+      return_calm l u s.base s.end (s.at + CALL_WORDS)
       l.stack.base
       (return_kept t u s.base s.end (s.at + CALL_WORDS)
       l.stack.base y.1
@@ -189,4 +143,4 @@ module _ (g : Link) (linked : Linked g) (r1 r2 : Reg) (o : OState) (t : State Wo
       y.0 rd.small_base (λ a lo hi. free a lo (omega (arith, hi)))
 
   pub back_mute : NoEnd l (s.at + CALL_WORDS) (s.at + (SITE_WORDS - 1)) → Mute l RETURN_WORDS t
-  back_mute free = λ u e. (λ c inward. back_line u c inward e, calm_mute l 9 u (calm_behind free u e))
+  back_mute free = λ u e. (λ c inward. back_line u c inward e, calm_mute l (RETURN_WORDS - 1) u (calm_behind free u e))

@@ -8,15 +8,15 @@ use Rattle.cap_words.specs.declared.Word.{Word}
 use Rattle.cap_words.specs.declared.Word.TheVariants.{Mem}
 use Rattle.cap_words.specs.declared.Content.TheVariants.{Mem as MemC}
 use Rattle.cap_words.specs.Face.{opened_of}
-use Rattle.lcm_isa.specs.declared.Reg.TheVariants.{Stk, Dat, C1, C2}
-use Rattle.lcm_isa.specs.declared.Instr.TheVariants.{Splice, Xjmp}
+use Rattle.lcm_isa.specs.declared.Reg.TheVariants.{C1, C2}
+use Rattle.lcm_isa.specs.declared.Instr.TheVariants.{Xjmp}
 use Rattle.lcm_machine.specs.Maps.{State}
 use Rattle.lcm_machine.specs.Row.{went, row}
 use Rattle.lcm_machine.specs.Runs.{run_of, code_cap}
 use Rattle.lcm_machine.specs.Touched.{Touches}
 use Rattle.call_sequence.specs.declared.TheConstants.{CALL_WORDS}
-use Rattle.call_sequence.specs.Sequences.{return_code}
-use Rattle.call_sequence.proofs.Offers.{HasReturn-set}
+use Rattle.call_sequence.specs.Sequences.{split_word}
+use Rattle.call_sequence.proofs.Offers.{HasReturn-set, return_words}
 use Rattle.trusted_border.specs.declared.layout.Layout.{Layout}
 use Rattle.trusted_border.specs.declared.layout.SiteCode.{SiteCode}
 use Rattle.trusted_border.specs.Layout.{site_code}
@@ -26,8 +26,10 @@ use Rattle.overlay_machine.specs.Flat.{flat, IsFlat}
 use Rattle.overlay_machine.specs.Agree.{Looks, AtSite}
 use Rattle.overlay_machine.proofs.Offers.{HasReturn-flat, opened-code, lowest, outside, t15, plain_row}
 use Rattle.trace_tool.proofs.alike.Calm.{id}
+use Rattle.trace_tool.proofs.alike.Returns.{return_kept}
 use Rattle.trace_tool.proofs.alike.Lands.{xjmp_lands, xjmp_opens}
-use Rattle.trace_tool.proofs.privacy.TouchAt.{idle_only, not_failed}
+use Rattle.trace_tool.proofs.privacy.TouchAt.{not_failed}
+use Rattle.trace_tool.proofs.privacy.SequencesSpare.{not_inside}
 
 module _ (l : Layout) (i : ℕ) (o : OState) (t : State Word) (r : AtSite l i o) (m : IsFlat l o t)
     (k : Looks l o) (a : ℕ) (low_a : l.stack.base ≤ a) (high_a : a ≤ l.stack.end) (j : ℕ)
@@ -49,19 +51,21 @@ module _ (l : Layout) (i : ℕ) (o : OState) (t : State Word) (r : AtSite l i o)
           → opened_of t.regs.c1
           ≡ Some (record { seal = s.seal; content = MemC (code_cap s.base s.end (s.at + CALL_WORDS)) })
           → ⊥
-      unfolding return_code
+      unfolding run_of
       at_return s es e =
           let its = r.sites j s es in
           let back = HasReturn-flat l o t m k s.base s.end (s.at + CALL_WORDS) l.stack.base its.back in
           let h = r.in_stack in
+          let top = r.small_stack in
           let set = HasReturn-set id t.cells s.base s.end (s.at + CALL_WORDS) l.stack.base (b + 1)
           t.regs.dat (its.apart (b + 1) (omega (arith, low)) (omega (arith, high, h))) back in
           let y = xjmp_lands s15 v C1 C2 _ s.seal (code_cap s.base s.end (s.at + CALL_WORDS)) e jump in
-          let c = set.code in
-          let ai = back.at_is in
-          let en = back.ends in
-          idle_only a s.base s.end (its.apart a low_a high_a) v (s.at + CALL_WORDS) (Splice Stk Stk Dat)
-          y.0 (omega (arith, ai)) (omega (arith, en)) (y.1 _ _ c.0) tt refl x
+          let there = return_kept s15 v s.base s.end (s.at + CALL_WORDS) l.stack.base y.1 set in
+          elim ((return_words id id (λ z. refl) v s.base s.end (s.at + CALL_WORDS) l.stack.base there y.0
+          (omega (arith, low, high, h, top)) 0 v (omega arith) refl).touches a x) as (λ _. ⊥) [
+            | inl z ↦ not_inside a s.base s.end (its.apart a low_a high_a) z
+            | inr z ↦ elim z.1 as (λ _. ⊥) [ inl q ↦ omega (arith, q) | inr q ↦ omega (arith, q) ]
+          ]
 
       above : ⊥
       above = elim (opened-code l o.frames j (site_code l j) refl) as (λ _. ⊥) [
@@ -82,7 +86,7 @@ module _ (l : Layout) (i : ℕ) (o : OState) (t : State Word) (r : AtSite l i o)
             omega (arith, lt) in above (c - 1) (e ∙ ap pos one) (omega (arith, lt)) (omega (arith, one, le)))
         | inr ge ↦ elim (cases_eq c l.stack.base) as (λ _. ⊥) [
           | inl same ↦
-              not_failed 8 8 t v (lowest l i o t r m k (e ∙ ap pos same) (omega (arith, same, le))) ran
+              not_failed (split_word + 1) (CALL_WORDS - (split_word + 1)) t v (lowest l i o t r m k (e ∙ ap pos same) (omega (arith, same, le))) ran
           | inr ne ↦
               not_failed 1 (CALL_WORDS - 1) t v
               (outside l i o t r m k (pos c)

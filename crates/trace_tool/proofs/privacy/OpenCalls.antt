@@ -1,6 +1,7 @@
 -- While a call line is open, no instruction of a run touches an address of its range but the two of its own
 -- return.
 use Rattle.call_sequence.specs.declared.TheConstants.{CALL_WORDS}
+use Rattle.call_sequence.specs.Sequences.{load_word, wipe_word}
 use Rattle.std.proofs.Common.{◌≡◌, ◌⊎◌, inl, inr, ℕ, suc, ◌+◌, ◌-◌, ◌<◌, ◌≤◌, List, [], ◌∷◌, Some, refl}
 use Rattle.std.proofs.Common.{sym, ap, ◌∙◌, subst, arith}
 use Rattle.std.specs.Prelude.{slice_get}
@@ -127,7 +128,7 @@ module _ (parts : List PartSeen) (size : ℕ) (s : StartSeen)
     reads_or_wipes : ReadsOrWipes s n c a
     reads_or_wipes = (
       touch.used.0 ∙ is_call.base,
-      elim touch.used.1 as (λ _. IsOwnReturn s n c 6 ⊎ IsOwnReturn s n c 8) [
+      elim touch.used.1 as (λ _. IsOwnReturn s n c load_word ⊎ IsOwnReturn s n c wipe_word) [
         | inl e ↦ inl (subst (λ y. IsOwnReturn s n c y) e own_return)
         | inr e ↦ inr (subst (λ y. IsOwnReturn s n c y) e own_return)
       ],

@@ -27,7 +27,6 @@ use Rattle.lcm_machine.specs.Touched.{Touches}
 use Rattle.lcm_machine.proofs.Offers.{fetch_mapped, run_one}
 use Rattle.call_sequence.specs.declared.TheConstants.{CALL_WORDS, RETURN_WORDS}
 use Rattle.call_sequence.specs.SequenceRuns.{stack_cap, IsOutsideRange}
-use Rattle.call_sequence.proofs.Offers.{return_apart}
 use Rattle.trusted_border.specs.declared.layout.Layout.{Layout}
 use Rattle.trusted_border.specs.declared.layout.SiteCode.{SiteCode}
 use Rattle.trusted_border.specs.Layout.{site_code}
@@ -44,7 +43,7 @@ use Rattle.overlay_machine.proofs.Offers.{code_some, code_none, data_is, data_no
 use Rattle.overlay_machine.proofs.Offers.{code_second, stk_plain, newest_first}
 use Rattle.trace_tool.proofs.alike.Calm.{id}
 use Rattle.trace_tool.proofs.privacy.TouchAt.{not_failed, first_step, untouched_at}
-use Rattle.trace_tool.proofs.privacy.ReturnSpares.{apart_spares, off_spares}
+use Rattle.trace_tool.proofs.privacy.SequencesSpare.{apart_spares, off_spares}
 use Rattle.trace_tool.proofs.privacy.OwnReturn.{IsFirstUsed, own_only}
 
 -- an address that an instruction behind an `xjmp` touches is the first of the newest frame, and the
@@ -186,16 +185,14 @@ module _ (l : Layout) (r1 r2 : Reg) (o : OState) (t : State Word) (rd : AtReturn
     got = fetch_mapped look id (flat l o.frames) (beside l o.frames)
         o.maps t m k.0 (λ q e. beside-none l o.frames q (rd.free q e)) ∙ rd.fetched
 
-    module _ (word : ℕ) (few : word ≤ 9) (v : State Word) (ran : run_of id id word U ≡ went v)
+    module _ (word : ℕ) (few : word < RETURN_WORDS) (v : State Word) (ran : run_of id id word U ≡ went v)
         (x : Touches id v a) where
       not_joint : (y : Word) → U.regs.stk ≡ y
           → CannotJoin (face_of y) (Memory (stack_cap F.base F.end F.base)) → ⊥
       not_joint y e h =
-          let f : HasFailed (run_of id id 1 U) =
-          return_apart id id U S.base S.end (S.at + CALL_WORDS) l.stack.base back refl (rw e h) in
           untouched_at a RETURN_WORDS word U v
-          (apart_spares a U S.base S.end (S.at + CALL_WORDS) l.stack.base back out 9 refl f)
-          ran (omega (arith, few)) x
+          (apart_spares a U S.base S.end (S.at + CALL_WORDS) out refl l.stack.base RETURN_WORDS back
+          rd.small_base (rw e h)) ran few x
 
       -- from the stack's base: the call is the newest
       resumes : (c : CapFields) → U.regs.stk ≡ Mem c → same_kind c (stack_cap F.base F.end F.base) ≡ true
@@ -216,11 +213,11 @@ module _ (l : Layout) (r1 r2 : Reg) (o : OState) (t : State Word) (rd : AtReturn
             frames_are = ef;
             site = S;
             site_is = p.its_site;
-            used = own_only a U S.base S.end (S.at + CALL_WORDS)
-                l.stack.base back out c.end F.base F.end c.addr s.first refl (e ∙ ap Mem c_is)
+            used = own_only U S.base S.end (S.at + CALL_WORDS)
+                l.stack.base back c.end F.base F.end c.addr s.first refl (e ∙ ap Mem c_is)
                 refl joint (omega (arith, above)) order (omega (arith, within, small))
                 (its.apart F.base (omega (arith, above)) (omega (arith, order, within)))
-                (newest_first l o t m F older ef s) s.normal v x word ran few;
+                (newest_first l o t m F older ef s) s.normal a out v x word ran few;
             r1 = r1;
             r2 = r2;
             next = rd.next;
@@ -251,10 +248,10 @@ module _ (l : Layout) (r1 r2 : Reg) (o : OState) (t : State Word) (rd : AtReturn
                 (let q : FaceInOrder (Memory c) = subst (λ w. FaceInOrder (face_of w)) kept rd.in_order in
                 let small : c.base ≤ LAST_PLACE = (let q0 = q.0 in let q1 = q.1 in omega (arith, q0, q1)) in
                 absurd (untouched_at a RETURN_WORDS word U v
-                (off_spares a U S.base S.end (S.at + CALL_WORDS)
-                l.stack.base back out c (stack_cap F.base F.end F.base)
-                refl e refl (same_lin_true (lin_is c.lin) p2.1) refl p1.0 joint small rd.small_base ne)
-                ran (omega (arith, few)) x))
+                (off_spares a U S.base S.end (S.at + CALL_WORDS) out refl
+                l.stack.base RETURN_WORDS c (stack_cap F.base F.end F.base) back rd.small_base
+                e refl (same_lin_true (lin_is c.lin) p2.1) refl p1.0 joint small ne)
+                ran few x))
           ]
 
       by_stack : (y : Word) → U.regs.stk ≡ y → OwnTouch l o t v a word
@@ -281,12 +278,12 @@ module _ (l : Layout) (r1 r2 : Reg) (o : OState) (t : State Word) (rd : AtReturn
           by_word : (y : OWord) → reg o.maps.regs r1 ≡ y → OwnTouch l o t v a word
           by_word (Plain w) e =
               (let n : weight_by o.maps (Back r1 r2) ≡ 1 =
-              ap (λ z. if is_ret_code z then 11 else 1) e in absurd (omega (arith, lt, n)))
+              ap (λ z. if is_ret_code z then RETURN_WORDS + 1 else 1) e in absurd (omega (arith, lt, n)))
           by_word (RetData n) e =
               (let n : weight_by o.maps (Back r1 r2) ≡ 1 =
-              ap (λ z. if is_ret_code z then 11 else 1) e in absurd (omega (arith, lt, n)))
+              ap (λ z. if is_ret_code z then RETURN_WORDS + 1 else 1) e in absurd (omega (arith, lt, n)))
           by_word (RetCode i) e =
-              let n : weight_by o.maps (Back r1 r2) ≡ 11 = ap (λ z. if is_ret_code z then 11 else 1) e in
+              let n : weight_by o.maps (Back r1 r2) ≡ RETURN_WORDS + 1 = ap (λ z. if is_ret_code z then RETURN_WORDS + 1 else 1) e in
               let first = first_step word t v ran in
               let one : run_of id id 1 t ≡ went first.0 = run_one id id t ∙ first.1 in
               let p = pair i e first.0 one in

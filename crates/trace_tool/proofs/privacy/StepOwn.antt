@@ -62,20 +62,20 @@ module _ (g : Link) (linked : Linked g) (o : OState) (t : State Word) (inv : Inv
     call_own : (s : ℕ) → AtSite l s o → i < weight_by o.maps (Call s) → Own
     call_own s r lt = by_word o.maps.regs.c1 refl
       where
-        sixteen : Untouched id id a CALL_WORDS t
-        sixteen = call_step l o t m k a here.0 here.1 here.2 s r
+        words : Untouched id id a CALL_WORDS t
+        words = call_step l o t m k a here.0 here.1 here.2 s r
 
         by_word : (y : OWord) → o.maps.regs.c1 ≡ y → Own
         by_word (Plain z) e =
             (let n : weight_by o.maps (Call s) ≡ CALL_WORDS =
-            ap (λ y. if is_ret_code y then CALL_WORDS + 1 else CALL_WORDS) e in spared CALL_WORDS sixteen
+            ap (λ y. if is_ret_code y then CALL_WORDS + 1 else CALL_WORDS) e in spared CALL_WORDS words
             (omega (arith, lt, n)))
         by_word (RetData z) e =
             (let n : weight_by o.maps (Call s) ≡ CALL_WORDS =
-            ap (λ y. if is_ret_code y then CALL_WORDS + 1 else CALL_WORDS) e in spared CALL_WORDS sixteen
+            ap (λ y. if is_ret_code y then CALL_WORDS + 1 else CALL_WORDS) e in spared CALL_WORDS words
             (omega (arith, lt, n)))
         by_word (RetCode j) e = elim (cases_lt i CALL_WORDS) as (λ _. Own) [
-          | inl few ↦ spared CALL_WORDS sixteen few
+          | inl few ↦ spared CALL_WORDS words few
           | inr ge ↦ (let n : weight_by o.maps (Call s)
               ≡ (CALL_WORDS + 1) = ap (λ y. if is_ret_code y then CALL_WORDS + 1 else CALL_WORDS) e in
               let last : i ≡ CALL_WORDS = omega (arith, lt, n, ge) in

@@ -1,5 +1,5 @@
 -- The instance: its run loads the first word of its frame while the call line is open.
-use Rattle.std.proofs.Common.{◌≡◌, [], ◌∷◌, refl, sym, ap, subst}
+use Rattle.std.proofs.Common.{◌≡◌, ℕ, ◌+◌, [], ◌∷◌, refl, sym, ap, subst}
 use Rattle.std.proofs.Common.{arith}
 use Rattle.cap_words.specs.declared.Word.{Word}
 use Rattle.cap_words.specs.declared.Word.TheVariants.{Mem}
@@ -9,6 +9,7 @@ use Rattle.lcm_machine.specs.Run.{Run, fresh}
 use Rattle.lcm_machine.specs.Row.{went}
 use Rattle.lcm_machine.specs.Touched.{Touches}
 use Rattle.lcm_machine.proofs.Offers.{run_then}
+use Rattle.call_sequence.specs.Sequences.{load_word}
 use Rattle.component_linker.proofs.Offers.{pair, start}
 use Rattle.overlay_machine.specs.Agree.{AtReturn, ReadyFor}
 use Rattle.overlay_machine.specs.Link.{Link}
@@ -21,7 +22,7 @@ use Rattle.trace_tool.specs.Alike.{LinesAgree}
 use Rattle.trace_tool.specs.OpenCalls.{LineTold, UseThere}
 use Rattle.trace_tool.proofs.Agreeing.{HaltsAlone, gone, state_is}
 use Rattle.trace_tool.proofs.InstanceRun.{L, o0, o5, o6, frame, own_data, call_line, case5, returned5}
-use Rattle.trace_tool.proofs.InstanceRun.{weight5, told5}
+use Rattle.trace_tool.proofs.InstanceRun.{weight5, told5, to_callee}
 use Rattle.trace_tool.proofs.StepTold.{reached_by}
 use Rattle.trace_tool.proofs.alike.Calm.{id}
 use Rattle.trace_tool.proofs.privacy.UsesFirst.{uses_first}
@@ -29,23 +30,27 @@ use Rattle.trace_tool.proofs.privacy.UsesFirst.{uses_first}
 abbrev pub told : LineTold
 told = record { part = 116 ∷ []; site = 0; base = 70; last = 70; words = Mem (own_data 55) ∷ [] }
 
+-- so many instructions lead to the load
+abbrev pub to_load : ℕ
+to_load = to_callee + (1 + load_word)
+
 module _ (h : HoldsFor pair 4 (overlay_at start) start.state.maps) (alone : HaltsAlone)
     (runs : RunsAgree L o0 start.state.maps) (agree : LinesAgree L o0 start.state.maps) where
   abbrev g : Link
   g = link_of pair 4 (overlay_at start)
 
-  -- behind 39 instructions the call line is written, and 7 more lead to the load
-  pub there : (v : State Word) × (plain_run 46 start.state.maps ≡ went v) × Touches id v 70
+  -- the call line is written, and some more instructions lead to the load
+  pub there : (v : State Word) × (plain_run to_load start.state.maps ≡ went v) × Touches id v 70
   there =
-      let at = matched g h.linked o0 start.state.maps h.holds 39 o5
-      (reached_by L o0 39 (call_line ∷ []) o5 told5) in
+      let at = matched g h.linked o0 start.state.maps h.holds to_callee o5
+      (reached_by L o0 to_callee (call_line ∷ []) o5 told5) in
       let rd : AtReturn L Rcode Rdata o5 =
       subst (λ c. ReadyFor L o5 c) case5 (ready g h.linked o5 at.0 at.2) in
       let x = returned L Rcode Rdata o5 o6 returned5 in
       let used = uses_first L Rcode Rdata o5 at.0 rd at.2.flat (looks g h.linked o5 at.0 at.2) o6 x in
       let same : frame ≡ x.frame = (let e : frame ∷ [] ≡ x.frame ∷ x.older = x.frames_are in cc) in (
         used.0,
-        run_then id id 39 7 start.state.maps at.0 _ at.1 used.1,
+        run_then id id to_callee (1 + load_word) start.state.maps at.0 _ at.1 used.1,
         subst (λ f. Touches id used.0 f.base)
             (sym same) used.2,
       )
@@ -54,20 +59,20 @@ module _ (h : HoldsFor pair 4 (overlay_at start) start.state.maps) (alone : Halt
   fresh_is = refl
 
   state_at : Run
-  state_at = gone there.0 46
+  state_at = gone there.0 to_load
 
-  lines_are : written start 46 ≡ call_line ∷ []
-  lines_are = agree.between 39 46 (call_line ∷ []) o5 told5 (omega arith) (rw weight5 (omega arith))
+  lines_are : written start to_load ≡ call_line ∷ []
+  lines_are = agree.between to_callee to_load (call_line ∷ []) o5 told5 (omega arith) (rw weight5 (omega arith))
 
   pub use_there : UseThere
   use_there =
-      let here = state_is start fresh_is alone runs 46 there.0 there.1 in
+      let here = state_is start fresh_is alone runs to_load there.0 there.1 in
       record {
         parts = pair;
         size = 4;
         start = start;
         linked = is_linked;
-        n = 46;
+        n = to_load;
         address = 70;
         told = told;
         used = record {

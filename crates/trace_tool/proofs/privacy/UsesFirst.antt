@@ -10,6 +10,7 @@ use Rattle.lcm_machine.specs.Runs.{run_of}
 use Rattle.lcm_machine.specs.Touched.{Touches}
 use Rattle.lcm_machine.proofs.Offers.{run_then}
 use Rattle.call_sequence.specs.declared.TheConstants.{CALL_WORDS}
+use Rattle.call_sequence.specs.Sequences.{load_word}
 use Rattle.call_sequence.specs.SequenceRuns.{stack_cap}
 use Rattle.trusted_border.specs.declared.layout.Layout.{Layout}
 use Rattle.overlay_machine.specs.State.{OState, frame_of}
@@ -17,7 +18,7 @@ use Rattle.overlay_machine.specs.Flat.{IsFlat}
 use Rattle.overlay_machine.specs.Agree.{Looks, AtReturn}
 use Rattle.overlay_machine.proofs.Offers.{Returned, own_is, frame_of-newest, stk_kept, newest_first}
 use Rattle.trace_tool.proofs.alike.Calm.{id}
-use Rattle.trace_tool.proofs.privacy.OwnReturn.{six, runs_six, touches_first}
+use Rattle.trace_tool.proofs.privacy.OwnReturn.{loads}
 use Rattle.trace_tool.proofs.privacy.ReturnTail.{IsPair, U, jumped, back, code_opened, data_flat}
 
 module _ (l : Layout) (r1 r2 : Reg) (o : OState) (t : State Word) (rd : AtReturn l r1 r2 o) (m : IsFlat l o t)
@@ -34,8 +35,8 @@ module _ (l : Layout) (r1 r2 : Reg) (o : OState) (t : State Word) (rd : AtReturn
     same = refl;
   }
 
-  -- the seventh instruction after the `xjmp` is its load
-  pub uses_first : (v : State Word) × (run_of id id 7 t ≡ went v) × Touches id v x.frame.base
+  -- the load of its return comes behind the `xjmp` and so many words
+  pub uses_first : (v : State Word) × (run_of id id (1 + load_word) t ≡ went v) × Touches id v x.frame.base
   uses_first =
       let s = rd.frames x.frame x.older x.frames_are in
       let above = s.above in
@@ -58,18 +59,13 @@ module _ (l : Layout) (r1 r2 : Reg) (o : OState) (t : State Word) (rd : AtReturn
       pair.frame_is x.site_is (ap opened_of flat) flat refl x.cap x.own
       ∙ ap Mem (own_is l o.maps x.cap x.own).1 in
       let first = newest_first l o t m x.frame x.older x.frames_are s in
-      let end =
-      six x.frame.base u x.site.base x.site.end (x.site.at + CALL_WORDS)
-      l.stack.base h out x.cap.end x.frame.base x.frame.end x.cap.addr s.first refl stk refl x.joins
+      let used =
+      loads u x.site.base x.site.end (x.site.at + CALL_WORDS)
+      l.stack.base h x.cap.end x.frame.base x.frame.end x.cap.addr s.first refl stk refl x.joins
       (omega (arith, above)) order (omega (arith, within, small)) out first s.normal in (
-        end,
-        run_then id id 1 6 t u _
+        used.0,
+        run_then id id 1 load_word t u _
             (jumped l r1 r2 o t rd m k x.frame.site x.code_is pair x.frame.base (omega (arith, above))
-            (omega (arith, order, within)))
-            (runs_six x.frame.base u x.site.base x.site.end (x.site.at + CALL_WORDS)
-            l.stack.base h out x.cap.end x.frame.base x.frame.end x.cap.addr s.first refl stk refl x.joins
-            (omega (arith, above)) order (omega (arith, within, small)) out first s.normal),
-        touches_first x.frame.base u x.site.base x.site.end (x.site.at + CALL_WORDS)
-            l.stack.base h out x.cap.end x.frame.base x.frame.end x.cap.addr s.first refl stk refl x.joins
-            (omega (arith, above)) order (omega (arith, within, small)) out first s.normal,
+            (omega (arith, order, within))) used.1,
+        used.2,
       )

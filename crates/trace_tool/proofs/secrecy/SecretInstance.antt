@@ -1,5 +1,6 @@
--- The instance: its call stays open from behind its `xjmp` to five words into its return.
+-- The instance: its call stays open from behind its `xjmp` to the load of its return.
 use Rattle.call_sequence.specs.declared.TheConstants.{CALL_WORDS}
+use Rattle.call_sequence.specs.Sequences.{load_word, wipe_word}
 use Rattle.std.proofs.Common.{◌≡◌, inl, inr, ℕ, zero, suc, ◌+◌, ◌-◌, ◌<◌, ◌≤◌, [], ◌∷◌, Some, None}
 use Rattle.std.proofs.Common.{pos, refl, sym, ap, ◌∙◌, subst, arith}
 use Rattle.std.specs.Prelude.{Option}
@@ -29,11 +30,12 @@ use Rattle.trace_tool.specs.Alike.{LinesAgree}
 use Rattle.trace_tool.specs.OpenCalls.{LineTold, after, IsOwnReturn}
 use Rattle.trace_tool.proofs.Agreeing.{HaltsAlone, state_is}
 use Rattle.trace_tool.proofs.InstanceRun.{L, M, o0, o4, o5, own_data, call_line, case4, weight5, told4, told5}
+use Rattle.trace_tool.proofs.InstanceRun.{to_call, to_callee}
 use Rattle.trace_tool.proofs.StepTold.{reached_by}
 use Rattle.trace_tool.proofs.alike.Calm.{id, IsQuiet, Calm}
 use Rattle.trace_tool.proofs.alike.Alike.{site_free}
 use Rattle.trace_tool.proofs.alike.CallLine.{whole_calm}
-use Rattle.trace_tool.proofs.privacy.UseInstance.{there, told}
+use Rattle.trace_tool.proofs.privacy.UseInstance.{there, told, to_load}
 use Rattle.trace_tool.specs.Secrecy.{SecretThere}
 use Rattle.trace_tool.proofs.privacy.TouchAt.{first_step, run_none}
 
@@ -84,9 +86,9 @@ module _ (h : HoldsFor pair 4 (overlay_at start) start.state.maps) (alone : Halt
   after_is n v e = ap (λ (r : Run). r.maps) (state_is start fresh_is alone runs n v e)
 
   -- at the call, and behind its `xjmp`
-  before_call : (u : State Word) × (plain_run 23 start.state.maps ≡ went u) × Calm L (CALL_WORDS - 1) u
+  before_call : (u : State Word) × (plain_run to_call start.state.maps ≡ went u) × Calm L (CALL_WORDS - 1) u
   before_call =
-      let at = matched g h.linked o0 start.state.maps h.holds 23 o4 (reached_by L o0 23 [] o4 told4) in
+      let at = matched g h.linked o0 start.state.maps h.holds to_call o4 (reached_by L o0 to_call [] o4 told4) in
       let k = looks g h.linked o4 at.0 at.2 in
       let a : AtSite L 0 o4 = subst (λ c. ReadyFor L o4 c) case4 (ready g h.linked o4 at.0 at.2) in (
         at.0,
@@ -96,27 +98,27 @@ module _ (h : HoldsFor pair 4 (overlay_at start) start.state.maps) (alone : Halt
       )
 
   -- the instructions of the call before its `xjmp` are no `xjmp`
-  no_jump_in : (b : ℕ) → 23 ≤ b → b < 38 → jump_at id (after start b) ≡ None
+  no_jump_in : (b : ℕ) → to_call ≤ b → b < to_callee - 1 → jump_at id (after start b) ≡ None
   no_jump_in b low high =
       let c = before_call in
       let whole = there h alone runs agree in
-      let behind = front 23 46 start.state.maps whole.0 (omega arith) whole.1 in
+      let behind = front to_call to_load start.state.maps whole.0 (omega arith) whole.1 in
       let same : c.0 ≡ behind.0 = (let e : went c.0 ≡ went behind.0 = sym c.1 ∙ behind.1 in cc) in
       let calm : Calm L (CALL_WORDS - 1) behind.0 = subst (λ x. Calm L (CALL_WORDS - 1) x) same c.2 in
-      let upto = front (CALL_WORDS - 1) 23 behind.0 whole.0 (omega arith) behind.2 in
-      let mid = front (b - 23) (CALL_WORDS - 1) behind.0 upto.0 (omega (arith, low, high)) upto.1 in
-      let z : 23 + (b - 23) ≡ b = omega (arith, low) in
+      let upto = front (CALL_WORDS - 1) (to_load - to_call) behind.0 whole.0 (omega arith) behind.2 in
+      let mid = front (b - to_call) (CALL_WORDS - 1) behind.0 upto.0 (omega (arith, low, high)) upto.1 in
+      let z : to_call + (b - to_call) ≡ b = omega (arith, low) in
       let here : plain_run b start.state.maps ≡ went mid.0 =
       subst (λ n. run_of id id n start.state.maps ≡ went mid.0) z
-      (run_then id id 23 (b - 23) start.state.maps behind.0 _ behind.1 mid.1) in
-      let left : (CALL_WORDS - 1) - (b - 23) ≡ suc (37 - b) = omega (arith, low, high) in
-      let next = first_step (37 - b) mid.0 upto.0 (subst (λ n. run_of id id n mid.0 ≡ went upto.0) left mid.2)
+      (run_then id id to_call (b - to_call) start.state.maps behind.0 _ behind.1 mid.1) in
+      let left : (CALL_WORDS - 1) - (b - to_call) ≡ suc (to_callee - 2 - b) = omega (arith, low, high) in
+      let next = first_step (to_callee - 2 - b) mid.0 upto.0 (subst (λ n. run_of id id n mid.0 ≡ went upto.0) left mid.2)
       in
       rw (after_is b mid.0 here)
-      (calm_at L (b - 23) (CALL_WORDS - 1) behind.0 mid.0 next.0 calm (omega (arith, low, high))
+      (calm_at L (b - to_call) (CALL_WORDS - 1) behind.0 mid.0 next.0 calm (omega (arith, low, high))
       mid.1 next.1).0
 
-  not_own : (k word : ℕ) (c : LineTold) → k < 6 → 6 ≤ word → word ≤ 8 → ¬ (IsOwnReturn start (39 + k) c word)
+  not_own : (k word : ℕ) (c : LineTold) → k < load_word → load_word ≤ word → word ≤ wipe_word → ¬ (IsOwnReturn start (to_callee + k) c word)
   unfolding jump_at
   not_own k word c lt low high r =
       let so = r.so_many in
@@ -124,24 +126,24 @@ module _ (h : HoldsFor pair 4 (overlay_at start) start.state.maps) (alone : Halt
       (ap jump_in r.jumps)
 
   abbrev O : State Word
-  O = record (after start 39) { cells = set_cell (after start 39).cells 70 (Int (pos 7)) }
+  O = record (after start to_callee) { cells = set_cell (after start to_callee).cells 70 (Int (pos 7)) }
 
-  lines_are : (k : ℕ) → k ≤ 6 → written start (39 + k) ≡ call_line ∷ []
+  lines_are : (k : ℕ) → k ≤ load_word → written start (to_callee + k) ≡ call_line ∷ []
   lines_are k le =
-      agree.between 39 (39 + k) (call_line ∷ []) o5 told5 (omega arith) (rw weight5 (omega (arith, le)))
+      agree.between to_callee (to_callee + k) (call_line ∷ []) o5 told5 (omega arith) (rw weight5 (omega (arith, le)))
 
-  goes_on : (plain 45 start.state).end ≡ None
+  goes_on : (plain (to_callee + load_word) start.state).end ≡ None
   goes_on =
       let whole = there h alone runs agree in
-      let k = front 45 46 start.state.maps whole.0 (omega arith) whole.1 in
-      ap (λ (r : Run). r.end) (state_is start fresh_is alone runs 45 k.0 k.1)
+      let k = front (to_callee + load_word) to_load start.state.maps whole.0 (omega arith) whole.1 in
+      ap (λ (r : Run). r.end) (state_is start fresh_is alone runs (to_callee + load_word) k.0 k.1)
 
-  first_word : cell (after start 39).cells 70 ≡ Some (Mem (own_data 55))
+  first_word : cell (after start to_callee).cells 70 ≡ Some (Mem (own_data 55))
   unfolding flat beside word_of
   first_word =
-      let at = matched g h.linked o0 start.state.maps h.holds 39 o5
-      (reached_by L o0 39 (call_line ∷ []) o5 told5) in
-      ap (λ (x : State Word). cell x.cells 70) (after_is 39 at.0 at.1) ∙ at.2.flat.cells 70
+      let at = matched g h.linked o0 start.state.maps h.holds to_callee o5
+      (reached_by L o0 to_callee (call_line ∷ []) o5 told5) in
+      ap (λ (x : State Word). cell x.cells 70) (after_is to_callee at.0 at.1) ∙ at.2.flat.cells 70
       ∙ ap (λ o. mapped_or (flat L o5.frames) o (beside L o5.frames 70))
       (cell-without_in M 70 70 70 (omega arith) (omega arith))
 
@@ -151,15 +153,15 @@ module _ (h : HoldsFor pair 4 (overlay_at start) start.state.maps) (alone : Halt
     size = 4;
     start = start;
     linked = is_linked;
-    n = 39;
-    m = 6;
+    n = to_callee;
+    m = load_word;
     told = told;
     stays = record {
       opened = λ k c le is. rw (lines_are k le) (subst (λ x. Contains (told ∷ []) x) (only_told told c is)
           (0, omega arith, refl));
       unread = λ k c lt is own. elim own as (λ _. ⊥) [
-        | inl r ↦ not_own k 6 c lt (omega arith) (omega arith) r
-        | inr r ↦ not_own k 8 c lt (omega arith) (omega arith) r
+        | inl r ↦ not_own k load_word c lt (omega arith) (omega arith) r
+        | inr r ↦ not_own k wipe_word c lt (omega arith) (omega arith) r
       ];
     };
     more = omega arith;
@@ -167,11 +169,11 @@ module _ (h : HoldsFor pair 4 (overlay_at start) start.state.maps) (alone : Halt
     other = O;
     same = record {
       regs = refl;
-      cells = λ a off. cell-set_other (after start 39).cells 70 a (Int (pos 7))
+      cells = λ a off. cell-set_other (after start to_callee).cells 70 a (Int (pos 7))
           (λ e. off (told, (0, omega arith, refl), omega (arith, e), omega (arith, e)));
       spans = refl;
     };
     differs = λ e.
         (let bad : Some (Int (pos 7)) ≡ Some (Mem (own_data 55)) =
-        sym (cell-set_same (after start 39).cells 70 (Int (pos 7))) ∙ e ∙ first_word in cc);
+        sym (cell-set_same (after start to_callee).cells 70 (Int (pos 7))) ∙ e ∙ first_word in cc);
   }

@@ -8,6 +8,7 @@ use Rattle.cap_words.specs.declared.Sealable.TheVariants.{Mem as MemIn, Seal as 
 use Rattle.cap_words.specs.declared.Opened.{Opened}
 use Rattle.cap_words.specs.declared.Face.{Face}
 use Rattle.cap_words.specs.declared.Face.TheVariants.{Number}
+use Rattle.cap_words.specs.Face.{face_of}
 use Rattle.cap_words.specs.Linear.{is_linear, zero_word}
 use Rattle.lcm_isa.specs.declared.Reg.{Reg}
 use Rattle.lcm_isa.specs.declared.Reg.TheVariants.{Pc}
@@ -30,7 +31,6 @@ use Rattle.lcm_machine.specs.Row.{word_in, put, clear, move_on, spend, make, go_
 use Rattle.lcm_machine.specs.Row.{look_face, plan_in, outcome, row, went}
 use Rattle.lcm_machine.proofs.Offers.{Gives, gives_goes, Gives-effect, Gives-ask, Gives-need, Gives-by_cap}
 use Rattle.lcm_machine.proofs.Offers.{cell-set_other}
-use Rattle.trace_tool.proofs.alike.Calm.{id}
 
 -- neither a jump nor an end
 abbrev pub is_straight : Instr → Bool
@@ -110,92 +110,104 @@ module _ (f : Reg → Face) (w : Reg → Option Opened) (there : Option Face) (n
 
 -- ---- the word of a number stays in its cell
 
-abbrev pub Num : State Word → ℕ → ℤ → Type 0
-Num s q z = look_face id (cell s.cells q) ≡ Some (Number z)
+abbrev pub Num : {W : Type 0} → (W → Word) → State W → ℕ → ℤ → Type 0
+Num look s q z = look_face look (cell s.cells q) ≡ Some (Number z)
 
-not_linear : (o : Option Word) (z : ℤ) → look_face id o ≡ Some (Number z)
-    → is_linear (unwrap_or o (zero_word id)) ≡ false
-not_linear None z e = cc
-not_linear (Some (Int y)) z e = refl
-not_linear (Some (Mem c)) z e = cc
-not_linear (Some (Seal c)) z e = cc
-not_linear (Some (Sealed o (MemIn c))) z e = cc
-not_linear (Some (Sealed o (SealIn c))) z e = cc
+number_normal : (x : Word) (z : ℤ) → face_of x ≡ Number z → is_linear x ≡ false
+number_normal (Int y) z e = refl
+number_normal (Mem c) z e = cc
+number_normal (Seal c) z e = cc
+number_normal (Sealed o (MemIn c)) z e = cc
+number_normal (Sealed o (SealIn c)) z e = cc
 
-clear_num : (s : State Word) (p : Place) (q : ℕ) (z : ℤ) → Num s q z → Num (clear id id s p) q z
-unfolding clear
-clear_num s (R r) q z h =
-    elim (is_linear (reg s.regs r)) as (λ b. Num (if b then put s (R r) (zero_word id) else s) q z)
-    [ true ↦ h | false ↦ h ]
-clear_num s (Cell a) q z h =
-    elim (cases_eq q a)
-    as (λ _. Num (if is_linear (word_in id s (Cell a)) then put s (Cell a) (zero_word id) else s) q z) [
-      | inl e ↦
-          (let n : is_linear (word_in id s (Cell a)) ≡ false =
-          ap (λ k. is_linear (unwrap_or (cell s.cells k) (zero_word id))) (sym e)
-          ∙ not_linear (cell s.cells q) z h in rw n h)
-      | inr ne ↦
-          elim (is_linear (word_in id s (Cell a)))
-          as (λ b. Num (if b then put s (Cell a) (zero_word id) else s) q z) [
-            | true ↦ ap (look_face id) (cell-set_other s.cells a q (zero_word id) ne) ∙ h
-            | false ↦ h
-          ]
-    ]
+module _ {W : Type 0} (look : W → Word) (plain : Word → W) where
+  not_linear : (o : Option W) (z : ℤ) → look_face look o ≡ Some (Number z)
+      → is_linear (look (unwrap_or o (zero_word plain))) ≡ false
+  not_linear None z e = cc
+  not_linear (Some w) z e = let k : face_of (look w) ≡ Number z = cc in number_normal (look w) z k
 
-put_num : (s : State Word) (p : Place) (w : Word) (q : ℕ) (z : ℤ) → IsReg p → Num s q z → Num (put s p w) q z
-put_num s (R r) w q z i h = h
-put_num s (Cell a) w q z i h = absurd i
+  clear_num : (s : State W) (p : Place) (q : ℕ) (z : ℤ) → Num look s q z → Num look (clear look plain s p) q z
+  unfolding clear
+  clear_num s (R r) q z h =
+      elim (is_linear (look (reg s.regs r)))
+      as (λ b. Num look (if b then put s (R r) (zero_word plain) else s) q z)
+      [ true ↦ h | false ↦ h ]
+  clear_num s (Cell a) q z h =
+      elim (cases_eq q a)
+      as (λ _. Num look
+      (if is_linear (look (word_in plain s (Cell a))) then put s (Cell a) (zero_word plain) else s) q z) [
+        | inl e ↦
+            (let n : is_linear (look (word_in plain s (Cell a))) ≡ false =
+            ap (λ k. is_linear (look (unwrap_or (cell s.cells k) (zero_word plain)))) (sym e)
+            ∙ not_linear (cell s.cells q) z h in rw n h)
+        | inr ne ↦
+            elim (is_linear (look (word_in plain s (Cell a))))
+            as (λ b. Num look (if b then put s (Cell a) (zero_word plain) else s) q z) [
+              | true ↦ ap (look_face look) (cell-set_other s.cells a q (zero_word plain) ne) ∙ h
+              | false ↦ h
+            ]
+      ]
 
-moved_num : (s : State Word) (m : Option Moved) (q : ℕ) (z : ℤ) → ToReg false m → Num s q z
-    → Num (move_on id id s m) q z
-moved_num s None q z i h = h
-moved_num s (Some m) q z i h =
-    put_num (clear id id s m.from) m.to (word_in id s m.from) q z i (clear_num s m.from q z h)
+  put_num : (s : State W) (p : Place) (w : W) (q : ℕ) (z : ℤ) → IsReg p → Num look s q z
+      → Num look (put s p w) q z
+  put_num s (R r) w q z i h = h
+  put_num s (Cell a) w q z i h = absurd i
 
-spent_num : (s : State Word) (r : Option Reg) (q : ℕ) (z : ℤ) → Num s q z → Num (spend id id s r) q z
-spent_num s None q z h = h
-spent_num s (Some r) q z h = clear_num s (R r) q z h
+  moved_num : (s : State W) (m : Option Moved) (q : ℕ) (z : ℤ) → ToReg false m → Num look s q z
+      → Num look (move_on look plain s m) q z
+  moved_num s None q z i h = h
+  moved_num s (Some m) q z i h =
+      put_num (clear look plain s m.from) m.to (word_in plain s m.from) q z i (clear_num s m.from q z h)
 
-made_num : (s : State Word) (m : Option Made) (q : ℕ) (z : ℤ) → Num s q z → Num (make id s m) q z
-made_num s None q z h = h
-made_num s (Some m) q z h = h
+  spent_num : (s : State W) (r : Option Reg) (q : ℕ) (z : ℤ) → Num look s q z
+      → Num look (spend look plain s r) q z
+  spent_num s None q z h = h
+  spent_num s (Some r) q z h = clear_num s (R r) q z h
 
-gone_num : (s : State Word) (m : Option Word) (q : ℕ) (z : ℤ) → Num s q z → Num (go_on id s m) q z
-gone_num s None q z h = h
-gone_num s (Some m) q z h = h
+  made_num : (s : State W) (m : Option Made) (q : ℕ) (z : ℤ) → Num look s q z → Num look (make plain s m) q z
+  made_num s None q z h = h
+  made_num s (Some m) q z h = h
 
-pub performed_num : (s : State Word) (e : Effect) (q : ℕ) (z : ℤ) → ToReg false e.moved → Num s q z
-    → Num (perform id id s e) q z
-unfolding perform
-performed_num s e q z i h =
-    gone_num _ e.next q z
-    (made_num _ e.second q z
-    (made_num _ e.first q z
-    (spent_num _ e.also_spent q z (spent_num _ e.spent q z (moved_num s e.moved q z i h)))))
+  gone_num : (s : State W) (m : Option Word) (q : ℕ) (z : ℤ) → Num look s q z → Num look (go_on plain s m) q z
+  gone_num s None q z h = h
+  gone_num s (Some m) q z h = h
 
-performed_pc : (s : State Word) (e : Effect) (next : Word) → e.next ≡ Some next
-    → reg (perform id id s e).regs Pc ≡ next
-unfolding perform
-performed_pc s e next h = rw h refl
+  pub performed_num : (s : State W) (e : Effect) (q : ℕ) (z : ℤ) → ToReg false e.moved → Num look s q z
+      → Num look (perform look plain s e) q z
+  unfolding perform
+  performed_num s e q z i h =
+      gone_num _ e.next q z
+      (made_num _ e.second q z
+      (made_num _ e.first q z
+      (spent_num _ e.also_spent q z (spent_num _ e.spent q z (moved_num s e.moved q z i h)))))
 
-abbrev KeepsNumbers : Bool → State Word → State Word → Type 0
-KeepsNumbers true s s' = Unit {0}
-KeepsNumbers false s s' = (q : ℕ) (z : ℤ) → Num s q z → Num s' q z
+  performed_pc : (s : State W) (e : Effect) (next : Word) → e.next ≡ Some next
+      → reg (perform look plain s e).regs Pc ≡ plain next
+  unfolding perform
+  performed_pc s e next h = rw h refl
 
-by_store : (b : Bool) (s : State Word) (e : Effect) → ToReg b e.moved → KeepsNumbers b s (perform id id s e)
-by_store true s e h = tt
-by_store false s e h = λ q z. performed_num s e q z h
+  abbrev pub KeepsNumbers : State W → State W → Type 0
+  KeepsNumbers s s' = (q : ℕ) (z : ℤ) → Num look s q z → Num look s' q z
 
-planned : (s s' : State Word) (next : Word) (b : Bool) (p : Plan) → Gives (Onward next b) p
-    → outcome id id s p ≡ went s' → (s'.regs.pc ≡ next) × KeepsNumbers b s s'
-planned s s' next b (Fails f) h e = cc
-planned s s' next b Halts h e = cc
-planned s s' next b (Goes x) h e = let q : perform id id s x ≡ s' = cc in let k =
-    Gives-effect h in rw (← q) (performed_pc s x next k.0, by_store b s x k.1)
+  -- but for a store
+  abbrev pub MayKeep : Bool → State W → State W → Type 0
+  MayKeep true s s' = Unit {0}
+  MayKeep false s s' = KeepsNumbers s s'
 
--- a straight instruction goes to the next word, and but for a store numbers stay
-pub straight_goes : (s s' : State Word) (i : Instr) (next : Word) → is_straight i ≡ true
-    → row id id i next s ≡ went s' → (s'.regs.pc ≡ next) × KeepsNumbers (is_store i) s s'
-unfolding row plan_in
-straight_goes s s' i next h e =
-    planned s s' next (is_store i) _ (plan-Onward (faces id s) (opens id s) _ next i h) e
+  by_store : (b : Bool) (s : State W) (e : Effect) → ToReg b e.moved → MayKeep b s (perform look plain s e)
+  by_store true s e h = tt
+  by_store false s e h = λ q z. performed_num s e q z h
+
+  planned : (s s' : State W) (next : Word) (b : Bool) (p : Plan) → Gives (Onward next b) p
+      → outcome look plain s p ≡ went s' → (s'.regs.pc ≡ plain next) × MayKeep b s s'
+  planned s s' next b (Fails f) h e = cc
+  planned s s' next b Halts h e = cc
+  planned s s' next b (Goes x) h e = let q : perform look plain s x ≡ s' = cc in let k =
+      Gives-effect h in rw (← q) (performed_pc s x next k.0, by_store b s x k.1)
+
+  -- a straight instruction goes to the next word, and but for a store numbers stay
+  pub straight_goes : (s s' : State W) (i : Instr) (next : Word) → is_straight i ≡ true
+      → row look plain i next s ≡ went s' → (s'.regs.pc ≡ plain next) × MayKeep (is_store i) s s'
+  unfolding row plan_in
+  straight_goes s s' i next h e =
+      planned s s' next (is_store i) _ (plan-Onward (faces look s) (opens look s) _ next i h) e
