@@ -1,8 +1,7 @@
 -- A group for each line, and in it the box that is due.
 use Rattle.std.proofs.Common.{◌≡◌, ℕ, ◌+◌, Bool, true, false, List, [], ◌∷◌, ◌++◌, Option, Some, None}
-use Rattle.std.proofs.Common.{refl, sym, ap, ◌∙◌, map, append-nil, append_assoc}
-use Rattle.std.specs.Prelude.{nat_le, nat_lt, nat_eq, ◌||◌, if◌then◌else◌, unwrap_or, length, ◌%◌, ◌/◌, ◌*◌}
-use Rattle.std.specs.Prelude.{take}
+use Rattle.std.proofs.Common.{refl, ap, ◌∙◌, map, append-nil, append_assoc}
+use Rattle.std.specs.Prelude.{nat_le, nat_lt, nat_eq, ◌||◌, if◌then◌else◌, unwrap_or, length, ◌%◌, ◌/◌}
 use Rattle.std.specs.List.{join_with_byte}
 use Rattle.std.proofs.lemmas.List.Splits.{join_with_byte-slice_split}
 use Rattle.line_fields.specs.Cuts.{parts}
@@ -20,7 +19,7 @@ use Rattle.run_picture.specs.Held.{HeldSeen, held_after, nothing_held, shown}
 use Rattle.run_picture.specs.Page.{PageSeen, x, y}
 use Rattle.run_picture.specs.Groups.{acts, arrow_between, arrow, number, rows, told_beside, area_below, area}
 use Rattle.run_picture.specs.Groups.{frame_box, told_inside, call_frame, ret_edge, frame, line_shapes}
-use Rattle.run_picture.specs.Groups.{end_shapes, groups, class_of}
+use Rattle.run_picture.specs.Groups.{end_shapes, groups}
 use Rattle.run_picture.specs.Laws.{is_frame, is_area, boxes_of, box_due, boxes_due, areas_due, OneBoxEach}
 use Rattle.run_picture.specs.Laws.{OneAreaEach}
 use Rattle.run_picture.specs.Laws.{TitlesAreLines, TitlesAreTheText, ended_text, last_of}

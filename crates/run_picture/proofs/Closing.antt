@@ -1,6 +1,6 @@
 -- The line that closes a call is its return.
 use Rattle.std.proofs.Common.{◌≡◌, ℕ, zero, suc, ◌+◌, ◌-◌, ◌<◌, ◌≤◌, Bool, true, false, List, [], ◌∷◌, ◌++◌}
-use Rattle.std.proofs.Common.{length, Option, Some}
+use Rattle.std.proofs.Common.{length, Some}
 use Rattle.std.proofs.Common.{None, refl, sym, ap, ◌∙◌, subst, arith, append_assoc, length-append, eqb-true}
 use Rattle.std.specs.Prelude.{nat_eq}
 use Rattle.run_picture.specs.declared.turn.Turn.{Turn}

@@ -1,8 +1,8 @@
 -- A text is taken for what was written.
-use Rattle.std.proofs.Common.{◌≡◌, ℕ, Bool, true, false, List, [], ◌∷◌, ◌++◌, Option, Some, None}
+use Rattle.std.proofs.Common.{◌≡◌, ℕ, Bool, true, false, List, [], ◌∷◌, ◌++◌, None}
 use Rattle.std.proofs.Common.{refl, sym, ap, ◌∙◌, eqb-true}
 use Rattle.std.specs.Prelude.{nat_eq}
-use Rattle.run_picture.specs.Shapes.{escaped_byte, escaped, unescaped_behind, unescaped}
+use Rattle.run_picture.specs.Shapes.{escaped_byte, escaped, unescaped_behind}
 use Rattle.run_picture.specs.Laws.{EscapesAreRead}
 
 one_byte : (b : ℕ) (rest : List ℕ)

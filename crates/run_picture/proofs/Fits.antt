@@ -1,5 +1,5 @@
 -- Lines whose calls lie below those that are open, and whose returns close the newest.
-use Rattle.std.proofs.Common.{◌≡◌, ℕ, zero, suc, ◌+◌, ◌-◌, ◌<◌, ◌≤◌, Bool, true, false, List, [], ◌∷◌, ◌++◌}
+use Rattle.std.proofs.Common.{◌≡◌, ℕ, suc, ◌+◌, ◌-◌, ◌<◌, ◌≤◌, true, false, List, [], ◌∷◌, ◌++◌}
 use Rattle.std.proofs.Common.{length}
 use Rattle.std.proofs.Common.{Option, Some, None, refl, sym, ap, ◌∙◌, subst, arith, append_assoc, map}
 use Rattle.std.specs.Prelude.{min, drop, nat_eq}
@@ -10,8 +10,8 @@ use Rattle.run_picture.specs.declared.turn.Turn.TheVariants.{Call, Ret, Enter, L
 use Rattle.run_picture.specs.Events.{EventSeen, open_behind, closes_or, closing_from, closing}
 use Rattle.run_picture.specs.Held.{HeldSeen, held_after, cut_at, shown}
 use Rattle.run_picture.specs.OpenLaws.{held_by, EndsBefore}
-use Rattle.run_picture.specs.Laws.{IsCall, IsRet, IsNeither, Closes, ClosesAt}
-use Rattle.run_picture.proofs.Closing.{not_zero, found_closing, is_closed, closed_is}
+use Rattle.run_picture.specs.Laws.{IsCall, IsRet, IsNeither}
+use Rattle.run_picture.proofs.Closing.{not_zero, found_closing}
 
 -- ---- frames that lie below one another
 

@@ -1,3 +1,4 @@
+mod Bounds
 mod Boxes
 mod Closing
 mod Cuts
@@ -8,5 +9,10 @@ mod Joined
 mod Lines
 mod Open
 mod Passes
+mod Plain
+mod Short
+mod Sizes
 mod Stands
 mod Svg
+mod Traces
+mod Weights

@@ -1,9 +1,9 @@
 -- What is left of a text's lines, as events.
-use Rattle.std.proofs.Common.{◌≡◌, ℕ, ◌+◌, ◌<◌, ◌≤◌, ◌^◌, Bool, true, false, List, [], ◌∷◌, ◌++◌, length}
-use Rattle.std.proofs.Common.{Option, Some, None, refl, sym, ap, ◌∙◌, subst, arith}
+use Rattle.std.proofs.Common.{◌≡◌, ℕ, ◌+◌, ◌<◌, ◌≤◌, ◌^◌, true, false, List, [], ◌∷◌, length}
+use Rattle.std.proofs.Common.{Some, None, refl, ap, ◌∙◌, arith}
 use Rattle.line_fields.specs.Fields.{field, lines, is_none_left}
 use Rattle.line_fields.proofs.Offers.{next_line, parts_len}
-use Rattle.run_picture.specs.Events.{EventSeen, event_of, events_in, events}
+use Rattle.run_picture.specs.Events.{event_of, events_in, events}
 
 last_is : (line : List ℕ) (rest : List (List ℕ)) → is_none_left rest ≡ true → events_in (line ∷ rest) ≡ []
 last_is line [] h = refl

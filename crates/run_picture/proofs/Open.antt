@@ -1,6 +1,6 @@
 -- What is handed over, and what is called, while a call is open.
-use Rattle.std.proofs.Common.{◌≡◌, ℕ, ◌+◌, ◌<◌, ◌≤◌, List, [], ◌∷◌, ◌++◌, length, None, refl, subst, arith}
-use Rattle.run_picture.specs.Events.{EventSeen, closing_from, closing, events}
+use Rattle.std.proofs.Common.{◌+◌, ◌≤◌, [], ◌∷◌, ◌++◌, refl, subst, arith}
+use Rattle.run_picture.specs.Events.{closing, events}
 use Rattle.run_picture.specs.Held.{nothing_held}
 use Rattle.run_picture.specs.OpenLaws.{AreasAreFree, BoxesNest, BoxesFollow}
 use Rattle.run_picture.proofs.Closing.{closed_still}

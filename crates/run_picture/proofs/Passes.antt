@@ -1,5 +1,5 @@
 -- The lines of a text that passes the audit, as what they change.
-use Rattle.std.proofs.Common.{◌≡◌, ℕ, ◌+◌, ◌<◌, ◌≤◌, Bool, true, false, List, [], ◌∷◌, ◌++◌, length, Option}
+use Rattle.std.proofs.Common.{◌≡◌, ℕ, ◌+◌, ◌<◌, Bool, true, false, List, [], ◌∷◌, length, Option}
 use Rattle.std.proofs.Common.{Some}
 use Rattle.std.proofs.Common.{None, Result, Ok, Err, refl, sym, ap, ◌∙◌, subst, arith, map}
 use Rattle.std.specs.Prelude.{codes, not, ◌||◌, if◌then◌else◌}
@@ -11,12 +11,12 @@ use Rattle.line_fields.specs.Options.{where_true}
 use Rattle.line_fields.specs.Numbers.{natural_in, number_in}
 use Rattle.line_fields.specs.Words.{is_word}
 use Rattle.line_fields.specs.Forms.{back_in, handed_in}
-use Rattle.line_fields.specs.Fields.{Reader, reads_on, done, field, unless_none, meant, tested, whole, fields}
+use Rattle.line_fields.specs.Fields.{Reader, reads_on, done, unless_none, meant, tested, whole, fields}
 use Rattle.line_fields.specs.Fields.{lines}
 use Rattle.line_fields.proofs.Offers.{chosen}
 use Rattle.run_audit.proofs.Offers.{told_decides}
 use Rattle.run_audit.specs.declared.fault.AuditFault.{AuditFault}
-use Rattle.run_audit.specs.declared.fault.AuditFault.TheVariants.{Form, Width, Overlap, Unopened, Mismatch}
+use Rattle.run_audit.specs.declared.fault.AuditFault.TheVariants.{Form, Width, Overlap, Mismatch}
 use Rattle.run_audit.specs.declared.line.Line.{Line}
 use Rattle.run_audit.specs.declared.line.Line.TheVariants as audit_line
 use Rattle.run_audit.specs.Told.{ToldSeen, is_wide, same_told}
@@ -24,11 +24,11 @@ use Rattle.run_audit.specs.Lines.{is_direction, is_cause, is_address, registers,
 use Rattle.run_audit.specs.Lines.{entered as enter_line, passed, left, steps, halted, failed, running}
 use Rattle.run_audit.specs.Lines.{line_named, one_line, line_in}
 use Rattle.run_audit.specs.Audit.{OpenSeen, nothing_open, below_newest, closed_by, audit_on, judged, stepped}
-use Rattle.run_audit.specs.Audit.{at_end, is_ended, audited_from, audited}
+use Rattle.run_audit.specs.Audit.{at_end, audited_from, audited}
 use Rattle.run_picture.specs.declared.turn.Side.{Side}
 use Rattle.run_picture.specs.declared.turn.Extent.{Extent}
 use Rattle.run_picture.specs.declared.turn.Turn.{Turn}
-use Rattle.run_picture.specs.declared.turn.Turn.TheVariants.{Call, Ret, Enter, Leave, Other}
+use Rattle.run_picture.specs.declared.turn.Turn.TheVariants.{Call, Ret, Enter, Leave}
 use Rattle.run_picture.specs.Turns.{side_of, call_or_ret, spanned, entered, turn_named, one_turn, turn_read}
 use Rattle.run_picture.specs.Turns.{turn_of}
 use Rattle.run_picture.specs.Events.{EventSeen, event_of, events_in, events}
@@ -41,23 +41,23 @@ use Rattle.run_picture.proofs.Fits.{LiesUnder, IsRange, Apart, under_all, Fits, 
 abbrev Fields : Type 0
 Fields = List (List ℕ)
 
-record Goes {A B : Type 0} (o : Option (A × Fields)) (f : A → Reader B) (y : B × Fields) : Type 0 where
-  value : A
-  rest : Fields
-  first : o ≡ Some (value, rest)
-  next : f value rest ≡ Some y
+pub record Goes {A B : Type 0} (o : Option (A × Fields)) (f : A → Reader B) (y : B × Fields) : Type 0 where
+  pub value : A
+  pub rest : Fields
+  pub first : o ≡ Some (value, rest)
+  pub next : f value rest ≡ Some y
 
-goes : {A B : Type 0} (o : Option (A × Fields)) (f : A → Reader B) (y : B × Fields) → reads_on o f ≡ Some y
+pub goes : {A B : Type 0} (o : Option (A × Fields)) (f : A → Reader B) (y : B × Fields) → reads_on o f ≡ Some y
     → Goes o f y
 goes None f y h = absurd cc
 goes (Some x) f y h = record { value = x.0; rest = x.1; first = refl; next = h }
 
-same_read : {A : Type 0} {x z : A} {ts us : Fields} → done x ts ≡ Some (z, us) → x ≡ z
+pub same_read : {A : Type 0} {x z : A} {ts us : Fields} → done x ts ≡ Some (z, us) → x ≡ z
 same_read {A = A} {x = x} {z = z} {ts = ts} {us = us} h =
     let both : (x, ts) ≡ (z, us) = cc in
     ap (λ (p : A × Fields). p.0) both
 
-unless_is : {A : Type 0} (o : Option A) (ts : Fields) (x : A) (rest : Fields)
+pub unless_is : {A : Type 0} (o : Option A) (ts : Fields) (x : A) (rest : Fields)
     → unless_none o ts ≡ Some (x, rest) → (o ≡ Some x) × (ts ≡ rest)
 unless_is None ts x rest h = absurd cc
 unless_is {A = A} (Some y) ts x rest h =
@@ -72,7 +72,7 @@ tested_is test (t ∷ ts) x rest h =
     let k = unless_is (where_true (test t) t) ts x rest h in
     (t, ap (λ us. t ∷ us) k.1)
 
-meant_is : {A : Type 0} (read : List ℕ → Option A) (ts : Fields) (x : A) (rest : Fields)
+pub meant_is : {A : Type 0} (read : List ℕ → Option A) (ts : Fields) (x : A) (rest : Fields)
     → meant read ts ≡ Some (x, rest) → (t : List ℕ) × (read t ≡ Some x) × (ts ≡ t ∷ rest)
 unfolding meant
 meant_is read [] x rest h = absurd cc
@@ -258,7 +258,7 @@ named_is name ts l rest h false false e f =
     (λ k7. absurd (let n : None ≡ Some (l, rest) = k7 in cc))))))))
     (rest_neither (bytes_eq (codes "enter") name) (bytes_eq (codes "leave") name) ts))
 
-whole_is : {A : Type 0} (o : Option (A × Fields)) (x : A) → whole o ≡ Some x → o ≡ Some (x, [])
+pub whole_is : {A : Type 0} (o : Option (A × Fields)) (x : A) → whole o ≡ Some x → o ≡ Some (x, [])
 whole_is None x h = absurd cc
 whole_is (Some (y, [])) x h = let same : y ≡ x = cc in ap (λ z. Some (z, [])) same
 whole_is (Some (y, t ∷ ts)) x h = absurd cc
@@ -280,7 +280,7 @@ line_is line l h =
 abbrev spans : List ToldSeen → List Extent
 spans ts = map span_of ts
 
-step_ok : (q : Result OpenSeen AuditFault) (f : OpenSeen → Result (Unit {0}) AuditFault)
+pub step_ok : (q : Result OpenSeen AuditFault) (f : OpenSeen → Result (Unit {0}) AuditFault)
     → audit_on q f ≡ Ok tt
     → (v : OpenSeen) × (q ≡ Ok v) × (f v ≡ Ok tt)
 step_ok (Ok v) f h = (v, refl, h)

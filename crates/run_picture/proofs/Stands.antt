@@ -1,9 +1,9 @@
 -- Where lines and addresses stand.
-use Rattle.std.proofs.Common.{◌≡◌, ℕ, suc, ◌+◌, ◌-◌, ◌*◌, ◌<◌, ◌≤◌, Bool, true, false, List, [], ◌∷◌, ◌++◌}
+use Rattle.std.proofs.Common.{◌≡◌, ℕ, ◌+◌, ◌-◌, ◌*◌, ◌<◌, ◌≤◌, Bool, true, false, List, [], ◌∷◌, ◌++◌}
 use Rattle.std.proofs.Common.{length}
-use Rattle.std.proofs.Common.{Option, Some, None, refl, sym, ap, ◌∙◌, subst, arith, inl, inr}
-use Rattle.std.specs.Prelude.{◌⊎◌, min, nat_le, nat_lt, nat_eq, if◌then◌else◌}
-use Rattle.std.proofs.lemmas.Bool.{leb-true, leb-false, ltb-true, ltb-false, lt-ltb, le-ltb, eqb-true}
+use Rattle.std.proofs.Common.{Some, None, refl, sym, ap, subst, arith, inl, inr}
+use Rattle.std.specs.Prelude.{min, nat_le, nat_lt, nat_eq, if◌then◌else◌}
+use Rattle.std.proofs.lemmas.Bool.{leb-true, leb-false, lt-ltb, le-ltb, eqb-true}
 use Rattle.std.proofs.lemmas.Bool.{eqb-false}
 use Rattle.std.proofs.lemmas.Bool.{cond_both, cases_lt}
 use Rattle.std.proofs.Math.Nat.{mul-lt-mul_of_pos_left, mul-le-mul_left}
@@ -14,8 +14,7 @@ use Rattle.run_picture.specs.declared.turn.Turn.{Turn}
 use Rattle.run_picture.specs.declared.turn.Turn.TheVariants.{Call, Ret, Enter, Leave, Other}
 use Rattle.run_picture.specs.Events.{EventSeen}
 use Rattle.run_picture.specs.Heights.{with_cut, with_turn, cuts_from, below, fits, scale_of}
-use Rattle.run_picture.specs.Page.{column_of, x, y}
-use Rattle.run_picture.specs.Picture.{page_for}
+use Rattle.run_picture.specs.Page.{column_of}
 use Rattle.run_picture.specs.HeightLaws.{IsCut, ColumnsRise, HeightsFall, CutsFall, FramesEndAtCuts}
 
 -- ---- columns
@@ -38,11 +37,11 @@ columns_rise es m n h =
 -- ---- cuts fall
 
 -- all are below this, and each is below the one before it
-abbrev Under : ℕ → List ℕ → Type 0
+abbrev pub Under : ℕ → List ℕ → Type 0
 Under b [] = Unit {0}
 Under b (c ∷ cs) = (c < b) × Under c cs
 
-under_more : (a b : ℕ) (cs : List ℕ) → a ≤ b → Under a cs → Under b cs
+pub under_more : (a b : ℕ) (cs : List ℕ) → a ≤ b → Under a cs → Under b cs
 under_more a b [] h u = tt
 under_more a b (c ∷ cs) h u = let lt : c < a = u.0 in (omega arith, u.1)
 
@@ -53,7 +52,7 @@ put_here a b c cs h u le false e =
     let ne : (c ≡ a → ⊥) = eqb-false c a e in
     (h, (omega (arith, ne), u.1))
 
-with_cut_under : (a b : ℕ) (cs : List ℕ) → a < b → Under b cs → Under b (with_cut a cs)
+pub with_cut_under : (a b : ℕ) (cs : List ℕ) → a < b → Under b cs → Under b (with_cut a cs)
 with_cut_under a b [] h u = (h, tt)
 with_cut_under a b (c ∷ cs) h u =
     cond_both (nat_le c a) _ _ (Under b)
@@ -85,7 +84,7 @@ cuts_fall (e ∷ es) cs f = cuts_fall es (with_turn e.turn cs) (with_turn_falls 
 
 -- ---- heights fall
 
-no_lower : (m : ℕ) (cs : List ℕ) (a b : ℕ) → a ≤ b → below m cs b ≤ below m cs a
+pub no_lower : (m : ℕ) (cs : List ℕ) (a b : ℕ) → a ≤ b → below m cs b ≤ below m cs a
 no_lower m [] a b h = omega arith
 no_lower m (c ∷ []) a b h = omega arith
 no_lower m (c ∷ d ∷ cs) a b h = elim (cases_lt b c) [

@@ -1,10 +1,10 @@
 -- A picture is a document of shapes and groups.
-use Rattle.std.proofs.Common.{◌≡◌, ℕ, ◌-◌, ◌*◌, Bool, true, false, List, [], ◌∷◌, ◌++◌, length}
-use Rattle.std.proofs.Common.{refl, sym, ap, ◌∙◌, append_assoc, append-nil, eqb-true, inl, inr}
+use Rattle.std.proofs.Common.{◌≡◌, ℕ, ◌-◌, Bool, true, false, List, [], ◌∷◌, ◌++◌}
+use Rattle.std.proofs.Common.{refl, sym, ap, ◌∙◌, append_assoc, inl, inr}
 use Rattle.std.specs.Prelude.{codes, nat_eq}
 use Rattle.std.proofs.lemmas.Bool.{eqb-false}
 use Rattle.run_picture.specs.declared.TheConstants.{STYLE}
-use Rattle.run_picture.specs.Shapes.{escaped_byte, escaped, Shape, Group, shapes_text, groups_text}
+use Rattle.run_picture.specs.Shapes.{escaped_byte, escaped, Shape, shapes_text, groups_text}
 use Rattle.run_picture.specs.Events.{EventSeen, events}
 use Rattle.run_picture.specs.Held.{nothing_held}
 use Rattle.run_picture.specs.Page.{PageSeen, width, height}

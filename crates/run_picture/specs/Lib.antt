@@ -12,3 +12,4 @@ pub mod Laws
 pub mod HeightLaws
 pub mod OpenLaws
 pub mod SvgLaws
+pub mod LengthLaws

@@ -4,6 +4,7 @@ ghost use Rattle.run_picture.specs.Laws.{OneAreaEach};
 ghost use Rattle.run_picture.specs.Laws.{ClosingIsTheReturn};
 ghost use Rattle.run_picture.specs.HeightLaws.{ColumnsRise, HeightsFall, CutsFall, FramesEndAtCuts};
 ghost use Rattle.run_picture.specs.OpenLaws.{AreasAreFree, BoxesNest, BoxesFollow};
+ghost use Rattle.run_picture.specs.LengthLaws.{EscapesAreShort, TracesArePlain, PicturesAreShort};
 ghost use Rattle.run_picture.specs.SvgLaws.{EscapesAreTexts, PicturesAreDocuments};
 
 /// What is escaped is a text of SVG, which its reader takes for what was written.
@@ -55,4 +56,13 @@ pub fn open_calls_are_seen()
 /// Each picture is the text of shapes, and of groups of shapes under their titles.
 pub fn pictures_are_documents()
     ensures { PicturesAreDocuments }
+{}
+
+/// A picture of at most 16,384 lines has at most 2,048 bytes for the page, three times the bytes of the escaped
+/// text, and 700 for each line, be the text a trace or not. A byte is escaped as six at most, and none of a text
+/// that passes the audit has to be.
+pub fn pictures_are_short()
+    ensures escapes { EscapesAreShort }
+    ensures traces { TracesArePlain }
+    ensures pictures { PicturesAreShort }
 {}

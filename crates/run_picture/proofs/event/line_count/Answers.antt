@@ -1,4 +1,4 @@
-use Rattle.std.proofs.Common.{◌+◌, length, arith, rules, ap, sym, ◌∙◌}
+use Rattle.std.proofs.Common.{length, arith, rules, ap, sym, ◌∙◌}
 use Rattle.run_picture.specs.Events.{events_in}
 use Rattle.run_picture.proofs.Lines.{few, fewer, more_left}
 use Rattle.run_picture.proofs.event.line_count.Goals as goal
