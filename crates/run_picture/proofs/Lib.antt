@@ -7,6 +7,7 @@ mod Fits
 mod Joined
 mod Lines
 mod Open
-mod Passes
+pub mod Passes
 mod Stands
 mod Svg
+pub mod Offers
