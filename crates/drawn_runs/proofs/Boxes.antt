@@ -195,8 +195,8 @@ module _ (es0 : List EventSeen) (rises : ColumnsRise) (follow : BoxesFollow) (m 
 pub boxes_over : (rises : ColumnsRise) (follow : BoxesFollow) (each : OneBoxEach) (text : List ℕ)
     (ls : List Line) (b : Begins (events text) ls) {now : List LineTold}
     → filter has_range now ≡ now → open_behind [] ls ≡ now
-    → AllZip (λ (s : Shape) (c : LineTold). IsOver (page text) s c.base c.last) (boxes_behind text (length ls))
-    (reverse (open_behind [] ls))
+    → AllZip (λ (s : Shape) (c : LineTold). IsOver (page text) s c.base c.last)
+    (boxes_behind text (length ls)) (reverse (open_behind [] ls))
 boxes_over rises follow each text ls b ranges open_now =
     let m = length ls in
     let es = events text in

@@ -1,135 +1,104 @@
 -- Behind a line just the addresses of the ranges of open calls are dark.
-use Rattle.std.proofs.Common.{◌≡◌, ℕ, ◌+◌, ◌<◌, ◌≤◌, Bool, true, false, List, [], ◌∷◌, ◌++◌, length, Option}
-use Rattle.std.proofs.Common.{Some, None, refl, sym, ap, ◌∙◌, subst, arith, inl, inr, append_assoc}
-use Rattle.std.proofs.Common.{length-append}
-use Rattle.std.specs.List.{Contains}
-use Rattle.std.proofs.lemmas.Bool.{cases_lt}
-use Rattle.std.proofs.lemmas.List.Elements.{Contains-append_left, Contains-push, Contains-push_cases}
-use Rattle.lcm_machine.specs.Run.{plain}
-use Rattle.lcm_machine.specs.Touched.{Touches}
-use Rattle.component_linker.specs.Started.{StartSeen}
-use Rattle.trace_tool.specs.Lines.{Args, Line, call, ret, enter, pass, leave}
-use Rattle.trace_tool.specs.Runs.{written}
-use Rattle.trace_tool.specs.OpenCalls.{LineTold, open_behind, after, ReadsOrWipes, RangesAreLeftAlone}
+use Rattle.std.proofs.Common.{◌≡◌, ℕ, zero, suc, ◌+◌, ◌-◌, ◌*◌, ◌<◌, ◌≤◌, true, false, List, [], ◌∷◌, ◌++◌}
+use Rattle.std.proofs.Common.{length, Option, Some, None, refl, sym, ap, ◌∙◌, subst, arith, inl, inr}
+use Rattle.std.proofs.Common.{append_assoc}
+use Rattle.std.specs.Prelude.{min, nat_lt, reverse}
+use Rattle.std.specs.List.{AllZip, Contains}
+use Rattle.std.proofs.lemmas.Bool.{cases_lt, lt-ltb, le-ltb}
+use Rattle.std.proofs.lemmas.List.{reverse-append, reverse-reverse}
+use Rattle.std.proofs.lemmas.List.Elements.{Contains-push_cases}
+use Rattle.overlay_machine.proofs.Offers.{contains_first, contains_rest}
+use Rattle.trace_tool.specs.Lines.{Line, call, ret, enter, pass, leave}
+use Rattle.trace_tool.specs.OpenCalls.{LineTold, open_behind}
 use Rattle.run_picture.specs.declared.turn.Side.{Side}
-use Rattle.run_picture.specs.declared.turn.Extent.{Extent}
-use Rattle.run_picture.specs.declared.turn.Turn.{Turn}
-use Rattle.run_picture.specs.declared.turn.Turn.TheVariants.{Call, Ret}
+use Rattle.run_picture.specs.declared.turn.Turn.TheVariants.{Call}
+use Rattle.run_picture.specs.Shapes.{Shape, box, line, label}
 use Rattle.run_picture.specs.Events.{EventSeen, closing, events}
-use Rattle.run_picture.specs.Groups.{frame_box}
-use Rattle.run_picture.specs.Laws.{IsNeither}
-use Rattle.run_picture.specs.HeightLaws.{ColumnsRise}
-use Rattle.run_picture.specs.OpenLaws.{BoxesFollow}
-use Rattle.run_picture.proofs.Offers.{IsSame}
-use Rattle.audited_runs.specs.Audited.{line_seen}
-use Rattle.drawn_runs.specs.Dark.{page, stands_behind, IsDark}
-use Rattle.drawn_runs.specs.Drawn.{IsCallAt, IsOfOpen}
-use Rattle.drawn_runs.proofs.Lines.{Tells, as_many, Begins, within}
-use Rattle.drawn_runs.proofs.Stays.{IsBetween, goes_by, ends_with, opened_one}
-use Rattle.drawn_runs.proofs.Stands.{not_yet, stands, has_gone}
+use Rattle.run_picture.specs.Heights.{below}
+use Rattle.run_picture.specs.Page.{PageSeen, y}
+use Rattle.run_picture.specs.Picture.{page_for}
+use Rattle.run_picture.specs.HeightLaws.{IsCut, HeightsFall, CutsFall, FramesEndAtCuts}
+use Rattle.drawn_runs.specs.Dark.{page, boxes_behind, IsOver, HasRow, IsIn, IsDark}
+use Rattle.drawn_runs.proofs.Lines.{Tells, Begins}
+use Rattle.drawn_runs.proofs.Stays.{goes_by, ends_with, opened_one}
 
--- ---- the line of a call
+-- ---- rows
 
-record IsCallLine (l : Line) (span : Extent) : Type 0 where
-  told : LineTold
-  inward : Bool
-  args : Args
-  is : l ≡ call inward told.part told.site told.base told.last args told.words
-  base : told.base ≡ span.base
-  last : told.last ≡ span.last
+-- an address is drawn where a mark is that isn't above it
+abbrev Floor : ℕ → List ℕ → ℕ → Type 0
+Floor most cs a = (d : ℕ) × IsCut d cs × (d ≤ a) × (below most cs a ≡ below most cs d)
 
-call_line : (l : Line) (t : Turn) (side : Side) (span : Extent) → IsSame (line_seen l) t → t ≡ Call side span
-    → IsCallLine l span
-call_line (call inward part site base last args words) t side span h e =
-    let range : Extent = record { base = base; last = last } in
-    let same : Call h.0 range ≡ Call side span = sym h.1 ∙ e in
-    let one : range ≡ span = cc in
-    record {
-      told = record { part = part; site = site; base = base; last = last; words = words };
-      inward = inward;
-      args = args;
-      is = refl;
-      base = ap (λ (x : Extent). x.base) one;
-      last = ap (λ (x : Extent). x.last) one;
-    }
-call_line (ret inward part site base last a0 words) t side span h e =
-    absurd (let no : Ret h.0 (record { base = base; last = last }) ≡ Call side span = sym h.1 ∙ e in cc)
-call_line (enter part export stk args back) t side span h e = absurd (subst IsNeither e h)
-call_line (pass p0 p1 p2) t side span h e = absurd (subst IsNeither e h)
-call_line (leave part a0) t side span h e = absurd (subst IsNeither e h)
+behind_first : (most c d : ℕ) (cs : List ℕ) (l a : ℕ) → (IsCut l (d ∷ cs) → Floor most (d ∷ cs) a)
+    → IsCut l (c ∷ d ∷ cs) → l ≤ a → a < c → Floor most (c ∷ d ∷ cs) a
+behind_first most c d cs l a rec (inl e) le lt = absurd (omega (arith, e, le, lt))
+behind_first most c d cs l a rec (inr k) le lt =
+    let f = rec k in
+    let low : f.0 ≤ a = f.2 in
+    let one : nat_lt a c ≡ true = lt-ltb a c lt in
+    let two : nat_lt f.0 c ≡ true = lt-ltb f.0 c (omega (arith, lt, low)) in
+    (f.0, inr f.1, low, rw (one, two) (ap (λ n. min (c - d) most + n) f.3))
 
--- ---- what is open behind lines is open behind them and a line before them
+floor : (most : ℕ) (cs : List ℕ) (l a : ℕ) → IsCut l cs → l ≤ a → Floor most cs a
+floor most [] l a h le = absurd h
+floor most (c ∷ []) l a (inl e) le = (c, inl refl, omega (arith, e, le), refl)
+floor most (c ∷ []) l a (inr h) le = absurd h
+floor most (c ∷ d ∷ cs) l a h le = elim (cases_lt a c) as (λ _. Floor most (c ∷ d ∷ cs) a) [
+  | inl lt ↦ behind_first most c d cs l a (λ k. floor most (d ∷ cs) l a k le) h le lt
+  | inr ge ↦
+      let one : nat_lt a c ≡ false = le-ltb a c ge in
+      let two : nat_lt c c ≡ false = le-ltb c c (omega arith) in
+      (c, inl refl, ge, rw (one, two) refl)
+]
 
-ends_has : (o : Option ℕ) (t : LineTold) (xs : List LineTold) (c : LineTold) → Contains xs c
-    → Contains (ends_with o t xs) c
-ends_has None t xs c h = Contains-append_left xs (t ∷ []) c h
-ends_has (Some k) t xs c h = h
+-- so an address that has a row is drawn below each mark above it
+rows_fall : (fall : CutsFall) (es : List EventSeen) (a b : ℕ) → HasRow (page_for es) a
+    → IsCut b (page_for es).cuts → a < b → y (page_for es) b < y (page_for es) a
+rows_fall fall es a b row cut lt =
+    let p : PageSeen = page_for es in
+    let f = floor p.scale.most p.cuts row.0 a row.1 row.2 in
+    let low : f.0 ≤ a = f.2 in
+    let same : y p a ≡ y p f.0 = ap (λ n. 284 + p.scale.px * n) f.3 in
+    subst (λ n. y p b < n) (sym same) (fall es f.0 b (omega (arith, lt, low)) f.1 cut)
 
-still_open : (l : Line) (ls : List Line) (es : List EventSeen) → Tells ls es → (c : LineTold)
-    → Contains (open_behind [] ls) c → Contains (open_behind [] (l ∷ ls)) c
-still_open (call inward part site base last args words) ls es told c h =
-    let t : LineTold = record { part = part; site = site; base = base; last = last; words = words } in
-    subst (λ os. Contains os c) (sym (opened_one t ls es told))
-    (ends_has (closing es) t (open_behind [] ls) c h)
-still_open (ret inward part site base last a0 words) ls es told c h = h
-still_open (enter part export stk args back) ls es told c h =
-    subst (λ os. Contains os c) (sym (goes_by [] (enter part export stk args back) ls tt)) h
-still_open (pass p0 p1 p2) ls es told c h =
-    subst (λ os. Contains os c) (sym (goes_by [] (pass p0 p1 p2) ls tt)) h
-still_open (leave part a0) ls es told c h =
-    subst (λ os. Contains os c) (sym (goes_by [] (leave part a0) ls tt)) h
+-- ---- a box over a range, whose ends are marks, has just the rows of the range
 
--- ---- a call that no line closes is open
+module _ (fall : CutsFall) (heights : HeightsFall) (es : List EventSeen) (base last : ℕ)
+    (ends : IsCut base (page_for es).cuts × IsCut (last + 1) (page_for es).cuts) where
+  abbrev p : PageSeen
+  p = page_for es
 
-pub record IsThere (ls : List Line) (j : ℕ) (span : Extent) : Type 0 where
-  pub told : LineTold
-  pub base : told.base ≡ span.base
-  pub last : told.last ≡ span.last
-  pub is_open : Contains (open_behind [] ls) told
-  pub at : IsCallAt ls (j + 1) told
+  in_range : (s : Shape) (a : ℕ) → HasRow p a → IsOver p s base last → IsIn p s a
+      → (base ≤ a) × (a ≤ last)
+  in_range (box c left top right low) a row over inside = (from_base, to_last)
+    where
+      from_base : base ≤ a
+      from_base = elim (cases_lt a base) as (λ _. base ≤ a) [
+        | inl lt ↦
+            let k : y p base < y p a = rows_fall fall es a base row ends.0 lt in
+            let le : y p a ≤ y p base = subst (λ n. y p a ≤ n) over.1 inside.1 in
+            absurd (omega (arith, k, le))
+        | inr ge ↦ ge
+      ]
 
-there : (ls : List Line) (front : List EventSeen) (e : EventSeen) (inner : List EventSeen) (side : Side)
-    (span : Extent) → Tells ls (front ++ e ∷ inner) → e.turn ≡ Call side span → closing inner ≡ None
-    → IsThere ls (length front) span
-there [] [] e inner side span h is none = absurd h
-there [] (f ∷ front) e inner side span h is none = absurd h
-there (l ∷ ls) [] e inner side span h is none =
-    let k = call_line l e.turn side span h.0 is in
-    let opened : open_behind [] (l ∷ ls) ≡ open_behind [] ls ++ k.told ∷ [] =
-    ap (λ x. open_behind [] (x ∷ ls)) k.is ∙ opened_one k.told ls inner h.1
-    ∙ ap (λ o. ends_with o k.told (open_behind [] ls)) none in
-    record {
-      told = k.told;
-      base = k.base;
-      last = k.last;
-      is_open = subst (λ os. Contains os k.told) (sym opened) (Contains-push (open_behind [] ls) k.told);
-      at = record {
-        before = [];
-        inward = k.inward;
-        args = k.args;
-        more = ls;
-        are = ap (λ x. x ∷ ls) k.is;
-        place = refl;
-      };
-    }
-there (l ∷ ls) (f ∷ front) e inner side span h is none =
-    let k = there ls front e inner side span h.1 is none in
-    let at = k.at in
-    let place = at.place in
-    record {
-      told = k.told;
-      base = k.base;
-      last = k.last;
-      is_open = still_open l ls (front ++ e ∷ inner) h.1 k.told k.is_open;
-      at = record {
-        before = l ∷ at.before;
-        inward = at.inward;
-        args = at.args;
-        more = at.more;
-        are = ap (λ ks. l ∷ ks) at.are;
-        place = omega (arith, place);
-      };
-    }
+      to_last : a ≤ last
+      to_last = elim (cases_lt last a) as (λ _. a ≤ last) [
+        | inl lt ↦
+            let k : y p a ≤ y p (last + 1) = heights es (last + 1) a (omega (arith, lt)) in
+            let gt : y p (last + 1) < y p a = subst (λ n. n < y p a) over.0 inside.0 in
+            absurd (omega (arith, k, gt))
+        | inr ge ↦ ge
+      ]
+  in_range (line c x1 y1 x2 y2) a row over inside = absurd over
+  in_range (label c left top s) a row over inside = absurd over
+
+  in_box : (s : Shape) (a : ℕ) → IsOver p s base last → base ≤ a → a ≤ last → HasRow p a × IsIn p s a
+  in_box (box c left top right low) a over from to =
+      let row : HasRow p a = (base, ends.0, from) in
+      let k : y p (last + 1) < y p a = rows_fall fall es a (last + 1) row ends.1 (omega (arith, to)) in
+      let le : y p a ≤ y p base = heights es base a from in
+      (row, (subst (λ n. n < y p a) (sym over.0) k, subst (λ n. y p a ≤ n) (sym over.1) le))
+  in_box (line c x1 y1 x2 y2) a over from to = absurd over
+  in_box (label c left top s) a over from to = absurd over
 
 -- ---- an open call is of a line that no line closes
 
@@ -193,110 +162,81 @@ unclosed (leave part a0 ∷ ls) (e ∷ es) h c k =
     behind_one e es c
     (unclosed ls es h.1 c (subst (λ os. Contains os c) (goes_by [] (leave part a0) ls tt) k))
 
--- ---- a line among others
+-- ---- members of lists
 
-split : (front : List EventSeen) (e : EventSeen) (back es : List EventSeen) (r : EventSeen)
-    (rs : List EventSeen)
-    → front ++ e ∷ back ≡ es ++ r ∷ rs → length front < length es
-    → (inner : List EventSeen) × (es ≡ front ++ e ∷ inner) × (back ≡ inner ++ r ∷ rs)
-split front e back [] r rs are lt = absurd (omega (arith, lt))
-split [] e back (f ∷ es) r rs are lt =
-    let one : e ≡ f = cc in
-    let more : back ≡ es ++ r ∷ rs = cc in
-    (es, ap (λ x. x ∷ es) (sym one), more)
-split (g ∷ front) e back (f ∷ es) r rs are lt =
-    let one : g ≡ f = cc in
-    let more : front ++ e ∷ back ≡ es ++ r ∷ rs = cc in
-    let k = split front e back es r rs more (omega (arith, lt)) in
-    (k.0, ap (λ xs. f ∷ xs) k.1 ∙ ap (λ x. x ∷ (front ++ e ∷ k.0)) (sym one), k.2)
+of_reverse : {A : Type 0} (xs : List A) (x : A) → Contains (reverse xs) x → Contains xs x
+of_reverse [] x h = h
+of_reverse (y ∷ ys) x h =
+    elim (Contains-push_cases (reverse ys) y x
+    (subst (λ zs. Contains zs x) (reverse-append (y ∷ []) ys) h))
+    as (λ _. Contains (y ∷ ys) x) [
+      | inl k ↦ contains_rest y x ys (of_reverse ys x k)
+      | inr same ↦ subst (λ z. Contains (y ∷ ys) z) same (contains_first y ys)
+    ]
+
+to_reverse : {A : Type 0} (xs : List A) (x : A) → Contains xs x → Contains (reverse xs) x
+to_reverse xs x h = of_reverse (reverse xs) x (subst (λ zs. Contains zs x) (sym (reverse-reverse xs)) h)
+
+module _ {A B : Type 0} (R : A → B → Type 0) where
+  beside_first : (xs : List A) (ys : List B) → AllZip R xs ys → (x : A) → Contains xs x
+      → (y : B) × Contains ys y × R x y
+  beside_first [] [] h x k = absurd (let lt = k.1 in omega (arith, lt))
+  beside_first [] (y ∷ ys) h x k = absurd h
+  beside_first (z ∷ xs) [] h x k = absurd h
+  beside_first (z ∷ xs) (y ∷ ys) h x (zero, lt, e) = (y, contains_first y ys, subst (λ w. R w y) e h.0)
+  beside_first (z ∷ xs) (y ∷ ys) h x (suc k, lt, e) =
+      let r = beside_first xs ys h.1 x (k, omega (arith, lt), e) in
+      (r.0, contains_rest y r.0 ys r.1, r.2)
+
+  beside_second : (xs : List A) (ys : List B) → AllZip R xs ys → (y : B) → Contains ys y
+      → (x : A) × Contains xs x × R x y
+  beside_second [] [] h y k = absurd (let lt = k.1 in omega (arith, lt))
+  beside_second [] (z ∷ ys) h y k = absurd h
+  beside_second (x ∷ xs) [] h y k = absurd h
+  beside_second (x ∷ xs) (z ∷ ys) h y (zero, lt, e) = (x, contains_first x xs, subst (λ w. R x w) e h.0)
+  beside_second (x ∷ xs) (z ∷ ys) h y (suc k, lt, e) =
+      let r = beside_second xs ys h.1 y (k, omega (arith, lt), e) in
+      (r.0, contains_rest x r.0 xs r.1, r.2)
 
 -- ---- both
 
-module _ (rises : ColumnsRise) (follow : BoxesFollow) (text : List ℕ) (ls : List Line)
-    (b : Begins (events text) ls) where
-  abbrev m : ℕ
-  m = length ls
+-- an open call over whose range a box is drawn, with an address of it
+pub record IsOfBox (text : List ℕ) (ls : List Line) (s : Shape) (a : ℕ) : Type 0 where
+  pub told : LineTold
+  pub is_open : Contains (open_behind [] ls) told
+  pub over : IsOver (page text) s told.base told.last
+  pub low : told.base ≤ a
+  pub high : a ≤ told.last
 
-  -- where its box stands there, none closes it
-  not_closed : (n : ℕ) (span : Extent) (inner : List EventSeen) → n + length inner ≡ m
-      → stands_behind (page text) m (frame_box (page text) n span (closing (inner ++ b.next ∷ b.rest)))
-      ≡ true
-      → (o : Option ℕ) → closing inner ≡ o → closing inner ≡ None
-  not_closed n span inner at h None is = is
-  not_closed n span inner at h (Some k) is =
-      let gone =
-      has_gone (events text) rises follow m (within text ls b) n span inner b.next b.rest at k is in
-      absurd (let no : true ≡ false = sym h ∙ gone in cc)
+module _ (fall : CutsFall) (heights : HeightsFall) (frames : FramesEndAtCuts) (text : List ℕ) (ls : List Line)
+    (b : Begins (events text) ls)
+    (over : AllZip (λ (s : Shape) (c : LineTold). IsOver (page text) s c.base c.last)
+    (boxes_behind text (length ls)) (reverse (open_behind [] ls))) where
+  abbrev Over : Shape → LineTold → Type 0
+  Over s c = IsOver (page text) s c.base c.last
 
-  pub dark_there : (a : ℕ) (d : IsDark text m a) → IsThere ls (length d.front) d.span
+  ends_of : (c : LineTold) → Contains (open_behind [] ls) c
+      → IsCut c.base (page text).cuts × IsCut (c.last + 1) (page text).cuts
+  ends_of c k =
+      let u = unclosed ls b.front b.told c k in
+      frames (events text) u.front (u.inner ++ b.next ∷ b.rest) u.call u.side
+      (record { base = c.base; last = c.last })
+      (b.are ∙ ap (λ es. es ++ b.next ∷ b.rest) u.are
+      ∙ append_assoc u.front (u.call ∷ u.inner) (b.next ∷ b.rest)) u.calls
+
+  pub dark_there : (a : ℕ) (d : IsDark text (length ls) a) → IsOfBox text ls d.frame a
   dark_there a d =
-      let n = length d.front + 1 in
-      let many : m ≡ length b.front = as_many ls b.front b.told in
-      elim (cases_lt m n) as (λ _. IsThere ls (length d.front) d.span) [
-        | inl lt ↦
-            let no : true ≡ false =
-            sym d.stands ∙ not_yet (events text) rises m n d.span (closing d.back) lt in
-            absurd cc
-        | inr le ↦
-            let s = split d.front d.call d.back b.front b.next b.rest (sym d.are ∙ b.are)
-            (omega (arith, le, many)) in
-            let long : length b.front ≡ length (d.front ++ d.call ∷ s.0) = ap length s.1 in
-            let at : n + length s.0 ≡ m =
-            omega (arith, many, long, length-append d.front (d.call ∷ s.0)) in
-            let box = subst (λ es. stands_behind (page text) m (frame_box (page text) n d.span (closing es))
-            ≡ true) s.2 d.stands in
-            let none = not_closed n d.span s.0 at box (closing s.0) refl in
-            there ls d.front d.call s.0 d.side d.span (subst (λ es. Tells ls es) s.1 b.told) d.calls none
-      ]
+      let now = open_behind [] ls in
+      let z = beside_first Over (boxes_behind text (length ls)) (reverse now) over d.frame d.stands in
+      let c : LineTold = z.0 in
+      let k : Contains now c = of_reverse now c z.1 in
+      let r = in_range fall heights (events text) c.base c.last (ends_of c k) d.frame a d.row z.2 d.within in
+      record { told = c; is_open = k; over = z.2; low = r.0; high = r.1 }
 
   pub open_dark : (a : ℕ) (c : LineTold) → Contains (open_behind [] ls) c → c.base ≤ a → a ≤ c.last
-      → IsDark text m a
+      → IsDark text (length ls) a
   open_dark a c k low high =
-      let u = unclosed ls b.front b.told c k in
-      let n = length u.front + 1 in
-      let span : Extent = record { base = c.base; last = c.last } in
-      let many : m ≡ length b.front = as_many ls b.front b.told in
-      let long : length b.front ≡ length (u.front ++ u.call ∷ u.inner) = ap length u.are in
-      let at : n + length u.inner ≡ m = omega (arith, many, long, length-append u.front (u.call ∷ u.inner)) in
-      record {
-        front = u.front;
-        call = u.call;
-        back = u.inner ++ b.next ∷ b.rest;
-        are = b.are ∙ ap (λ es. es ++ b.next ∷ b.rest) u.are
-            ∙ append_assoc u.front (u.call ∷ u.inner) (b.next ∷ b.rest);
-        side = u.side;
-        span = span;
-        calls = u.calls;
-        low = low;
-        high = high;
-        stands = stands (events text) rises follow m (within text ls b) n span u.inner b.next b.rest at
-            u.none;
-      }
-
--- ---- in the words of the laws
-
-pub of_open : (s : StartSeen) (n a : ℕ) (span : Extent) → span.base ≤ a → a ≤ span.last → {j : ℕ}
-    → IsThere (written s n) j span → IsOfOpen s n a
-of_open s n a span low high k =
-    let base = k.base in
-    let last = k.last in
-    (k.told, k.is_open, omega (arith, low, base), omega (arith, high, last))
-
-pub left_alone : (s : StartSeen) (n a : ℕ) (span : Extent) → span.base ≤ a → a ≤ span.last → {j : ℕ}
-    → RangesAreLeftAlone s → (plain n s.state).end ≡ None → Touches (λ w. w) (after s n) a
-    → IsThere (written s n) j span
-    → (c : LineTold) × IsCallAt (written s n) (j + 1) c × ReadsOrWipes s n c a
-left_alone s n a span low high alone goes touches k =
-    let base = k.base in
-    let last = k.last in (
-      k.told,
-      k.at,
-      alone n a k.told
-          (record {
-            goes = goes;
-            is_open = k.is_open;
-            low = omega (arith, low, base);
-            high = omega (arith, high, last);
-            touches = touches;
-          }),
-    )
+      let now = open_behind [] ls in
+      let z = beside_second Over (boxes_behind text (length ls)) (reverse now) over c (to_reverse now c k) in
+      let i = in_box fall heights (events text) c.base c.last (ends_of c k) z.0 a z.2 low high in
+      record { row = i.0; frame = z.0; stands = z.1; within = i.1 }

@@ -1,11 +1,11 @@
 -- The events of a run's text are those of its lines, and of the end line.
-use Rattle.std.proofs.Common.{◌≡◌, ℕ, zero, suc, ◌+◌, ◌<◌, ◌≤◌, List, [], ◌∷◌, ◌++◌, length, Some, refl, sym}
+use Rattle.std.proofs.Common.{◌≡◌, ℕ, zero, suc, ◌<◌, ◌≤◌, List, [], ◌∷◌, ◌++◌, length, Some, refl, sym}
 use Rattle.std.proofs.Common.{ap, ◌∙◌, subst, arith, inl, inr, append-nil, append_assoc, map}
 use Rattle.std.proofs.Common.{length-append}
 use Rattle.std.specs.List.{AllZip}
 use Rattle.std.proofs.lemmas.Bool.{cases_lt}
 use Rattle.std.proofs.lemmas.List.{map-append}
-use Rattle.lcm_machine.specs.Run.{Run, plain, answer}
+use Rattle.lcm_machine.specs.Run.{Run, plain}
 use Rattle.trusted_border.specs.declared.layout.Layout.{Layout}
 use Rattle.trace_tool.specs.Lines.{Line, call, ret, enter, pass, leave}
 use Rattle.trace_tool.specs.Texts.{lines_text}

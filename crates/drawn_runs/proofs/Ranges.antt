@@ -1,5 +1,5 @@
 -- The range of each call that lines leave open has an address.
-use Rattle.std.proofs.Common.{◌≡◌, ℕ, true, List, [], ◌∷◌, refl, ap, ◌∙◌}
+use Rattle.std.proofs.Common.{◌≡◌, ℕ, true, List, [], ◌∷◌, refl, ap}
 use Rattle.std.specs.Prelude.{nat_le, filter}
 use Rattle.std.proofs.lemmas.Bool.{le-leb}
 use Rattle.trusted_border.specs.declared.layout.Layout.{Layout}

@@ -1,13 +1,10 @@
 -- What is dark in the picture of a text: the boxes of frames that stand behind a line.
-use Rattle.std.specs.Prelude.{◌≡◌, ℕ, ◌+◌, ◌≤◌, nat_le, Bool, true, false, ◌&&◌, List, ◌∷◌, ◌++◌, length}
-use Rattle.std.specs.Prelude.{filter, flat_map}
-use Rattle.run_picture.specs.declared.turn.Side.{Side}
-use Rattle.run_picture.specs.declared.turn.Extent.{Extent}
-use Rattle.run_picture.specs.declared.turn.Turn.TheVariants.{Call}
+use Rattle.std.specs.Prelude.{◌≡◌, ℕ, ◌+◌, ◌<◌, ◌≤◌, nat_le, Bool, false, ◌&&◌, List, filter, flat_map}
+use Rattle.std.specs.List.{Contains}
 use Rattle.run_picture.specs.Shapes.{Shape, box, line, label, Group}
-use Rattle.run_picture.specs.Events.{EventSeen, events, closing}
+use Rattle.run_picture.specs.Events.{events}
 use Rattle.run_picture.specs.Page.{PageSeen, x, y}
-use Rattle.run_picture.specs.Groups.{frame_box}
+use Rattle.run_picture.specs.HeightLaws.{IsCut}
 use Rattle.run_picture.specs.Picture.{page_for}
 use Rattle.run_picture.specs.Laws.{is_frame, boxes_of, groups_of}
 
@@ -32,16 +29,19 @@ IsOver p (box c left top right low) base last = (top ≡ y p (last + 1)) × (low
 IsOver p (line c x1 y1 x2 y2) base last = ⊥
 IsOver p (label c left top s) base last = ⊥
 
--- behind the m-th line an address is dark: it is of the range of a call whose box stands there
+-- an address has a row, the stretch between the marks of the page around it, where it isn't below them all
+abbrev pub HasRow : PageSeen → ℕ → Type 0
+HasRow p a = (c : ℕ) × IsCut c p.cuts × (c ≤ a)
+
+-- its row lies in a box, by the low edge
+abbrev pub IsIn : PageSeen → Shape → ℕ → Type 0
+IsIn p (box c left top right low) a = (top < y p a) × (y p a ≤ low)
+IsIn p (line c x1 y1 x2 y2) a = ⊥
+IsIn p (label c left top s) a = ⊥
+
+-- behind the m-th line an address is dark: its row lies in a box of a frame that stands there
 pub record IsDark (text : List ℕ) (m a : ℕ) : Type 0 where
-  pub front : List EventSeen
-  pub call : EventSeen
-  pub back : List EventSeen
-  pub are : events text ≡ front ++ call ∷ back
-  pub side : Side
-  pub span : Extent
-  pub calls : call.turn ≡ Call side span
-  pub low : span.base ≤ a
-  pub high : a ≤ span.last
-  pub stands : stands_behind (page text) m (frame_box (page text) (length front + 1) span (closing back))
-      ≡ true
+  pub row : HasRow (page text) a
+  pub frame : Shape
+  pub stands : Contains (boxes_behind text m) frame
+  pub within : IsIn (page text) frame a

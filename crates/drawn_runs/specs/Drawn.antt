@@ -1,5 +1,5 @@
 -- What the picture of a run says of the run.
-use Rattle.std.specs.Prelude.{◌≡◌, ◌↔◌, ℕ, ◌+◌, ◌<◌, ◌≤◌, ◌^◌, Bool, List, [], ◌∷◌, ◌++◌, length, reverse}
+use Rattle.std.specs.Prelude.{◌≡◌, ◌↔◌, ℕ, ◌<◌, ◌≤◌, ◌^◌, List, [], length, reverse}
 use Rattle.std.specs.Prelude.{None, Ok, Err, if◌then◌else◌}
 use Rattle.std.specs.List.{AllZip, Contains}
 use Rattle.lcm_machine.specs.Run.{plain}
@@ -8,7 +8,6 @@ use Rattle.component_linker.specs.Parts.{PartSeen}
 use Rattle.component_linker.specs.Started.{StartSeen}
 use Rattle.component_linker.specs.LinkedStarts.{IsLinkedStart}
 use Rattle.trace_tool.specs.Layout.{layout}
-use Rattle.trace_tool.specs.Lines.{Args, Line, call}
 use Rattle.trace_tool.specs.Runs.{run_text, written}
 use Rattle.trace_tool.specs.OpenCalls.{LineTold, open_behind, after, ReadsOrWipes}
 use Rattle.run_picture.specs.declared.fault.DrawFault.TheVariants.{TooLong}
@@ -50,15 +49,6 @@ DarkIsOpen =
     → (steps n a : ℕ) → n ≤ steps
     → IsDark (text_of s steps) (length (written s n)) a ↔ IsOfOpen s n a
 
--- the call of the m-th line
-pub record IsCallAt (ls : List Line) (m : ℕ) (c : LineTold) : Type 0 where
-  pub before : List Line
-  pub inward : Bool
-  pub args : Args
-  pub more : List Line
-  pub are : ls ≡ before ++ call inward c.part c.site c.base c.last args c.words ∷ more
-  pub place : m ≡ length before + 1
-
 -- the instruction behind n others touches an address that is dark there
 pub record TouchesDark (s : StartSeen) (steps n a : ℕ) : Type 0 where
   pub within : n ≤ steps
@@ -66,12 +56,13 @@ pub record TouchesDark (s : StartSeen) (steps n a : ℕ) : Type 0 where
   pub dark : IsDark (text_of s steps) (length (written s n)) a
   pub touches : Touches (λ w. w) (after s n) a
 
--- it is one of the two of the return of that box's own call that read and wipe its lowest word
+-- it is one of the two of the return of that box's own call that read and wipe the range's first word
 abbrev pub DarkIsLeftAlone : Type 0
 DarkIsLeftAlone =
     (parts : List PartSeen) (size : ℕ) (s : StartSeen) → IsLinkedStart parts size s
     → (steps n a : ℕ) (t : TouchesDark s steps n a)
-    → (c : LineTold) × IsCallAt (written s n) (length t.dark.front + 1) c × ReadsOrWipes s n c a
+    → (c : LineTold) × Contains (open_behind [] (written s n)) c
+    × IsOver (page (text_of s steps)) t.dark.frame c.base c.last × ReadsOrWipes s n c a
 
 -- that it speaks of something: a start whose run touches what is dark
 pub record DarkThere : Type 0 where

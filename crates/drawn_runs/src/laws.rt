@@ -38,7 +38,7 @@ pub fn boxes_are_open_calls()
 
 /// What is dark in the picture of a run wasn't touched while it was dark: no instruction of the run touches
 /// an address that is dark behind the last line that was written before it, but the two of the return of
-/// that box's own call that load and wipe its lowest word.
+/// that box's own call that load and wipe the frame's first word.
 ///
 /// There is such a use: in the run of the parts of the headline, which calls and comes back.
 pub fn dark_is_left_alone()
@@ -49,6 +49,5 @@ pub fn dark_is_left_alone()
     open_calls_are_kept();
     lines_are_read();
     lines_and_addresses_are_seen();
-    open_calls_are_seen();
     boxes_are_open_calls();
 }

@@ -6,7 +6,7 @@ use Rattle.trace_tool.specs.Runs.{written}
 use Rattle.trace_tool.specs.Cuts.{cut, cut_overlay}
 use Rattle.drawn_runs.specs.Drawn.{text_of}
 use Rattle.drawn_runs.proofs.Lines.{begins}
-use Rattle.drawn_runs.proofs.Dark.{dark_there, open_dark, of_open}
+use Rattle.drawn_runs.proofs.Dark.{dark_there, open_dark}
 use Rattle.drawn_runs.proofs.Boxes.{boxes_over}
 use Rattle.drawn_runs.proofs.Ranges.{open_is, reached, frames_have_ranges}
 use Rattle.drawn_runs.proofs.laws.boxes_are_open_calls.Goals as goal
@@ -36,9 +36,11 @@ returns-clause-dark c = λ parts size s is steps n a le.
     (let fits = c.lines_fit.ensures.lines parts size s is in
     let b = begins c.lines_are_read.ensures.exact c.lines_are_read.ensures.fitting (layout s) s.state
     steps n le (fits steps) (fits n) in
-    let rises = c.lines_and_addresses_are_seen.ensures.columns in
-    let follow = c.open_calls_are_seen.ensures.follow in (
-      λ d. of_open s n a d.span d.low d.high
-          (dark_there rises follow (text_of s steps) (written s n) b a d),
-      λ k. open_dark rises follow (text_of s steps) (written s n) b a k.0 k.1 k.2 k.3,
+    let over = returns-clause-boxes c parts size s is steps n le in
+    let seen = c.lines_and_addresses_are_seen.ensures in (
+      λ d. (let k = dark_there seen.cuts seen.heights seen.frames (text_of s steps) (written s n) b over a
+          d in
+          (k.told, k.is_open, k.low, k.high)),
+      λ k. open_dark seen.cuts seen.heights seen.frames (text_of s steps) (written s n) b over a k.0 k.1 k.2
+          k.3,
     ))
