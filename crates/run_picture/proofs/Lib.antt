@@ -8,7 +8,7 @@ mod Fits
 mod Joined
 mod Lines
 mod Open
-mod Passes
+pub mod Passes
 mod Plain
 mod Short
 mod Sizes
@@ -16,3 +16,4 @@ mod Stands
 mod Svg
 mod Traces
 mod Weights
+pub mod Offers

@@ -85,7 +85,7 @@ meant_is read (t ∷ ts) x rest h =
 span_of : ToldSeen → Extent
 span_of t = record { base = t.base; last = t.last }
 
-abbrev IsSame : Line → Turn → Type 0
+abbrev pub IsSame : Line → Turn → Type 0
 IsSame (audit_line.Call t) u = (side : Side) × (u ≡ Call side (record { base = t.base; last = t.last }))
 IsSame (audit_line.Ret t) u = (side : Side) × (u ≡ Ret side (record { base = t.base; last = t.last }))
 IsSame audit_line.Enter u = IsNeither u

@@ -1,0 +1,7 @@
+mod Lines
+mod Stays
+mod Stands
+mod Boxes
+mod Dark
+mod Ranges
+mod Drawing

@@ -1,0 +1,2 @@
+pub mod Dark
+pub mod Drawn
