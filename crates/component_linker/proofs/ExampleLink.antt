@@ -40,7 +40,7 @@ start = record {
   };
   sites = site_of caller site_at ∷ [];
   owners = owners_of caller other;
-  stack = record { base = 67; end = 70 };
+  stack = record { base = 87; end = 90 };
 }
 
 made : Linked pair 4

@@ -58,8 +58,8 @@ seals_at = fails_at + 1
 
 abbrev caller_instrs : List Instr
 caller_instrs =
-    entry_code fails_at 0 67 ++ (Load C1 Dat ∷ Cca Dat (Imm (pos 1)) ∷ Load C2 Dat ∷ [])
-    ++ call_code seals_at site_at 0 ++ return_code fails_at (site_at + CALL_WORDS) 67 ++ Halt ∷ Fail ∷ []
+    entry_code fails_at 0 87 ++ (Load C1 Dat ∷ Cca Dat (Imm (pos 1)) ∷ Load C2 Dat ∷ [])
+    ++ call_code seals_at site_at 0 ++ return_code fails_at (site_at + CALL_WORDS) 87 ++ Halt ∷ Fail ∷ []
 
 abbrev caller_seals : Word
 caller_seals = Seal (record { base = 12; end = 12; cur = pos 12 })
@@ -70,13 +70,13 @@ caller_code = map as_word caller_instrs ++ caller_seals ∷ []
 abbrev pub caller : ComponentFields
 caller = record {
   name = 116 ∷ [];
-  stack_base = 67;
+  stack_base = 87;
   closure = 10;
   seals = record { base = 12; count = 1 };
   linear = record { base = 0; count = 0 };
   code_base = 1;
   code = caller_code;
-  data_base = 54;
+  data_base = 74;
   data_words = Int (pos 0) ∷ Int (pos 0) ∷ [];
   imports = record { part = 117 ∷ []; name = 102 ∷ []; slot = 0 } ∷ [];
   exports = record { name = 109 ∷ 97 ∷ 105 ∷ 110 ∷ []; offset = 0; shared = true } ∷ [];
@@ -187,16 +187,16 @@ caller_fits = record {
 abbrev pub other : ComponentFields
 other = record {
   name = 117 ∷ [];
-  stack_base = 67;
+  stack_base = 87;
   closure = 30;
   seals = record { base = 20; count = 2 };
-  linear = record { base = 64; count = 2 };
-  code_base = 57;
+  linear = record { base = 84; count = 2 };
+  code_base = 77;
   code = as_word (Xjmp Rcode Rdata)
-      ∷ Mem (record { perm = Rwx; lin = Normal; base = 57; end = 58; addr = pos 57 }) ∷ [];
-  data_base = 60;
+      ∷ Mem (record { perm = Rwx; lin = Normal; base = 77; end = 78; addr = pos 77 }) ∷ [];
+  data_base = 80;
   data_words =
-      Int (pos 0) ∷ Int (pos 0) ∷ Mem (record { perm = Rw; lin = Linear; base = 64; end = 65; addr = pos 64 })
+      Int (pos 0) ∷ Int (pos 0) ∷ Mem (record { perm = Rw; lin = Linear; base = 84; end = 85; addr = pos 84 })
       ∷ [];
   imports = record { part = 116 ∷ []; name = 109 ∷ 97 ∷ 105 ∷ 110 ∷ []; slot = 0 } ∷ [];
   exports = record { name = 102 ∷ []; offset = 0; shared = true } ∷ [];

@@ -76,10 +76,10 @@ has : (a : ℕ) (w : Word) → start_cell pair 4 a ≡ Some w → cell M a ≡ S
 has a w e = over.cells a ∙ start_word_is pair 4 start is_linked a ∙ ap (option_map Plain) (cells_are a ∙ e)
 
 abbrev code_word : Word
-code_word = Sealed 30 (MemIn (record { perm = Rwx; lin = Normal; base = 57; end = 58; addr = pos 57 }))
+code_word = Sealed 30 (MemIn (record { perm = Rwx; lin = Normal; base = 77; end = 78; addr = pos 77 }))
 
 abbrev data_word : Word
-data_word = Sealed 30 (MemIn (record { perm = Rw; lin = Normal; base = 60; end = 62; addr = pos 60 }))
+data_word = Sealed 30 (MemIn (record { perm = Rw; lin = Normal; base = 80; end = 82; addr = pos 80 }))
 
 at21 : start_cell pair 4 21 ≡ Some (as_word (Load C1 Dat))
 unfolding start_cell part_word entry_code call_code return_code
@@ -93,21 +93,21 @@ at23 : start_cell pair 4 23 ≡ Some (as_word (Load C2 Dat))
 unfolding start_cell part_word entry_code call_code return_code
 at23 = refl
 
-at54 : start_cell pair 4 54 ≡ Some code_word
+at74 : start_cell pair 4 74 ≡ Some code_word
 unfolding start_cell part_word entry_code call_code return_code
-at54 = refl
+at74 = refl
 
-at55 : start_cell pair 4 55 ≡ Some data_word
+at75 : start_cell pair 4 75 ≡ Some data_word
 unfolding start_cell part_word entry_code call_code return_code
-at55 = refl
+at75 = refl
 
-at57 : start_cell pair 4 57 ≡ Some (as_word (Xjmp Rcode Rdata))
+at77 : start_cell pair 4 77 ≡ Some (as_word (Xjmp Rcode Rdata))
 unfolding start_cell part_word entry_code call_code return_code
-at57 = refl
+at77 = refl
 
-at70 : start_cell pair 4 70 ≡ Some (Int (pos 0))
+at90 : start_cell pair 4 90 ≡ Some (Int (pos 0))
 unfolding start_cell part_word regions_of entry_code call_code return_code
-at70 = refl
+at90 = refl
 
 -- ---- the states
 
@@ -145,48 +145,48 @@ abbrev code : ℕ → OWord
 code n = Plain (Mem (code_cap 1 code_end n))
 
 abbrev stack : ℕ → OWord
-stack e = Plain (Mem (record { perm = Rw; lin = Linear; base = 67; end = e; addr = pos e }))
+stack e = Plain (Mem (record { perm = Rw; lin = Linear; base = 87; end = e; addr = pos e }))
 
 abbrev pub own_data : ℕ → CapFields
-own_data n = record { perm = Rw; lin = Normal; base = 54; end = 55; addr = pos n }
+own_data n = record { perm = Rw; lin = Normal; base = 74; end = 75; addr = pos n }
 
 abbrev its_code : CapFields
-its_code = record { perm = Rwx; lin = Normal; base = 57; end = 58; addr = pos 57 }
+its_code = record { perm = Rwx; lin = Normal; base = 77; end = 78; addr = pos 77 }
 
 abbrev its_data : CapFields
-its_data = record { perm = Rw; lin = Normal; base = 60; end = 62; addr = pos 60 }
+its_data = record { perm = Rw; lin = Normal; base = 80; end = 82; addr = pos 80 }
 
 abbrev pub o0 : OState
 o0 = (overlay_at start).state
 
 abbrev o1 : OState
-o1 = state (regs_with (code 21) zero_ zero_ (stack 70) (Plain (Mem (own_data 54))) zero_ zero_) M [] 0
+o1 = state (regs_with (code 21) zero_ zero_ (stack 90) (Plain (Mem (own_data 74))) zero_ zero_) M [] 0
 
 abbrev o2 : OState
-o2 = state (regs_with (code 22) zero_ zero_ (stack 70) (Plain (Mem (own_data 54))) (Plain code_word) zero_)
+o2 = state (regs_with (code 22) zero_ zero_ (stack 90) (Plain (Mem (own_data 74))) (Plain code_word) zero_)
     M [] 0
 
 abbrev o3 : OState
-o3 = state (regs_with (code 23) zero_ zero_ (stack 70) (Plain (Mem (own_data 55))) (Plain code_word) zero_)
+o3 = state (regs_with (code 23) zero_ zero_ (stack 90) (Plain (Mem (own_data 75))) (Plain code_word) zero_)
     M [] 0
 
 abbrev pub o4 : OState
 o4 = state
-    (regs_with (code 24) zero_ zero_ (stack 70) (Plain (Mem (own_data 55))) (Plain code_word)
+    (regs_with (code 24) zero_ zero_ (stack 90) (Plain (Mem (own_data 75))) (Plain code_word)
     (Plain data_word)) M [] 0
 
 abbrev pub frame : OpenFrame
-frame = record { call = 0; site = 0; base = 70; end = 70; words = Plain (Mem (own_data 55)) ∷ [] }
+frame = record { call = 0; site = 0; base = 90; end = 90; words = Plain (Mem (own_data 75)) ∷ [] }
 
 abbrev pub o5 : OState
 o5 = state
-    (regs_with (Plain (Mem its_code)) (RetCode 0) (RetData 0) (stack 69) (Plain (Mem its_data))
-    (Plain code_word) (Plain data_word)) (without M 70 70) (frame ∷ []) 1
+    (regs_with (Plain (Mem its_code)) (RetCode 0) (RetData 0) (stack 89) (Plain (Mem its_data))
+    (Plain code_word) (Plain data_word)) (without M 90 90) (frame ∷ []) 1
 
 abbrev pub o6 : OState
 o6 = state
-    (regs_with (code (1 + halt_at)) (RetCode 0) zero_ (stack 70) (Plain (Mem (own_data 55))) (Plain code_word)
-    (Plain data_word)) (put_back (without M 70 70) 70 (zero_ ∷ [])) [] 1
+    (regs_with (code (1 + halt_at)) (RetCode 0) zero_ (stack 90) (Plain (Mem (own_data 75))) (Plain code_word)
+    (Plain data_word)) (put_back (without M 90 90) 90 (zero_ ∷ [])) [] 1
 
 -- ---- the entry
 
@@ -219,8 +219,8 @@ step1 = ap (λ c. step_by L c o1) case1
     ∙ ap (with_frames [] 0)
     (step_row look Plain o1.maps 1 code_end 21 (Load C1 Dat) refl (omega arith) (omega arith)
     (ap (look_face look) (has 21 _ at21)) tt
-    ∙ load_goes look Plain C1 Dat (Mem (code_cap 1 code_end 22)) o1.maps (own_data 54) 54 (Plain code_word)
-    code_word refl refl refl refl (omega arith) (omega arith) (has 54 _ at54) refl refl refl)
+    ∙ load_goes look Plain C1 Dat (Mem (code_cap 1 code_end 22)) o1.maps (own_data 74) 74 (Plain code_word)
+    code_word refl refl refl refl (omega arith) (omega arith) (has 74 _ at74) refl refl refl)
 
 weight1 : weight_of L o1 ≡ 1
 unfolding weight_of
@@ -248,7 +248,7 @@ step2 = ap (λ c. step_by L c o2) case2
     ∙ ap (with_frames [] 0)
     (step_row look Plain o2.maps 1 code_end 22 (Cca Dat (Imm (pos 1))) refl (omega arith) (omega arith)
     (ap (look_face look) (has 22 _ at22)) (record { sfits = omega arith })
-    ∙ cca_goes look Plain Dat (Imm (pos 1)) (Mem (code_cap 1 code_end 23)) o2.maps (own_data 54) (pos 1) (pos 55)
+    ∙ cca_goes look Plain Dat (Imm (pos 1)) (Mem (code_cap 1 code_end 23)) o2.maps (own_data 74) (pos 1) (pos 75)
     refl refl refl refl refl)
 
 weight2 : weight_of L o2 ≡ 1
@@ -276,8 +276,8 @@ step3 = ap (λ c. step_by L c o3) case3
     ∙ ap (with_frames [] 0)
     (step_row look Plain o3.maps 1 code_end 23 (Load C2 Dat) refl (omega arith) (omega arith)
     (ap (look_face look) (has 23 _ at23)) tt
-    ∙ load_goes look Plain C2 Dat (Mem (code_cap 1 code_end 24)) o3.maps (own_data 55) 55 (Plain data_word)
-    data_word refl refl refl refl (omega arith) (omega arith) (has 55 _ at55) refl refl refl)
+    ∙ load_goes look Plain C2 Dat (Mem (code_cap 1 code_end 24)) o3.maps (own_data 75) 75 (Plain data_word)
+    data_word refl refl refl refl (omega arith) (omega arith) (has 75 _ at75) refl refl refl)
 
 weight3 : weight_of L o3 ≡ 1
 unfolding weight_of
@@ -296,15 +296,15 @@ pub case4 : case_of L o4.maps ≡ Call 0
 unfolding case_of faces owner_of entry_code call_code return_code
 case4 = refl
 
-there4 : all_there M 70 1 ≡ true
+there4 : all_there M 90 1 ≡ true
 unfolding all_there
-there4 = ap (λ x. is_some x && true) (has 70 _ at70)
+there4 = ap (λ x. is_some x && true) (has 90 _ at90)
 
 abbrev jump4 : State OWord
 jump4 = record {
-  regs = regs_with (code (1 + site_at + (CALL_WORDS - 1))) (RetCode 0) (RetData 0) (stack 69) (Plain (Mem (own_data 55)))
+  regs = regs_with (code (1 + site_at + (CALL_WORDS - 1))) (RetCode 0) (RetData 0) (stack 89) (Plain (Mem (own_data 75)))
       (Plain code_word) (Plain data_word);
-  cells = without M 70 70;
+  cells = without M 90 90;
   spans = spans;
 }
 
@@ -328,28 +328,28 @@ abbrev pub zeros : Args
 zeros = record { a0 = Int (pos 0); a1 = Int (pos 0); a2 = Int (pos 0); a3 = Int (pos 0) }
 
 abbrev pub call_line : Line
-call_line = call false (116 ∷ []) 0 70 70 zeros (Mem (own_data 55) ∷ [])
+call_line = call false (116 ∷ []) 0 90 90 zeros (Mem (own_data 75) ∷ [])
 
 abbrev ret_line : Line
-ret_line = ret false (116 ∷ []) 0 70 70 (Int (pos 0)) (Mem (own_data 55) ∷ [])
+ret_line = ret false (116 ∷ []) 0 90 90 (Int (pos 0)) (Mem (own_data 75) ∷ [])
 
-gone70 : cell (without M 70 70) 70 ≡ None
-gone70 = cell-without_in M 70 70 70 (omega arith) (omega arith)
+gone90 : cell (without M 90 90) 90 ≡ None
+gone90 = cell-without_in M 90 90 90 (omega arith) (omega arith)
 
 lines4 : step_lines L o4 o5 ≡ call_line ∷ []
 unfolding step_event case_of faces opens owner_of flat beside word_of site_code part_name site_of entry_code
     call_code return_code
-lines4 = rw gone70
+lines4 = rw gone90
 
 -- ---- the return
 
-still57 : cell (without M 70 70) 57 ≡ Some (Plain (as_word (Xjmp Rcode Rdata)))
-still57 = cell-without_out M 70 70 57 (inl (omega arith)) ∙ has 57 _ at57
+still77 : cell (without M 90 90) 77 ≡ Some (Plain (as_word (Xjmp Rcode Rdata)))
+still77 = cell-without_out M 90 90 77 (inl (omega arith)) ∙ has 77 _ at77
 
 fetch5 : fetch (faces look o5.maps Pc) (cell_faces look o5.maps) ≡ some (Xjmp Rcode Rdata)
-    (Mem (record its_code { addr = pos 58 }))
+    (Mem (record its_code { addr = pos 78 }))
 unfolding faces cell_faces
-fetch5 = rw (still57, decode_of-number_of (Xjmp Rcode Rdata) tt)
+fetch5 = rw (still77, decode_of-number_of (Xjmp Rcode Rdata) tt)
 
 pub case5 : case_of L o5.maps ≡ Back Rcode Rdata
 unfolding case_of faces owner_of entry_code call_code return_code
@@ -408,10 +408,10 @@ call_there agree = record {
   n = to_end;
   part = 116 ∷ [];
   site = 0;
-  base = 70;
-  last = 70;
+  base = 90;
+  last = 90;
   args = zeros;
   a0 = Int (pos 0);
-  words = Mem (own_data 55) ∷ [];
+  words = Mem (own_data 75) ∷ [];
   lines = (agree pair 4 start is_linked).matched to_end (call_line ∷ ret_line ∷ []) o6 told6;
 }

@@ -28,7 +28,7 @@ use Rattle.trace_tool.proofs.alike.Calm.{id}
 use Rattle.trace_tool.proofs.privacy.UsesFirst.{uses_first}
 
 abbrev pub told : LineTold
-told = record { part = 116 ∷ []; site = 0; base = 70; last = 70; words = Mem (own_data 55) ∷ [] }
+told = record { part = 116 ∷ []; site = 0; base = 90; last = 90; words = Mem (own_data 75) ∷ [] }
 
 -- so many instructions lead to the load
 abbrev pub to_load : ℕ
@@ -40,7 +40,7 @@ module _ (h : HoldsFor pair 4 (overlay_at start) start.state.maps) (alone : Halt
   g = link_of pair 4 (overlay_at start)
 
   -- the call line is written, and some more instructions lead to the load
-  pub there : (v : State Word) × (plain_run to_load start.state.maps ≡ went v) × Touches id v 70
+  pub there : (v : State Word) × (plain_run to_load start.state.maps ≡ went v) × Touches id v 90
   there =
       let at = matched g h.linked o0 start.state.maps h.holds to_callee o5
       (reached_by L o0 to_callee (call_line ∷ []) o5 told5) in
@@ -73,13 +73,13 @@ module _ (h : HoldsFor pair 4 (overlay_at start) start.state.maps) (alone : Halt
         start = start;
         linked = is_linked;
         n = to_load;
-        address = 70;
+        address = 90;
         told = told;
         used = record {
           goes = ap (λ (r : Run). r.end) here;
           is_open = rw lines_are (0, omega arith, refl);
           low = omega arith;
           high = omega arith;
-          touches = subst (λ (r : Run). Touches id r.maps 70) (sym here) there.2;
+          touches = subst (λ (r : Run). Touches id r.maps 90) (sym here) there.2;
         };
       }

@@ -126,7 +126,7 @@ module _ (h : HoldsFor pair 4 (overlay_at start) start.state.maps) (alone : Halt
       (ap jump_in r.jumps)
 
   abbrev O : State Word
-  O = record (after start to_callee) { cells = set_cell (after start to_callee).cells 70 (Int (pos 7)) }
+  O = record (after start to_callee) { cells = set_cell (after start to_callee).cells 90 (Int (pos 7)) }
 
   lines_are : (k : ℕ) → k ≤ load_word → written start (to_callee + k) ≡ call_line ∷ []
   lines_are k le =
@@ -138,14 +138,14 @@ module _ (h : HoldsFor pair 4 (overlay_at start) start.state.maps) (alone : Halt
       let k = front (to_callee + load_word) to_load start.state.maps whole.0 (omega arith) whole.1 in
       ap (λ (r : Run). r.end) (state_is start fresh_is alone runs (to_callee + load_word) k.0 k.1)
 
-  first_word : cell (after start to_callee).cells 70 ≡ Some (Mem (own_data 55))
+  first_word : cell (after start to_callee).cells 90 ≡ Some (Mem (own_data 75))
   unfolding flat beside word_of
   first_word =
       let at = matched g h.linked o0 start.state.maps h.holds to_callee o5
       (reached_by L o0 to_callee (call_line ∷ []) o5 told5) in
-      ap (λ (x : State Word). cell x.cells 70) (after_is to_callee at.0 at.1) ∙ at.2.flat.cells 70
-      ∙ ap (λ o. mapped_or (flat L o5.frames) o (beside L o5.frames 70))
-      (cell-without_in M 70 70 70 (omega arith) (omega arith))
+      ap (λ (x : State Word). cell x.cells 90) (after_is to_callee at.0 at.1) ∙ at.2.flat.cells 90
+      ∙ ap (λ o. mapped_or (flat L o5.frames) o (beside L o5.frames 90))
+      (cell-without_in M 90 90 90 (omega arith) (omega arith))
 
   pub secret_there : SecretThere
   secret_there = record {
@@ -169,11 +169,11 @@ module _ (h : HoldsFor pair 4 (overlay_at start) start.state.maps) (alone : Halt
     other = O;
     same = record {
       regs = refl;
-      cells = λ a off. cell-set_other (after start to_callee).cells 70 a (Int (pos 7))
+      cells = λ a off. cell-set_other (after start to_callee).cells 90 a (Int (pos 7))
           (λ e. off (told, (0, omega arith, refl), omega (arith, e), omega (arith, e)));
       spans = refl;
     };
     differs = λ e.
-        (let bad : Some (Int (pos 7)) ≡ Some (Mem (own_data 55)) =
-        sym (cell-set_same (after start to_callee).cells 70 (Int (pos 7))) ∙ e ∙ first_word in cc);
+        (let bad : Some (Int (pos 7)) ≡ Some (Mem (own_data 75)) =
+        sym (cell-set_same (after start to_callee).cells 90 (Int (pos 7))) ∙ e ∙ first_word in cc);
   }
