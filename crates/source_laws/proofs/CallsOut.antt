@@ -88,10 +88,10 @@ module _ (scene : Scene)
       (λ a m part e d. absurd
       (let z : Some (Called false i (top - w) top) ≡ Some (Left part) = sym silent.event ∙ e in cc))
       (λ a m. inl m)
-      (law (1 + b) wt F fs ow st mem Q
+      (law (1 + b) wt F fs ow for resumes st mem Q
       (out_of g linked Q (called_valid g linked p w top words mem fs o h k i u at s room c d seal pair)
       gone public) (ap (λ x. F ∷ x) h.frames)
-      (called_data g linked p w top words mem fs o h k i u at s room c d seal pair) store for resumes))
+      (called_data g linked p w top words mem fs o h k i u at s room c d seal pair) store))
     where
       -- what lies below the frame is given away
       wiped_below : (x : OState) (low : Option ℕ) → Clean g x low (used w top) o → Wiped g low x Q
