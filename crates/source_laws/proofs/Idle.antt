@@ -30,7 +30,8 @@ module _ (scene : Scene) where
 
   -- there is no call to return from
   no_returns : (n c : ℕ) → ReturnsLaw scene n c no_call
-  no_returns n c st mem o fr globs store r1 r2 q v r = absurd (no_frame r.frame r.older (sym fr ∙ r.frames_are))
+  no_returns n c st mem o fr globs store r1 r2 q v r =
+      absurd (no_frame r.frame r.older (sym fr ∙ r.frames_are))
 
   no_pairs : (n c : ℕ) → PairsLaw scene n c no_call
   no_pairs n c e i j ec ed =

@@ -33,7 +33,7 @@ use Rattle.std.specs.List.{Contains}
 use Rattle.overlay_machine.specs.Safe.{IsMet}
 use Rattle.overlay_machine.specs.Invariant.{FrameLies, FramesLie}
 use Rattle.overlay_machine.specs.Linked.{Linked}
-use Rattle.overlay_machine.proofs.Offers.{own_from, contains_first, frame_in, frame_of-cons, lies_of}
+use Rattle.overlay_machine.proofs.Offers.{own_from, frame_in, frame_of-cons}
 use Rattle.overlay_machine.proofs.Offers.{below_all}
 use Rattle.trace_tool.specs.Layout.{part_name, site_of}
 use Rattle.trace_tool.specs.Views.{flat_view}
@@ -129,8 +129,7 @@ module _ (scene : Scene) (named : Named scene.g)
 
           -- the newest frame lies
           lies : FrameLies g.layout q.maps.cells f
-          lies = lies_of g.layout q.maps.cells q.calls q.frames f a.valid.holds.frames
-              (subst (λ x. Contains x f) (sym frames) (contains_first f fs))
+          lies = (subst (FramesLie g.layout q.maps.cells q.calls) frames a.valid.holds.frames).0
 
           is_in : (q3 : OState) (i : ℕ) (u : SiteCode) → site_code g.layout i ≡ Some u
               → q3.maps.regs.pc ≡ Plain (Mem (code_cap u.base u.end (u.at + (CALL_WORDS + RETURN_WORDS))))
@@ -180,9 +179,17 @@ module _ (scene : Scene) (named : Named scene.g)
 
           -- what is told of a pair
           told_pair : (base : ℕ) → left_told scene under it (Pair i base) ≡ resumed world (Some w)
-              (part_name g.layout (site_of g.layout i).part) (site_of g.layout i).index base (Some (a.top + 1 - g.layout.stack.base)) (Some v) st
+              (part_name g.layout (site_of g.layout i).part) (site_of g.layout i).index base
+              (Some (a.top + 1 - g.layout.stack.base)) (Some v) st
           told_pair base = ap (λ l. returned world (Some w) l (part_name g.layout (site_of g.layout i).part)
               (site_of g.layout i).index base v st) left_is
+
+          -- by whether its frame and what is left of the stack are those of the call
+          told_if : Bool → Bool → Comp
+          told_if base left =
+              if bytes_eq (part_name g.layout (site_of g.layout i).part) w.part
+              && ((site_of g.layout i).index == w.site) && base && left then wipes w.given (w.resume v st)
+              else ends Fails
 
           fails_if : (b : Bool) (m : Comp) → b ≡ false → (if b then m else ends Fails) ≡ ends Fails
           fails_if b m e = ap (λ z. if z then m else ends Fails) e
@@ -203,10 +210,7 @@ module _ (scene : Scene) (named : Named scene.g)
                   let bad : true ≡ false = sym (eq-eqb (a.top + 1 - g.layout.stack.base) w.given eq) ∙ e in
                   cc)) in
                   told_fails scene (suc n) c under it (Pair i f.base)
-                  (told_pair f.base ∙ ap (λ z. if bytes_eq (part_name g.layout (site_of g.layout i).part)
-                  w.part && ((site_of g.layout i).index == w.site) && (f.base == w.base) && z then wipes
-                  w.given (w.resume v
-                  st) else ends Fails) e ∙ fails_if _ _ (and-false _))
+                  (told_pair f.base ∙ ap (told_if (f.base == w.base)) e ∙ fails_if _ _ (and-false _))
                   (not_joined g linked a.part a.offset q a.valid a.at a.jump i j ec ed f fs frames u
                   (stack_at (ranges_of a.part) a.top (pos a.top)) both iu own (ne_eqb (a.top + 1) f.base ne))
               by true e =
@@ -234,10 +238,8 @@ module _ (scene : Scene) (named : Named scene.g)
                   let m : Comp = resumed world (Some w) (part_name g.layout (site_of g.layout f.site).part)
                   (site_of g.layout f.site).index f.base None (Some v) st in
                   let is : left_told scene under it (Pair i f.base) ≡ m = told_pair f.base
-                  ∙ ap (λ z. if bytes_eq (part_name g.layout (site_of g.layout i).part) w.part &&
-                  ((site_of g.layout i).index == w.site) && (f.base == w.base) && z then wipes w.given
-                  (w.resume v st) else
-                  ends Fails) e ∙ ap (λ z. resumed world (Some w) (part_name g.layout (site_of g.layout z).part)
+                  ∙ ap (told_if (f.base == w.base)) e
+                  ∙ ap (λ z. resumed world (Some w) (part_name g.layout (site_of g.layout z).part)
                   (site_of g.layout z).index f.base None (Some v) st) ei in
                   subst (UpTo g (en ∷ ow.owes) (ended a.top) (suc n) (c + 100) q) (sym is)
                   (spend g (suc n) (11 + c) (c + 100) q m less
@@ -248,8 +250,8 @@ module _ (scene : Scene) (named : Named scene.g)
                   joins) ret same older a.globs store (Some v) value)))
 
           pair_told : (u uh : SiteCode) (hf : OpenFrame) → site_code g.layout i ≡ Some u
-              → frame_of q.frames j ≡ Some hf → site_code g.layout hf.site ≡ Some uh → (s : Bool) → (u.seal == uh.seal) ≡ s
-              → Told (return_told scene q.frames (RetCode i) (RetData j))
+              → frame_of q.frames j ≡ Some hf → site_code g.layout hf.site ≡ Some uh
+              → (s : Bool) → (u.seal == uh.seal) ≡ s → Told (return_told scene q.frames (RetCode i) (RetData j))
           pair_told u uh hf iu fk iuh false es =
               subst Told
               (sym (seals_differ g linked a.part a.offset q a.valid a.at a.jump i j ec ed f fs frames u uh hf
@@ -295,10 +297,7 @@ module _ (scene : Scene) (named : Named scene.g)
                   let ne : hf.base ≢ w.base =
                   (λ e. (let x : f.base ≡ hf.base = fb ∙ sym e in omega (arith, x, below, ord))) in
                   told_pair hf.base
-                  ∙ ap (λ z. if bytes_eq (part_name g.layout (site_of g.layout i).part) w.part &&
-                  ((site_of g.layout i).index == w.site) && z &&
-                  ((a.top + 1 - g.layout.stack.base) == w.given) then wipes w.given (w.resume v st)
-                  else ends Fails)
+                  ∙ ap (λ z. told_if z ((a.top + 1 - g.layout.stack.base) == w.given))
                   (ne_eqb hf.base w.base ne)
                   ∙ ap (λ z. if z && ((a.top + 1 - g.layout.stack.base) == w.given) then wipes w.given
                   (w.resume v st) else ends

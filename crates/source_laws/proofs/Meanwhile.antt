@@ -1,4 +1,5 @@
--- Untrusted code runs, and procedures that it entered end, whatever is open beneath: no call, or one that waits.
+-- Untrusted code runs, and procedures that it entered end, whatever is open beneath: no call, or one that
+-- waits.
 use Rattle.std.proofs.Common.{◌≡◌, ◌≢◌, ℕ, suc, ◌+◌, ◌-◌, ◌≤◌, ℤ, pos, List, ◌∷◌, Option, Some, None, Bool}
 use Rattle.std.proofs.Common.{true, false, refl, sym, ap, ◌∙◌, subst, arith, inl, inr, length, ◌⊎◌, ◌<◌, zero}
 use Rattle.std.specs.Prelude.{option_map, ◌&&◌}
@@ -122,15 +123,16 @@ module _ (scene : Scene) where
         → RegsAre (registers_fed world (words_of q) (integers_in (args_of (flat_view g.layout q)))
         (feed_pairs g.layout (pairs_of g.layout (flat_view g.layout q)))) q
 
-  -- what is open beneath untrusted code: the call that waits, if one does, the frames of all open calls, and the
-  -- entries that owe an end, each made while fewer calls were open
+  -- what is open beneath untrusted code: the call that waits, if one does, the frames of all open calls, and
+  -- the entries that owe an end, each made while fewer calls were open
   pub record Beneath : Type 0 where
     pub wait : Option (Wait world)
     pub frames : List OpenFrame
     pub owes : List OState
     pub deep : (x : OState) → Among owes x → depth x < length frames
 
-  -- a procedure that untrusted code entered over it, at its end
+  -- a procedure that untrusted code entered over it, in en; which began in o, maybe by hops, and is at its
+  -- end in q
   pub record AtLeave (under : Beneath) : Type 0 where
     pub t : Target
     pub p : PartSeen
@@ -157,19 +159,19 @@ module _ (scene : Scene) where
       → q.maps.regs.rdata ≡ o.maps.regs.rdata → return_now q ≡ return_now o
   same_return o q frames code half =
       ap (λ x. return_told x q.maps.regs.rcode q.maps.regs.rdata) frames
-      ∙ ap (λ x. return_told o.frames x q.maps.regs.rdata) code ∙ ap (return_told o.frames o.maps.regs.rcode) half
+      ∙ ap (λ x. return_told o.frames x q.maps.regs.rdata) code
+      ∙ ap (return_told o.frames o.maps.regs.rcode) half
 
   -- what is told of an end that returns so
   abbrev pub left_told : (under : Beneath) → AtLeave under → Back → Comp
-  left_told under e k = left_by world (whole world) (part_of world e.t.home) under.wait (back_here g.layout e.en)
-      (left_now scene e.o) (feed_back g.layout k) e.v e.st
+  left_told under e k = left_by world (whole world) (part_of world e.t.home) under.wait
+      (back_here g.layout e.en) (left_now scene e.o) (feed_back g.layout k) e.v e.st
 
   abbrev pub EndsAs : ℕ → ℕ → (under : Beneath) → AtLeave under → Back → Type 0
   EndsAs n c under e k = UpTo g (e.en ∷ under.owes) (ended e.a.top) n (c + 100) e.q (left_told under e k)
 
   abbrev pub EndsLaw : ℕ → ℕ → Beneath → Type 0
-  EndsLaw n c under =
-      (e : AtLeave under) → EndsAs n c under e (return_now e.o)
+  EndsLaw n c under = (e : AtLeave under) → EndsAs n c under e (return_now e.o)
 
   -- where it returns by the pair of a call
   abbrev pub PairsLaw : ℕ → ℕ → Beneath → Type 0
@@ -217,15 +219,16 @@ module _ (scene : Scene) where
       by : (k : ℕ) → k ≤ zero → Agrees c (trace g.layout k o) waiting
       by zero le = subst (λ t. Agrees c t waiting)
           (sym (trace_zero o ∙ ap (standing g.layout) (outside_here g linked o h)))
-          (waits c waiting (on_item world (whole world) under.wait st) ((recursive world).waits under.wait st))
+          (waits c waiting (on_item world (whole world) under.wait st)
+          ((recursive world).waits under.wait st))
       by (suc k) le = absurd (omega (arith, le))
 
   pub ends_none : (c : ℕ) (under : Beneath) → EndsLaw zero c under
   ends_none c under e = none_inside g (c + 100) e.q _ (inside_here g linked e.a.part e.a.offset e.q e.a.at)
 
   -- a step that fails, where what is told is that
-  pub told_fails : (n c : ℕ) (under : Beneath) (e : AtLeave under) (k : Back) → left_told under e k ≡ ends Fails
-      → overlay_step g.layout e.q ≡ fails → EndsAs n c under e k
+  pub told_fails : (n c : ℕ) (under : Beneath) (e : AtLeave under) (k : Back)
+      → left_told under e k ≡ ends Fails → overlay_step g.layout e.q ≡ fails → EndsAs n c under e k
   told_fails n c under e k is s =
       let a = e.a in
       let small = weight_small g linked a.part a.offset e.q a.valid a.at a.jump in
@@ -237,7 +240,8 @@ module _ (scene : Scene) where
   module _ (named : Named g) (meets : Meets named) (n c : ℕ) (under : Beneath) (procs : ProcLaw scene n)
       (leave : EndsLaw n c under) (runs : RunsLaw n c under) where
     -- an entry made now owes an end too
-    abbrev owing_now : (en q : OState) → depth en ≡ length under.frames → q.frames ≡ under.frames → Owing q.frames
+    abbrev owing_now : (en q : OState) → depth en ≡ length under.frames → q.frames ≡ under.frames
+        → Owing q.frames
     owing_now en q at e = record { owes = en ∷ under.owes; deep = deep }
       where
         deep : (x : OState) → Among (en ∷ under.owes) x → depth x ≤ length q.frames
@@ -276,8 +280,9 @@ module _ (scene : Scene) where
             let at : At g linked p k q = record { trusted = ip; pc = pc } in
             let kept : DataIs g linked mem q.maps.cells =
             λ r d ir lt. ap (λ m. cell m (r.component.data_base + d)) cells ∙ globs r d ir lt in
-            let done = procs x.0 p k c kk rs st mem q (owing_now q q (ap length (same ∙ fr)) (same ∙ fr)) x.2 v at
-            dat (safe Stk (λ e. cc) (λ e. cc)).0
+            let fr' = same ∙ fr in
+            let done = procs x.0 p k c kk rs st mem q (owing_now q q (ap length fr') fr') x.2 v at dat
+            (safe Stk (λ e. cc) (λ e. cc)).0
             (shown_public scene q safe) kept store
             (meets.registers q v safe)
             (λ val st' mem' r a store'. leave (record {
@@ -296,7 +301,7 @@ module _ (scene : Scene) where
                 owned = λ d e. (d, e);
                 frames = refl;
               };
-              fr = same ∙ fr;
+              fr = fr';
               a = a;
               store = store';
               names = meets.told x.0 p k q r val mem' x.2 a;
