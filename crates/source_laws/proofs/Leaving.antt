@@ -251,7 +251,8 @@ module _ (scene : Scene) (named : Named scene.g)
 
           pair_told : (u uh : SiteCode) (hf : OpenFrame) → site_code g.layout i ≡ Some u
               → frame_of q.frames j ≡ Some hf → site_code g.layout hf.site ≡ Some uh
-              → (s : Bool) → (u.seal == uh.seal) ≡ s → Told (return_told scene q.frames (RetCode i) (RetData j))
+              → (s : Bool) → (u.seal == uh.seal) ≡ s
+              → Told (return_told scene q.frames (RetCode i) (RetData j))
           pair_told u uh hf iu fk iuh false es =
               subst Told
               (sym (seals_differ g linked a.part a.offset q a.valid a.at a.jump i j ec ed f fs frames u uh hf
