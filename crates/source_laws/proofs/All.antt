@@ -1,6 +1,6 @@
 -- The outer induction, on the number of steps of the overlay: procedures, waits and ends, given the bodies.
-use Rattle.std.proofs.Common.{Option, ◌≡◌, inl, inr, ℕ, zero, suc, ◌+◌, ◌<◌, ◌≤◌, ℤ, pos, List, [], Some}
-use Rattle.std.proofs.Common.{None, refl, sym, ap, ◌∙◌, subst, arith, true, false}
+use Rattle.std.proofs.Common.{Option, ◌≡◌, inl, inr, ℕ, zero, suc, ◌<◌, ℤ, pos, List, [], Some}
+use Rattle.std.proofs.Common.{None, refl, sym, ◌∙◌, subst, arith, true, false}
 use Rattle.source_laws.specs.Good as good
 use Rattle.source_laws.specs.Trace as lines
 use Rattle.proc_semantics.specs.Meaning as plain
@@ -23,32 +23,31 @@ use Rattle.flow_check.specs.Holds.{data_cap}
 use Rattle.overlay_machine.specs.State.{OState}
 use Rattle.overlay_machine.specs.Link.{ranges_of}
 use Rattle.component_linker.specs.Parts.{PartSeen}
-use Rattle.source_laws.proofs.Refined.{main_of, Comp, ends, meaning, no_registers, on_item}
-use Rattle.source_laws.proofs.Refined.{start, whole, recursive, starts}
+use Rattle.source_laws.proofs.Refined.{main_of, Comp, ends, meaning, no_registers}
+use Rattle.source_laws.proofs.Refined.{start, whole, starts}
 use Rattle.proc_semantics.specs.declared.value.Target.{Target}
 use Rattle.proc_program.specs.declared.program.Program.{Program}
 use Rattle.proc_program.specs.declared.program.Procedure.{Procedure}
 use Rattle.source_events.specs.declared.MeaningEnd.TheVariants.{Fail as Fails, OutOfFuel}
 use Rattle.proc_semantics.specs.declared.value.Value.{Value}
-use Rattle.source_laws.specs.Seen.{standing, trace, Trace, events_of}
-use Rattle.template_runs.specs.Runs.{is_inside}
+use Rattle.source_laws.specs.Seen.{trace, Trace, events_of}
 use Rattle.source_laws.specs.Sources.{MeansAlways}
 use Rattle.source_laws.proofs.Sum.{agreeing_runs}
 use Rattle.source_laws.proofs.Follows.{Fits, Agrees, Prefix}
-use Rattle.source_laws.proofs.Agreeing.{waits}
 use Rattle.template_runs.specs.Border.{Shows, GivesBack}
-use Rattle.template_runs.proofs.Offers.{Live, none, untold, ended, clean_first, Quiet, quiet_none, Valid, At}
+use Rattle.template_runs.proofs.Offers.{Live, none, untold, ended, clean_first, Quiet, Valid, At}
 use Rattle.template_runs.proofs.Offers.{inside_here, Out, outside_here, DataIs, weight_small, Tells}
 use Rattle.template_runs.proofs.Offers.{fails_bad, goes_out, tells, goes_in, Named}
 use Rattle.source_laws.specs.Secrets.{LeavesNothing}
-use Rattle.source_laws.proofs.Upto.{none_inside, UpTo, Since, go_fail, stack_top, nothing_yet}
+use Rattle.source_laws.proofs.Upto.{UpTo, Since, go_fail, stack_top}
 use Rattle.source_laws.proofs.Wipes.{Wipes, Tell, crossings}
 use Rattle.source_laws.specs.Wiped.{WipedAlways}
 use Rattle.source_laws.proofs.Wiped.{leaves_nothing, wiped_always}
 use Rattle.source_laws.proofs.CallsIn.{EntryPublic, AtEnd, ProcLaw, left_now}
-use Rattle.source_laws.proofs.Idle.{IdleLaw, IdleLeaveLaw, idle_law, idle_leave_law}
+use Rattle.source_laws.proofs.Meanwhile.{Meets, runs_none, ends_none}
+use Rattle.source_laws.proofs.Idle.{no_call, IdleLaw, IdleLeaveLaw, idle_law, idle_leave_law}
 use Rattle.source_laws.proofs.Procs.{Proc, proc_law}
-use Rattle.source_laws.proofs.Waiting.{Meets, WaitLaw, LeaveLaw, wait_law}
+use Rattle.source_laws.proofs.Waiting.{WaitLaw, LeaveLaw, call_waits, wait_law}
 use Rattle.source_laws.proofs.Leaving.{Rest, leave_law}
 
 module _ (scene : Scene) where
@@ -82,50 +81,6 @@ module _ (scene : Scene)
   Bodies = (n : ℕ) → ((m : ℕ) → m < n → Laws m) → (t : Target) (p : PartSeen) (e : ℕ) → Begins t p e
       → Proc scene EnvIs n t p e
 
-  trace_zero : (o : OState) → trace g.layout zero o ≡ standing g.layout (is_inside g.layout o)
-  unfolding trace
-  trace_zero o = refl
-
-  wait_none : WaitLaw scene zero
-  wait_none c w f fs ow st mem o h fr globs store for back =
-      record { by = by; quiet = quiet_none g (Shows g.layout) (GivesBack g.layout) o ow.owes; wiped = wiped }
-    where
-      wiped : (b : OState) (low : Option ℕ) → Since g b low none o → (k : ℕ) → k ≤ zero
-          → Wipes g (crossings g.layout k b o) (trace g.layout k o).items ((whole world).wait (Some w) st low)
-      wiped b low s zero le = nothing_yet g b o ((whole world).wait (Some w) st low)
-      wiped b low s (suc k) le = absurd (omega (arith, le))
-
-      by : (k : ℕ) → k ≤ zero → Agrees c (trace g.layout k o) ((whole world).wait (Some w) st)
-      by zero le = subst (λ t. Agrees c t ((whole world).wait (Some w) st))
-          (sym (trace_zero o ∙ ap (standing g.layout) (outside_here g linked o h)))
-          (waits c ((whole world).wait (Some w) st) (on_item world (whole world) (Some w) st)
-          ((recursive world).waits (Some w) st))
-      by (suc k) le = absurd (omega (arith, le))
-
-  leave_none : LeaveLaw scene zero
-  leave_none c w f fs ow st mem t p en o q v entry fr for a store names back =
-      none_inside g (c + 100) q _ (inside_here g linked a.part a.offset q a.at)
-
-  idle_none : IdleLaw scene zero
-  idle_none c st mem o h fr globs store =
-      record { by = by; quiet = quiet_none g (Shows g.layout) (GivesBack g.layout) o []; wiped = wiped }
-    where
-      wiped : (b : OState) (low : Option ℕ) → Since g b low none o → (k : ℕ) → k ≤ zero
-          → Wipes g (crossings g.layout k b o) (trace g.layout k o).items ((whole world).wait None st low)
-      wiped b low s zero le = nothing_yet g b o ((whole world).wait None st low)
-      wiped b low s (suc k) le = absurd (omega (arith, le))
-
-      by : (k : ℕ) → k ≤ zero → Agrees c (trace g.layout k o) ((whole world).wait None st)
-      by zero le = subst (λ t. Agrees c t ((whole world).wait None st))
-          (sym (trace_zero o ∙ ap (standing g.layout) (outside_here g linked o h)))
-          (waits c ((whole world).wait None st) (on_item world (whole world) None st)
-          ((recursive world).waits None st))
-      by (suc k) le = absurd (omega (arith, le))
-
-  idle_leave_none : IdleLeaveLaw scene zero
-  idle_leave_none c st mem t p en o q v entry fr a store names =
-      none_inside g (c + 100) q _ (inside_here g linked a.part a.offset q a.at)
-
   more : (n : ℕ) → ((m : ℕ) → m < n → Laws m) → Laws n → (m : ℕ) → m < suc n → Laws m
   more n below here m lt = elim (cases_eq m n) as (λ _. Laws m) [
     | inl e ↦ subst Laws (sym e) here
@@ -144,10 +99,10 @@ module _ (scene : Scene)
         below = none;
         here = record {
           procs = proc_law scene EnvIs zero (bodies zero none);
-          waits = wait_none;
-          leaves = leave_none;
-          idles = idle_none;
-          idle_leaves = idle_leave_none;
+          waits = λ c w f fs ow for back. runs_none scene c (call_waits scene w f fs ow);
+          leaves = λ c w f fs ow for back. ends_none scene c (call_waits scene w f fs ow);
+          idles = λ c. runs_none scene c (no_call scene);
+          idle_leaves = λ c. ends_none scene c (no_call scene);
         };
       }
   both bodies (suc n) =
@@ -159,8 +114,7 @@ module _ (scene : Scene)
         here = record {
           procs = proc_law scene EnvIs (suc n) (bodies (suc n) below);
           waits = wait_law scene named meets n l.procs l.leaves l.waits;
-          leaves = leave_law scene named n rest meets l.procs l.leaves
-              l.waits;
+          leaves = leave_law scene named n rest meets l.procs l.leaves l.waits;
           idles = idle_law scene named meets n l.procs l.idle_leaves l.idles;
           idle_leaves = idle_leave_law scene named meets n l.procs
               l.idle_leaves l.idles;

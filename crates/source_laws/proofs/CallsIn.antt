@@ -46,6 +46,12 @@ use Rattle.cap_words.specs.declared.Sealable.TheVariants.{Mem as MemIn, Seal as 
 pub int_public : (g : Link) (v : ℤ) → IsPublic g (Plain (Int v))
 int_public g v p k ip e = cc
 
+pub first_frame : (f h : OpenFrame) (fs gs : List OpenFrame) → f ∷ fs ≡ h ∷ gs → f ≡ h
+first_frame f h fs gs e = cc
+
+pub older_frames : (f h : OpenFrame) (fs gs : List OpenFrame) → f ∷ fs ≡ h ∷ gs → fs ≡ gs
+older_frames f h fs gs e = cc
+
 module _ (scene : Scene) where
   open scene use {world, g, linked, Begins, StoreIs, RegsAre}
 
@@ -222,12 +228,6 @@ module _ (scene : Scene) where
       → ((v : ℤ) (st' : Store) (mem' : ℕ → OWord) (q : OState) (a : AtEnd p o q v mem') → StoreIs st' mem'
       → UpTo g ow.owes (ended a.top) n (c + 100) q (k v st'))
       → UpTo g ow.owes (untold 0 (stack_top g o)) n c o ((whole world).proc t (left_now o) rs k st)
-
-  first_frame : (f h : OpenFrame) (fs gs : List OpenFrame) → f ∷ fs ≡ h ∷ gs → f ≡ h
-  first_frame f h fs gs e = cc
-
-  older_frames : (f h : OpenFrame) (fs gs : List OpenFrame) → f ∷ fs ≡ h ∷ gs → fs ≡ gs
-  older_frames f h fs gs e = cc
 
   -- ---- a call
 

@@ -71,7 +71,8 @@ module _ (scene : Scene)
       → Here g linked p w top words mem' fs q → At g linked p (k + SITE_WORDS + 1) q
       → q.maps.regs.g0 ≡ Plain (Int v) → fits_64 v ≡ true → StoreIs st' mem'
       → UpTo g ow.owes (used w top) m b q (wt.resume v st'))
-      → CALL_WORDS + 1 + b ≤ cr → UpTo g ow.owes (used w top) (suc n) cr o (emit out ((whole world).wait (Some wt) st))
+      → CALL_WORDS + 1 + b ≤ cr
+      → UpTo g ow.owes (used w top) (suc n) cr o (emit out ((whole world).wait (Some wt) st))
   call_out_law ow n b cr wt st out xs law gone public store for alike tells eo cont le =
       let silent : Makes g.layout CALL_WORDS (Some (Called false i (top - w) top)) o Q =
       subst (λ x. Makes g.layout CALL_WORDS (Some (Called x i (top - w) top)) o Q) gone makes in
@@ -88,10 +89,10 @@ module _ (scene : Scene)
       (λ a m part e d. absurd
       (let z : Some (Called false i (top - w) top) ≡ Some (Left part) = sym silent.event ∙ e in cc))
       (λ a m. inl m)
-      (law (1 + b) wt F fs ow st mem Q
+      (law (1 + b) wt F fs ow for resumes st mem Q
       (out_of g linked Q (called_valid g linked p w top words mem fs o h k i u at s room c d seal pair)
       gone public) (ap (λ x. F ∷ x) h.frames)
-      (called_data g linked p w top words mem fs o h k i u at s room c d seal pair) store for resumes))
+      (called_data g linked p w top words mem fs o h k i u at s room c d seal pair) store))
     where
       -- what lies below the frame is given away
       wiped_below : (x : OState) (low : Option ℕ) → Clean g x low (used w top) o → Wiped g low x Q

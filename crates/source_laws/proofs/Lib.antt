@@ -9,6 +9,7 @@ pub mod Sum
 pub mod Handed
 pub mod Waits
 pub mod CallsIn
+pub mod Meanwhile
 pub mod Waiting
 pub mod Leaving
 pub mod Idle

@@ -16,8 +16,7 @@ use Rattle.cap_words.specs.declared.Word.TheVariants.{Int, Mem}
 use Rattle.cap_words.specs.declared.CapFields.{CapFields}
 use Rattle.cap_words.specs.Linear.{zero_word}
 use Rattle.lcm_isa.specs.declared.Reg.{Reg}
-use Rattle.lcm_isa.specs.declared.Reg.TheVariants.{Pc, Rcode, Rdata, Stk, Dat, T1, T2, C1, C2, A0, A1, A2, A3}
-use Rattle.lcm_isa.specs.declared.Reg.TheVariants.{G0, G1, G2}
+use Rattle.lcm_isa.specs.declared.Reg.TheVariants.{Pc, Rcode, Rdata, Stk, Dat, A0, A1, A2, A3}
 use Rattle.lcm_machine.specs.Places.{reg}
 use Rattle.lcm_machine.specs.Table.{fits_64}
 use Rattle.flow_check.specs.Holds.{part_stack_cap}
@@ -25,7 +24,6 @@ use Rattle.flow_check.specs.Places.{begins_entry}
 use Rattle.component_linker.specs.Parts.{PartSeen}
 use Rattle.overlay_machine.specs.declared.words.OWord.{OWord}
 use Rattle.overlay_machine.specs.declared.words.OWord.TheVariants.{Plain}
-use Rattle.overlay_machine.specs.Words.{look}
 use Rattle.overlay_machine.specs.State.{OpenFrame, OState}
 use Rattle.overlay_machine.specs.Step.{own_stack}
 use Rattle.overlay_machine.specs.Link.{IsTrusted, ranges_of}
@@ -212,33 +210,33 @@ module _ (scene : Scene)
                 frames = h.frames;
                 globs = h.globs;
                 safe = λ d np nd. subst (λ fs. IsShown g fs (reg q.maps.regs d)) (sym h.frames)
-                    (safe_reg d np nd l.code l.half (l.value ∙ a0) l.clean (h.stk) h.high);
+                    (safe_reg d np nd);
               }
             where
               end_of : CapFields → Option CapFields → ℕ
               end_of y None = y.end
               end_of y (Some c) = c.end
 
-              safe_reg : (d : Reg) → d ≢ Pc → d ≢ Dat → q.maps.regs.rcode ≡ o.maps.regs.rcode
-                  → q.maps.regs.rdata ≡ o.maps.regs.rdata → q.maps.regs.a0 ≡ Plain (Int val)
-                  → ((d : Reg) → d ≢ Pc → d ≢ Dat → d ≢ Stk → d ≢ Rcode → d ≢ Rdata → d ≢ A0
-                  → reg q.maps.regs d ≡ Plain (Int (pos 0)))
-                  → look q.maps.regs.stk ≡ Mem (part_stack_cap (ranges_of p) cap.end l.here.at)
-                  → cap.end ≤ g.layout.stack.end → IsShown g o.frames (reg q.maps.regs d)
-              safe_reg Pc np nd ec ed ev cl es hi = absurd (np refl)
-              safe_reg Dat np nd ec ed ev cl es hi = absurd (nd refl)
-              safe_reg Rcode np nd ec ed ev cl es hi =
-                  subst (IsShown g o.frames) (sym ec) (some_safe Rcode (λ q. cc) (λ q. cc), public.code)
-              safe_reg Rdata np nd ec ed ev cl es hi =
-                  subst (IsShown g o.frames) (sym ed) (some_safe Rdata (λ q. cc) (λ q. cc), public.half)
-              safe_reg A0 np nd ec ed ev cl es hi = subst (IsShown g o.frames) (sym ev) (tt, int_public g val)
-              safe_reg Stk np nd ec ed ev cl es hi =
+              -- a register that the epilogue wiped
+              zeroed : (d : Reg) → d ≢ Pc → d ≢ Dat → d ≢ Stk → d ≢ Rcode → d ≢ Rdata → d ≢ A0
+                  → IsShown g o.frames (reg q.maps.regs d)
+              zeroed d np nd s c h v =
+                  subst (IsShown g o.frames) (sym (l.clean d np nd s c h v)) (tt, zero_public g)
+
+              safe_reg : (d : Reg) → d ≢ Pc → d ≢ Dat → IsShown g o.frames (reg q.maps.regs d)
+              safe_reg Rcode np nd =
+                  subst (IsShown g o.frames) (sym l.code) (some_safe Rcode np nd, public.code)
+              safe_reg Rdata np nd =
+                  subst (IsShown g o.frames) (sym l.half) (some_safe Rdata np nd, public.half)
+              safe_reg A0 np nd = subst (IsShown g o.frames) (sym (l.value ∙ a0)) (tt, int_public g val)
+              safe_reg Stk np nd =
                   let sb = linked.stack_bases p ip in
+                  let hi = l.here.high in
                   let is = own_is g.layout o.maps cap own in
-                  let s = mem_safe g o.frames o.maps.regs.stk cap is.0 (some_safe Stk (λ q. cc) (λ q. cc)) in
+                  let s = mem_safe g o.frames o.maps.regs.stk cap is.0 (some_safe Stk np nd) in
                   let ord = s.order in
                   let bb : cap.base ≡ g.layout.stack.base = ap (λ x. x.base) is.1 in (
-                    safe_stk g linked o.frames p ip q.maps.regs.stk cap.end l.here.at es (
+                    safe_stk g linked o.frames p ip q.maps.regs.stk cap.end l.here.at l.here.stk (
                       omega (arith, ord, bb, sb),
                       λ a lo hi2. (
                         omega (arith, lo, sb),
@@ -246,39 +244,12 @@ module _ (scene : Scene)
                         l.here.free a (omega (arith, lo, sb)) hi2,
                       ),
                     ),
-                    mem_public g q.maps.regs.stk (Mem (part_stack_cap (ranges_of p) cap.end l.here.at)) es
-                        (λ r kk ir e. cc),
+                    mem_public g q.maps.regs.stk (Mem (part_stack_cap (ranges_of p) cap.end l.here.at))
+                        l.here.stk (λ r kk ir e. cc),
                   )
-              safe_reg T1 np nd ec ed ev cl es hi =
-                  subst (IsShown g o.frames) (sym (cl T1 np nd (λ q. cc) (λ q. cc) (λ q. cc) (λ q. cc)))
-                  (tt, zero_public g)
-              safe_reg T2 np nd ec ed ev cl es hi =
-                  subst (IsShown g o.frames) (sym (cl T2 np nd (λ q. cc) (λ q. cc) (λ q. cc) (λ q. cc)))
-                  (tt, zero_public g)
-              safe_reg C1 np nd ec ed ev cl es hi =
-                  subst (IsShown g o.frames) (sym (cl C1 np nd (λ q. cc) (λ q. cc) (λ q. cc) (λ q. cc)))
-                  (tt, zero_public g)
-              safe_reg C2 np nd ec ed ev cl es hi =
-                  subst (IsShown g o.frames) (sym (cl C2 np nd (λ q. cc) (λ q. cc) (λ q. cc) (λ q. cc)))
-                  (tt, zero_public g)
-              safe_reg A1 np nd ec ed ev cl es hi =
-                  subst (IsShown g o.frames) (sym (cl A1 np nd (λ q. cc) (λ q. cc) (λ q. cc) (λ q. cc)))
-                  (tt, zero_public g)
-              safe_reg A2 np nd ec ed ev cl es hi =
-                  subst (IsShown g o.frames) (sym (cl A2 np nd (λ q. cc) (λ q. cc) (λ q. cc) (λ q. cc)))
-                  (tt, zero_public g)
-              safe_reg A3 np nd ec ed ev cl es hi =
-                  subst (IsShown g o.frames) (sym (cl A3 np nd (λ q. cc) (λ q. cc) (λ q. cc) (λ q. cc)))
-                  (tt, zero_public g)
-              safe_reg G0 np nd ec ed ev cl es hi =
-                  subst (IsShown g o.frames) (sym (cl G0 np nd (λ q. cc) (λ q. cc) (λ q. cc) (λ q. cc)))
-                  (tt, zero_public g)
-              safe_reg G1 np nd ec ed ev cl es hi =
-                  subst (IsShown g o.frames) (sym (cl G1 np nd (λ q. cc) (λ q. cc) (λ q. cc) (λ q. cc)))
-                  (tt, zero_public g)
-              safe_reg G2 np nd ec ed ev cl es hi =
-                  subst (IsShown g o.frames) (sym (cl G2 np nd (λ q. cc) (λ q. cc) (λ q. cc) (λ q. cc)))
-                  (tt, zero_public g)
+              safe_reg Pc np nd = absurd (np refl)
+              safe_reg Dat np nd = absurd (nd refl)
+              safe_reg d np nd = zeroed d np nd (λ e. cc) (λ e. cc) (λ e. cc) (λ e. cc)
 
       -- the frame of a body
       frame_with : ℕ → Frame
@@ -319,21 +290,20 @@ module _ (scene : Scene)
               (is_lower low J) refl h)
               u
 
+          no_values : taken [] x.what.callbacks rs.registers ≡ None
+              → UpTo g ow.owes (untold 0 cap.end) n (c + x.what.need * 200 + 180) q (wipes J (ends Fails))
+          no_values ea =
+              begun (ends Fails) ((x.checked cap.end (c + x.what.need * 200 + 180) 0 mem rs o q ow
+              (ends Fails) ip regs public h20 at20 rce rde same t1).0 ea (omega (arith, sm)))
+
           by_taken : (a : Option (List Value)) → taken [] x.what.callbacks rs.registers ≡ a → (short : Bool)
               → nat_lt (cap.end + 1 - g.layout.stack.base) x.what.need ≡ short
               → UpTo g ow.owes (untold 0 cap.end) n (c + x.what.need * 200 + 180) q
               (with_place world (if short then None else Some (cap.end + 1 - g.layout.stack.base))
               (λ left. wipes (left - x.what.need) (body_of world (whole world) (frame_with left)
               x.what a k st)))
-          by_taken None ea true es =
-              begun (ends Fails) ((x.checked cap.end (c + x.what.need * 200 + 180) 0 mem rs o q ow
-              (ends Fails) ip regs public h20
-              at20 rce rde same t1).0 ea (omega (arith, sm)))
-          by_taken None ea false es =
-              begun (ends Fails)
-              ((x.checked cap.end (c + x.what.need * 200 + 180) 0 mem rs o q ow (ends Fails) ip
-              regs public h20
-              at20 rce rde same t1).0 ea (omega (arith, sm)))
+          by_taken None ea true es = no_values ea
+          by_taken None ea false es = no_values ea
           by_taken (Some env) ea true es =
               begun (ends Fails) ((x.checked cap.end (c + x.what.need * 200 + 180) (2 * x.what.need + 1) mem
               rs o q ow (ends Fails)

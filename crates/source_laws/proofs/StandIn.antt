@@ -24,7 +24,7 @@ use Rattle.template_runs.proofs.Offers.{At, DataIs, Named}
 use Rattle.source_laws.specs.Sources.{MeansAlways}
 use Rattle.source_laws.proofs.Parameters.{single}
 use Rattle.source_laws.proofs.Feeds.{FedWords, registers_are}
-use Rattle.source_laws.proofs.Waiting.{Meets}
+use Rattle.source_laws.proofs.Meanwhile.{Meets}
 use Rattle.source_laws.proofs.Leaving.{Rest}
 use Rattle.source_laws.proofs.Compiled.{InScene, Stands, EnvIs, compiled}
 use Rattle.source_laws.specs.Secrets.{LeavesNothing}

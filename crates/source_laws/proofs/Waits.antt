@@ -50,6 +50,10 @@ use Rattle.trace_tool.specs.Pairs.{pairs_of}
 use Rattle.template_runs.specs.Public.{IsShown, IsSharedAt}
 use Rattle.cap_words.specs.Face.{face_of}
 
+pub rest_length : (ws : List OWord) (j : ℕ) → length ws ≡ j + 1 → length (rest_words ws) ≡ j
+rest_length [] j e = absurd (omega (arith, e))
+rest_length (w ∷ ws) j e = omega (arith, e)
+
 module _ (g : Link) (linked : Linked g) where
   -- the items of an entry and of a return, as the state behind them shows them
   abbrev thing : OState → Item → Thing
@@ -167,10 +171,6 @@ module _ (g : Link) (linked : Linked g) where
             let b = ap (λ x. length x.frames) r.result in
             let c = ap length e in
             omega (arith, a, b, c)
-
-        rest_length : (ws : List OWord) (j : ℕ) → length ws ≡ j + 1 → length (rest_words ws) ≡ j
-        rest_length [] j e = absurd (omega (arith, e))
-        rest_length (w ∷ ws) j e = omega (arith, e)
 
         -- the cells of the frame come back, and the others stay
         lies : (r1 r2 : Reg) (q : OState) (r : Returned g.layout r1 r2 o q)
