@@ -71,7 +71,8 @@ module _ (scene : Scene)
       → Here g linked p w top words mem' fs q → At g linked p (k + SITE_WORDS + 1) q
       → q.maps.regs.g0 ≡ Plain (Int v) → fits_64 v ≡ true → StoreIs st' mem'
       → UpTo g ow.owes (used w top) m b q (wt.resume v st'))
-      → CALL_WORDS + 1 + b ≤ cr → UpTo g ow.owes (used w top) (suc n) cr o (emit out ((whole world).wait (Some wt) st))
+      → CALL_WORDS + 1 + b ≤ cr → UpTo g ow.owes (used w top) (suc n) cr o
+      (emit out ((whole world).wait (Some wt) st))
   call_out_law ow n b cr wt st out xs law gone public store for alike tells eo cont le =
       let silent : Makes g.layout CALL_WORDS (Some (Called false i (top - w) top)) o Q =
       subst (λ x. Makes g.layout CALL_WORDS (Some (Called x i (top - w) top)) o Q) gone makes in
