@@ -104,16 +104,16 @@ are_proved() {
 # lanes have no use for just then are for its check, unless it names many: each job reads all that stands below,
 # which takes longer than what there is to prove.
 take() {
-    crate= names=
+    crate=
     ready=0
     while read -r next named; do
         [ ! -e "$room/taken/$next" ] && are_proved $named || continue
-        [ -n "$crate" ] || ! mkdir "$room/taken/$next" 2>/dev/null || { crate=$next && names=$named; }
+        [ -n "$crate" ] || ! mkdir "$room/taken/$next" 2>/dev/null || crate=$next
         ready=$((ready + 1))
     done <"$room/order"
     running=$(($(ls "$room/taken" | wc -l) - $(ls "$room/proved" | wc -l)))
     jobs=$((lanes - running - ready + 2))
-    [ "$jobs" -ge 1 ] && [ "$(echo $names | wc -w)" -lt 15 ] || jobs=1
+    [ "$jobs" -ge 1 ] && [ "$(grep "^$crate " "$room/crates" | wc -w)" -le 15 ] || jobs=1
     [ -n "$crate" ]
 }
 

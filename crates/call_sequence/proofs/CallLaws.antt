@@ -147,7 +147,8 @@ module _ {W : Type 0} (look : W → Word) (plain : Word → W) (seen : (x : Word
       })) ends
 
   -- the call's last word, once a cell outside the code was set
-  pub xjmp_stands : (m : FinMap nat_cmp W) (base last at seal a : ℕ) (w : W) → HasCall look m base last at seal
+  pub xjmp_stands : (m : FinMap nat_cmp W) (base last at seal a : ℕ) (w : W)
+      → HasCall look m base last at seal
       → IsOutsideRange a base last
       → look_face look (cell (set_cell m a w) (at + (CALL_WORDS - 1)))
       ≡ Some (Number (pos (number_of (Xjmp C1 C2))))
@@ -158,7 +159,8 @@ module _ {W : Type 0} (look : W → Word) (plain : Word → W) (seen : (x : Word
       let c : Stands look (set_cell m a w) at (call_code h.literal h.offset h.number) =
       Stands-outside look m a w base last at (call_code h.literal h.offset h.number)
       out (omega (arith, ai)) (omega (arith, en)) h.code in
-      let e : at + 1 + 1 + 1 + 1 + 1 + 1 + 1 + 1 + 1 + 1 + 1 + 1 + 1 + 1 + 1 ≡ at + (CALL_WORDS - 1) = omega arith in
+      let e : at + 1 + 1 + 1 + 1 + 1 + 1 + 1 + 1 + 1 + 1 + 1 + 1 + 1 + 1 + 1 ≡ at + (CALL_WORDS - 1) =
+      omega arith in
       rw (← e) c.1.1.1.1.1.1.1.1.1.1.1.1.1.1.1.0
 
   pub call_jumps : CallJumps look plain

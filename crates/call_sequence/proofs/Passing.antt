@@ -1,6 +1,7 @@
 -- Steps through words of a part's code: where pc stands, and which addresses they touch.
 use Rattle.std.proofs.Common.{◌≡◌, ◌≢◌, ◌⊎◌, inl, inr, ℕ, zero, suc, ◌+◌, ◌<◌, ◌≤◌, ℤ, pos, ◌+ℤ◌, Bool, true}
-use Rattle.std.proofs.Common.{false, List, [], ◌∷◌, ◌++◌, length, Some, None, refl, sym, ap, ◌∙◌, subst, arith}
+use Rattle.std.proofs.Common.{false, List, [], ◌∷◌, ◌++◌, length, Some, None, refl, sym, ap, ◌∙◌, subst}
+use Rattle.std.proofs.Common.{arith}
 use Rattle.std.proofs.Common.{le-leb, FitsSigned, w32}
 use Rattle.cap_words.specs.declared.Word.{Word}
 use Rattle.cap_words.specs.declared.Word.TheVariants.{Mem}
@@ -122,7 +123,8 @@ module _ {W : Type 0} (look : W → Word) (plain : Word → W) (seen : (x : Word
         subst (λ y. AtWord look plain base last (at + 0) upto (Also (at + 0)) y) same
         (subst (λ a. AtWord look plain base last a upto (Also a) s) z h.0)
     passed (suc n) (suc k) at s t h lt e =
-        by_step (step_of look plain s) refl e (λ u m g. passed n k (at + 1) u t (h.1 u m) (omega (arith, lt)) g)
+        by_step (step_of look plain s) refl e
+        (λ u m g. passed n k (at + 1) u t (h.1 u m) (omega (arith, lt)) g)
       where
         by_step : (r : Outcome W) → step_of look plain s ≡ r → and_then r (run_of look plain k) ≡ went t
             → ((u : State W) → step_of look plain s ≡ went u → run_of look plain k u ≡ went t
@@ -278,7 +280,8 @@ module _ {W : Type 0} (look : W → Word) (plain : Word → W) (seen : (x : Word
         → Stands look u.cells (at + 1 + 1) js → Passes (at + 1 + 1) n u)
         → Passes at (suc (suc n)) s
     aimed r to place n s at js not_pc ne fit e low high h leads fits more =
-        idle_first s at (suc n) (Move r (InReg Pc)) (refl, refl, tt) e low (omega (arith, high)) h.0 (λ t w p k.
+        idle_first s at (suc n) (Move r (InReg Pc)) (refl, refl, tt) e low (omega (arith, high)) h.0
+        (λ t w p k.
         let next1 : Word = Mem (code_cap base last (at + 1)) in
         let t1 : State W = put (put s (R r) (reg s.regs Pc)) (R Pc) (plain next1) in
         let m : row look plain (Move r (InReg Pc)) next1 s ≡ went t1 =

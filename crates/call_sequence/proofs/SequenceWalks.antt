@@ -31,12 +31,14 @@ use Rattle.lcm_machine.proofs.Offers.{set_goes, shows}
 use Rattle.call_sequence.specs.declared.TheConstants.{CALL_WORDS, RETURN_WORDS, ENTRY_WORDS}
 use Rattle.call_sequence.specs.Sequences.{call_code, return_code, entry_code, distance, load_word, wipe_word}
 use Rattle.call_sequence.specs.SequenceRuns.{stack_cap, IsOutsideRange, HasCall, HasReturn, HasEntry}
-use Rattle.call_sequence.specs.SequenceWords.{IsInRange, AtWord, CallWords, EntryWords, LoadsOrWipes, ReturnWords}
+use Rattle.call_sequence.specs.SequenceWords.{IsInRange, AtWord, CallWords, EntryWords, LoadsOrWipes}
+use Rattle.call_sequence.specs.SequenceWords.{ReturnWords}
 use Rattle.call_sequence.specs.SequenceWords.{JointReturnWords}
 use Rattle.call_sequence.proofs.LawLemmas.{fits_small, small_operand, near_operand, leads}
 use Rattle.call_sequence.proofs.ReturnLaws.{tested, return_tests, return_turns, return_apart}
 use Rattle.call_sequence.proofs.Passing.{AreIdle, Guards, done, tests, keeps, Passes, passed, word_is, first}
-use Rattle.call_sequence.proofs.Passing.{at_fail, idle_first, idle_code, guarded, aimed, stands_kept, stands_same, target_code}
+use Rattle.call_sequence.proofs.Passing.{at_fail, idle_first, idle_code, guarded, aimed, stands_kept}
+use Rattle.call_sequence.proofs.Passing.{stands_same, target_code}
 
 -- ---- a call
 
@@ -149,7 +151,8 @@ module _ {W : Type 0} (look : W → Word) (plain : Word → W) (seen : (x : Word
 
   pub call_words : CallWords look plain
   call_words s base last at seal c h pc stk apart k t lt ran =
-      passed look plain seen base last (at + (CALL_WORDS - 1)) (λ word a. IsInRange a c.base c.end) CALL_WORDS k
+      passed look plain seen base last (at + (CALL_WORDS - 1)) (λ word a. IsInRange a c.base c.end)
+      CALL_WORDS k
       at s t (call_passes s base last at seal c h pc stk apart) lt ran
 
 -- ---- an entry
@@ -277,7 +280,8 @@ module _ {W : Type 0} (look : W → Word) (plain : Word → W) (seen : (x : Word
 
   pub return_words : ReturnWords look plain
   return_words s base last at sb h pc small k t lt ran =
-      let y = passed look plain seen base last (at + RETURN_WORDS) (LoadsOrWipesAt s base last at sb h pc small)
+      let y = passed look plain seen base last (at + RETURN_WORDS)
+      (LoadsOrWipesAt s base last at sb h pc small)
       (RETURN_WORDS - 1) k at s t (all_but_last s base last at sb h pc small) lt ran in
       record {
         touches = λ a x. elim (y.touches a x)
@@ -298,7 +302,8 @@ module _ {W : Type 0} (look : W → Word) (plain : Word → W) (seen : (x : Word
       (lin : is_linear (look w) ≡ false)
     where
       abbrev pub at_load : State W
-      at_load = tested look plain seen s base last (at + load_word) (base + h.fail) (stack_cap sb end b) (pos 0)
+      at_load = tested look plain seen s base last (at + load_word) (base + h.fail) (stack_cap sb end b)
+          (pos 0)
 
       pub runs_to_load : run_of look plain load_word s ≡ went at_load
       runs_to_load =
@@ -375,8 +380,10 @@ module _ {W : Type 0} (look : W → Word) (plain : Word → W) (seen : (x : Word
           first look plain seen base last (at + RETURN_WORDS) AtFirst u2 (at + load_word + 1 + 1) 1
           (Store Stk T1) refl p2 (omega (arith, ai)) (omega (arith, en)) (kept2 _ _ (kept1 _ _ c.1.1.0)) tt
           (λ a e. inr (used_first u2 stk2 a e, inr (omega arith))) (λ u3 r3 p3 m3.
-          let spared : cell u3.cells (at + load_word + 1 + 1 + 1) ≡ cell u2.cells (at + load_word + 1 + 1 + 1) =
-          row_others look plain u2 u3 (Store Stk T1) (Mem (code_cap base last (at + load_word + 1 + 1 + 1))) r3
+          let spared : cell u3.cells (at + load_word + 1 + 1 + 1)
+          ≡ cell u2.cells (at + load_word + 1 + 1 + 1) =
+          row_others look plain u2 u3 (Store Stk T1) (Mem (code_cap base last (at + load_word + 1 + 1 + 1)))
+          r3
           (at + load_word + 1 + 1 + 1) (λ e. (let q = used_first u2 stk2 _ e in
           elim out as (λ _. ⊥) [ inl y ↦ omega (arith, y, q, ai) | inr y ↦ omega (arith, y, q, en) ])) in
           idle_first look plain seen base last (at + RETURN_WORDS) AtFirst u3 (at + load_word + 1 + 1 + 1) 0
@@ -474,7 +481,8 @@ module _ {W : Type 0} (look : W → Word) (plain : Word → W) (seen : (x : Word
               sym (ap (λ y. and_then y (run_of look plain (k - load_word))) turned)
               ∙ sym (run_of-add look plain load_word (k - load_word) s)
               ∙ subst (λ y. run_of look plain y s ≡ went t) e ran in
-              let y = passed look plain seen base last 0 (λ w a. ⊥) (suc (k - load_word)) (k - load_word) 0 _ t
+              let y = passed look plain seen base last 0 (λ w a. ⊥) (suc (k - load_word)) (k - load_word) 0 _
+              t
               (at_fail look plain seen base last 0 (λ w a. ⊥) (base + h.fail) (omega arith) fh 0
               (suc (k - load_word)) _ (seen _) h.fails.0.0) (omega arith) rest in
               λ a x. elim (y.touches a x) as (λ _. IsInRange a base last)

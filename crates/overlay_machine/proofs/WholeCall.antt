@@ -82,7 +82,8 @@ module _ (l : Layout) (i : ℕ) (o : OState) (t : State Word) (at_site : AtSite 
   outside z e h =
       call_outside id id t its.base its.end its.at its.seal (stack z) has_call pc_is (stk_is z e) h
 
-  pub lowest : at_site.to ≡ pos l.stack.base → l.stack.base ≤ at_site.end → HasFailed (run_of id id (split_word + 1) t)
+  pub lowest : at_site.to ≡ pos l.stack.base → l.stack.base ≤ at_site.end
+      → HasFailed (run_of id id (split_word + 1) t)
   lowest e h =
       let s = at_site.in_stack in
       let d = at_site.small_stack in

@@ -302,7 +302,8 @@ call_case = refl
 
 abbrev at_jump : State OWord
 at_jump = maps
-    (regs_with (Plain (Mem (own_code (1 + site_at + (CALL_WORDS - 1))))) (RetCode 0) (RetData 0) (Plain (Mem (stack 115 115)))
+    (regs_with (Plain (Mem (own_code (1 + site_at + (CALL_WORDS - 1))))) (RetCode 0) (RetData 0)
+    (Plain (Mem (stack 115 115)))
     (Plain (Mem (own_data 90))) (Plain g_code) (Plain g_data)) taken
 
 call_row : row look Plain (Xjmp C1 C2) (Int (pos 0)) at_jump ≡ went o26.maps

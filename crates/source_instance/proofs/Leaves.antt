@@ -120,7 +120,8 @@ step27 =
     (own_stands o27 (behind 0) (Plus G0 A0 (Imm (pos 0))) refl (omega arith) (omega arith)
     (has_in given_back given_back_same (behind 0) _ (omega arith) refl) (record { sfits = omega arith }) refl)
     refl
-    (plus_goes look Plain G0 A0 (Imm (pos 0)) (Mem (own_code (behind 1))) o27.maps (pos 0) (pos 0) (pos 0) refl refl
+    (plus_goes look Plain G0 A0 (Imm (pos 0)) (Mem (own_code (behind 1))) o27.maps (pos 0) (pos 0) (pos 0)
+    refl refl
     refl refl refl)
 
 pub step28 : Makes o28 o29 1 None
@@ -151,7 +152,8 @@ step31 =
     by_row o31 o32.maps (Jmp T2) (own_code (behind 5))
     (own_stands o31 (behind 4) (Jmp T2) refl (omega arith) (omega arith)
     (has_in given_back given_back_same (behind 4) _ (omega arith) refl) tt refl) refl
-    (jmp_goes look Plain T2 (Mem (own_code (behind 5))) o31.maps o31.maps (stays look Plain o31.maps (R T2) refl))
+    (jmp_goes look Plain T2 (Mem (own_code (behind 5))) o31.maps o31.maps
+    (stays look Plain o31.maps (R T2) refl))
 
 pub step32 : Makes o32 o33 1 None
 unfolding faces owner_of start_cell part_word entry_code call_code return_code

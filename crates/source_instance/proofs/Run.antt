@@ -310,7 +310,8 @@ source_there headline agree mean = record {
   matched = left.reached;
   outside =
       runs_outside start (leaving_at + 1) leaves.o49 (Mem (its_code 104))
-      ((headline parts 8 start is_start_of).agrees.matched (leaving_at + 1) leaves.o49 left.reached).1 refl stops_outside;
+      ((headline parts 8 start is_start_of).agrees.matched (leaving_at + 1) leaves.o49 left.reached).1 refl
+      stops_outside;
   part = 116 ∷ [];
   name = 102 ∷ [];
   stk = stack_word;

@@ -89,7 +89,8 @@ module _ (each : EachLetsGo) (law : SourcesLeaveNothing) (wipe : PlainRunsWipe) 
       (outside o26 104 refl)
 
   leaves : LetsGoThere (source ∷ []) parts 8 start (call_told ∷ []) (entry ∷ answer ∷ []) o26 o48 o49
-  leaves = there run.leaving_at (call_told ∷ []) (entry ∷ answer ∷ []) o26 o48 o49 run.to_leave.reached held.to_leave
+  leaves = there run.leaving_at (call_told ∷ []) (entry ∷ answer ∷ []) o26 o48 o49 run.to_leave.reached
+      held.to_leave
       (inside o48 (behind 22) refl) step48.goes_on (outside o49 104 refl)
 
   -- the end of the stack that is given away, by stk

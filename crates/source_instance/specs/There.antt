@@ -1,9 +1,10 @@
 -- That the theorem of sources speaks of something: a linked start of a module, beside a part that isn't
 -- trusted, whose run enters a procedure of the module, which calls out, is answered, and leaves.
-use Rattle.std.specs.Prelude.{◌≡◌, ℕ, ℤ, false, List, [], ◌∷◌, map, Some}
+use Rattle.std.specs.Prelude.{◌≡◌, ℕ, ◌+◌, ℤ, false, List, [], ◌∷◌, map, Some}
 use Rattle.std.specs.List.{Contains}
 use Rattle.cap_words.specs.declared.Word.{Word}
 use Rattle.cap_words.specs.declared.Word.TheVariants.{Int}
+use Rattle.call_sequence.specs.declared.TheConstants.{SITE_WORDS}
 use Rattle.component_linker.specs.Parts.{PartSeen}
 use Rattle.component_linker.specs.Started.{StartSeen}
 use Rattle.component_linker.specs.LinkedStarts.{IsStartOf}
@@ -39,7 +40,7 @@ pub record SourceThere : Type 0 where
   pub untrusted : other.trusted ≡ false
   -- after so many instructions the plain run stands at a matched point, in code that isn't trusted
   pub steps : ℕ
-  pub steps_are : steps ≡ 93
+  pub steps_are : steps ≡ SITE_WORDS + 67
   pub overlay : OState
   pub matched : Matched start steps overlay
   pub outside : runs_trusted start steps ≡ false

@@ -53,7 +53,8 @@ module _ (l : Layout) (g : Gap) (free : IsGap l.sites g) where
       by_place false e = refl
       by_place true e =
           ap (option_and_then numbered) (none_placed l.sites (a - (SITE_WORDS - 1)) (λ i lt same.
-          let ends : has g (pos ((get_or l.sites i no_site).at + (SITE_WORDS - 1))) ≡ false = free i no_site lt in
+          let ends : has g (pos ((get_or l.sites i no_site).at + (SITE_WORDS - 1))) ≡ false =
+          free i no_site lt in
           let le : (SITE_WORDS - 1) ≤ a = leb-true (SITE_WORDS - 1) a e in
           let at : (get_or l.sites i no_site).at + (SITE_WORDS - 1) ≡ a = omega (arith, same, le) in
           let other : has g (pos a) ≡ false = ap (λ n. has g (pos n)) (sym at) ∙ ends in

@@ -1,6 +1,7 @@
 -- The run of the instance: the steps of its overlay are an entry, three instructions, a call, and the return
 -- to it.
-use Rattle.std.proofs.Common.{◌≡◌, ℕ, ◌+◌, ◌-◌, pos, true, false, List, [], ◌∷◌, ◌++◌, Some, None, refl, ap, ◌∙◌}
+use Rattle.std.proofs.Common.{◌≡◌, ℕ, ◌+◌, ◌-◌, pos, true, false, List, [], ◌∷◌, ◌++◌, Some, None, refl, ap}
+use Rattle.std.proofs.Common.{◌∙◌}
 use Rattle.std.proofs.Common.{arith, subst, inl}
 use Rattle.std.specs.Prelude.{option_map, ◌&&◌, is_some}
 use Rattle.cap_words.specs.declared.Word.{Word}
@@ -205,7 +206,8 @@ lines0 = refl
 
 -- ---- three instructions
 
-fetch1 : fetch (faces look o1.maps Pc) (cell_faces look o1.maps) ≡ some (Load C1 Dat) (Mem (code_cap 1 code_end 22))
+fetch1 : fetch (faces look o1.maps Pc) (cell_faces look o1.maps)
+    ≡ some (Load C1 Dat) (Mem (code_cap 1 code_end 22))
 fetch1 = fetch_at look Plain o1.maps 1 code_end 21 (Load C1 Dat) refl (omega arith) (omega arith)
     (ap (look_face look) (has 21 _ at21)) tt
 
@@ -248,7 +250,8 @@ step2 = ap (λ c. step_by L c o2) case2
     ∙ ap (with_frames [] 0)
     (step_row look Plain o2.maps 1 code_end 22 (Cca Dat (Imm (pos 1))) refl (omega arith) (omega arith)
     (ap (look_face look) (has 22 _ at22)) (record { sfits = omega arith })
-    ∙ cca_goes look Plain Dat (Imm (pos 1)) (Mem (code_cap 1 code_end 23)) o2.maps (own_data 74) (pos 1) (pos 75)
+    ∙ cca_goes look Plain Dat (Imm (pos 1)) (Mem (code_cap 1 code_end 23)) o2.maps (own_data 74) (pos 1)
+    (pos 75)
     refl refl refl refl refl)
 
 weight2 : weight_of L o2 ≡ 1
@@ -262,7 +265,8 @@ lines2 = ap (λ c. lines_for L (flat_view L o3) (event_after L (note_by L o2 c) 
     (event_after L (note_jump (option_map (λ p. p.part) (owner_now L o2)) (jump_seal o2.maps f)) o3))
     fetch2
 
-fetch3 : fetch (faces look o3.maps Pc) (cell_faces look o3.maps) ≡ some (Load C2 Dat) (Mem (code_cap 1 code_end 24))
+fetch3 : fetch (faces look o3.maps Pc) (cell_faces look o3.maps)
+    ≡ some (Load C2 Dat) (Mem (code_cap 1 code_end 24))
 fetch3 = fetch_at look Plain o3.maps 1 code_end 23 (Load C2 Dat) refl (omega arith) (omega arith)
     (ap (look_face look) (has 23 _ at23)) tt
 
@@ -302,7 +306,8 @@ there4 = ap (λ x. is_some x && true) (has 90 _ at90)
 
 abbrev jump4 : State OWord
 jump4 = record {
-  regs = regs_with (code (1 + site_at + (CALL_WORDS - 1))) (RetCode 0) (RetData 0) (stack 89) (Plain (Mem (own_data 75)))
+  regs = regs_with (code (1 + site_at + (CALL_WORDS - 1))) (RetCode 0) (RetData 0) (stack 89)
+      (Plain (Mem (own_data 75)))
       (Plain code_word) (Plain data_word);
   cells = without M 90 90;
   spans = spans;

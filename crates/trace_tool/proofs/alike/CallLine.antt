@@ -104,7 +104,8 @@ module _ (g : Link) (linked : Linked g) (i : ℕ) (o : OState) (t : State Word) 
       call_calm l t site.base site.end site.at site.seal
       (record (stack_cap l.stack.base at_site.end 0) { addr = at_site.to }) has_call
       (m.regs Pc ∙ flat-mem l o.frames _ _ at_site.pc) (m.regs Stk ∙ flat-mem l o.frames _ _ at_site.stk)
-      (λ q inside. let hi = inside.1 in (its_site l i o t at_site m k).apart q inside.0 (omega (arith, hi, top)))
+      (λ q inside. let hi = inside.1 in (its_site l i o t at_site m k).apart q inside.0
+      (omega (arith, hi, top)))
       free
 
   c1_opened : (w : Word) → o.maps.regs.c1 ≡ Plain w → t.regs.c1 ≡ w
@@ -288,7 +289,8 @@ module _ (g : Link) (linked : Linked g) (i : ℕ) (o : OState) (t : State Word) 
     known_seal y e =
         elim (opened-code l o.frames j (site_code l j) refl)
         as (λ _. is_some
-        (option_and_then (site_of_seal l) (option_map (λ (z : Opened). z.seal) (opened_of t.regs.c1))) ≡ true) [
+        (option_and_then (site_of_seal l) (option_map (λ (z : Opened). z.seal) (opened_of t.regs.c1)))
+        ≡ true) [
           | inl h ↦ (let bad : None ≡ Some y = sym h ∙ sym (ap opened_of ret_is) ∙ e in cc)
           | inr h ↦
               ap (λ w. is_some (option_and_then (site_of_seal l) (option_map (λ (z : Opened). z.seal) w)))

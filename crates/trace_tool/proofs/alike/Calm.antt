@@ -1,5 +1,6 @@
 -- Instructions without a line: all but an `xjmp` and the last word of a site. Runs of them.
-use Rattle.std.proofs.Common.{◌≡◌, ℕ, zero, suc, ◌+◌, ◌-◌, ℤ, Bool, [], ◌++◌, Some, None, refl, ap, ◌∙◌, arith}
+use Rattle.std.proofs.Common.{◌≡◌, ℕ, zero, suc, ◌+◌, ◌-◌, ℤ, Bool, [], ◌++◌, Some, None, refl, ap, ◌∙◌}
+use Rattle.std.proofs.Common.{arith}
 use Rattle.cap_words.specs.declared.Word.{Word}
 use Rattle.cap_words.specs.declared.Face.TheVariants.{Number}
 use Rattle.lcm_isa.specs.declared.Reg.TheVariants.{Pc}

@@ -131,7 +131,8 @@ module _ (l : Layout) (o : OState) (t : State Word) (m : IsFlat l o t) (k : Look
       quiet a b =
           ap (λ j. event_after l (noted_by l t j) inward (flat_view l q)) (ap jump_in got ∙ a)
           ∙ ap (λ w. event_after l (note_last w) inward (flat_view l q))
-          (ap (site_word l (SITE_WORDS - 1)) (face_same Pc) ∙ off (SITE_WORDS - 1) (omega arith) (omega arith))
+          (ap (site_word l (SITE_WORDS - 1)) (face_same Pc)
+          ∙ off (SITE_WORDS - 1) (omega arith) (omega arith))
           ∙ sym (ap (λ s. told_after l (note_jump (option_map (λ p. p.part) (owner_now l o)) s) q) b)
 
       leaps : (r1 r2 : Reg) (next : Word)

@@ -226,7 +226,8 @@ module _ (g : Link) (linked : Linked g) (r1 r2 : Reg) (o : OState) (t : State Wo
   told = sym (ap (λ fs. told_after l (note_return now fs) q) y.frames_are)
 
   -- its line is the overlay's
-  pub return_whole : (w : State Word) (n : ℕ) (inward : Bool) → run_of id id (RETURN_WORDS + 1) t ≡ went w → IsFlat l q w
+  pub return_whole : (w : State Word) (n : ℕ) (inward : Bool) → run_of id id (RETURN_WORDS + 1) t ≡ went w
+      → IsFlat l q w
       → lines_of l (at_state t n inward) (RETURN_WORDS + 1) ≡ lines_for l (flat_view l q)
       (told_after l (note_by l o (Back r1 r2)) q)
   return_whole w n inward e mq =

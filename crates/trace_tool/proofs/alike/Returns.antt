@@ -143,4 +143,8 @@ module _ (g : Link) (linked : Linked g) (r1 r2 : Reg) (o : OState) (t : State Wo
       y.0 rd.small_base (λ a lo hi. free a lo (omega (arith, hi)))
 
   pub back_mute : NoEnd l (s.at + CALL_WORDS) (s.at + (SITE_WORDS - 1)) → Mute l RETURN_WORDS t
-  back_mute free = λ u e. (λ c inward. back_line u c inward e, calm_mute l (RETURN_WORDS - 1) u (calm_behind free u e))
+  back_mute free = λ u e. (
+    λ c inward. back_line u c inward e,
+    calm_mute l (RETURN_WORDS - 1) u
+        (calm_behind free u e),
+  )

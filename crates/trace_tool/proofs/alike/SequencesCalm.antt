@@ -1,5 +1,5 @@
--- The words of a call, an entry and a return are calm whatever comes of them: all of an entry, and all but the
--- last of the others.
+-- The words of a call, an entry and a return are calm whatever comes of them: all of an entry, and of the
+-- others all but the last.
 use Rattle.std.proofs.Common.{◌≡◌, ℕ, zero, suc, ◌+◌, ◌-◌, ◌<◌, ◌≤◌, refl, ap, ◌∙◌, arith}
 use Rattle.cap_words.specs.declared.TheConstants.{LAST_PLACE}
 use Rattle.cap_words.specs.declared.Word.{Word}
@@ -20,7 +20,8 @@ use Rattle.trace_tool.proofs.alike.Laying.{NoEnd, word_none, shown_at}
 
 -- a run is calm if each of its steps that goes is quiet
 calm_if : (l : Layout) (n : ℕ) (s : State Word)
-    → ((k : ℕ) (t u : State Word) → k < n → run_of id id k s ≡ went t → step_of id id t ≡ went u → IsQuiet l t)
+    → ((k : ℕ) (t u : State Word) → k < n → run_of id id k s ≡ went t → step_of id id t ≡ went u
+    → IsQuiet l t)
     → Calm l n s
 unfolding run_of
 calm_if l zero s quiet = tt
@@ -55,7 +56,8 @@ module _ (l : Layout) (s : State Word) (base last at : ℕ) where
   call_calm seal c h pc stk apart free =
       let ai = h.at_is in
       let en = h.ends in
-      words_calm (CALL_WORDS - 1) (at + (CALL_WORDS - 1)) (λ k a. IsInRange a c.base c.end) (omega (arith, ai))
+      words_calm (CALL_WORDS - 1) (at + (CALL_WORDS - 1)) (λ k a. IsInRange a c.base c.end)
+      (omega (arith, ai))
       (omega (arith, en)) (omega arith) free
       (λ k t lt. call_words id id (λ x. refl) s base last at seal c h pc stk apart k t (omega (arith, lt)))
 
@@ -64,7 +66,8 @@ module _ (l : Layout) (s : State Word) (base last at : ℕ) where
   entry_calm sb h pc small free =
       let ai = h.at_is in
       let en = h.ends in
-      words_calm ENTRY_WORDS (at + ENTRY_WORDS) (λ k a. ⊥) (omega (arith, ai)) (omega (arith, en)) (omega arith)
+      words_calm ENTRY_WORDS (at + ENTRY_WORDS) (λ k a. ⊥) (omega (arith, ai)) (omega (arith, en))
+      (omega arith)
       free (entry_words id id (λ x. refl) s base last at sb h pc small)
 
   pub return_calm : (sb : ℕ) → HasReturn id s.cells base last at sb → s.regs.pc ≡ Mem (code_cap base last at)

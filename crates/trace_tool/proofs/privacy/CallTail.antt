@@ -86,7 +86,8 @@ module _ (l : Layout) (i : ℕ) (o : OState) (t : State Word) (r : AtSite l i o)
             omega (arith, lt) in above (c - 1) (e ∙ ap pos one) (omega (arith, lt)) (omega (arith, one, le)))
         | inr ge ↦ elim (cases_eq c l.stack.base) as (λ _. ⊥) [
           | inl same ↦
-              not_failed (split_word + 1) (CALL_WORDS - (split_word + 1)) t v (lowest l i o t r m k (e ∙ ap pos same) (omega (arith, same, le))) ran
+              not_failed (split_word + 1) (CALL_WORDS - (split_word + 1)) t v
+              (lowest l i o t r m k (e ∙ ap pos same) (omega (arith, same, le))) ran
           | inr ne ↦
               not_failed 1 (CALL_WORDS - 1) t v
               (outside l i o t r m k (pos c)

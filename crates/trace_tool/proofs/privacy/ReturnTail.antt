@@ -283,7 +283,8 @@ module _ (l : Layout) (r1 r2 : Reg) (o : OState) (t : State Word) (rd : AtReturn
               (let n : weight_by o.maps (Back r1 r2) ≡ 1 =
               ap (λ z. if is_ret_code z then RETURN_WORDS + 1 else 1) e in absurd (omega (arith, lt, n)))
           by_word (RetCode i) e =
-              let n : weight_by o.maps (Back r1 r2) ≡ RETURN_WORDS + 1 = ap (λ z. if is_ret_code z then RETURN_WORDS + 1 else 1) e in
+              let n : weight_by o.maps (Back r1 r2) ≡ RETURN_WORDS + 1 =
+              ap (λ z. if is_ret_code z then RETURN_WORDS + 1 else 1) e in
               let first = first_step word t v ran in
               let one : run_of id id 1 t ≡ went first.0 = run_one id id t ∙ first.1 in
               let p = pair i e first.0 one in

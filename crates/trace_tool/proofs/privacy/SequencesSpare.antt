@@ -1,5 +1,5 @@
--- The words of a call, of an entry and of a return that fails touch no address apart from their code and, those
--- of a call, from stk's range.
+-- The words of a call, of an entry and of a return that fails touch no address apart from their code and,
+-- those of a call, from stk's range.
 use Rattle.std.proofs.Common.{◌≡◌, ◌≢◌, inl, inr, ℕ, ◌+◌, ◌≤◌, true, refl, arith}
 use Rattle.cap_words.specs.declared.TheConstants.{LAST_PLACE}
 use Rattle.cap_words.specs.declared.Word.{Word}

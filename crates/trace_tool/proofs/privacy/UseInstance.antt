@@ -62,7 +62,8 @@ module _ (h : HoldsFor pair 4 (overlay_at start) start.state.maps) (alone : Halt
   state_at = gone there.0 to_load
 
   lines_are : written start to_load ≡ call_line ∷ []
-  lines_are = agree.between to_callee to_load (call_line ∷ []) o5 told5 (omega arith) (rw weight5 (omega arith))
+  lines_are = agree.between to_callee to_load (call_line ∷ []) o5 told5 (omega arith)
+      (rw weight5 (omega arith))
 
   pub use_there : UseThere
   use_there =

@@ -88,7 +88,8 @@ module _ (h : HoldsFor pair 4 (overlay_at start) start.state.maps) (alone : Halt
   -- at the call, and behind its `xjmp`
   before_call : (u : State Word) × (plain_run to_call start.state.maps ≡ went u) × Calm L (CALL_WORDS - 1) u
   before_call =
-      let at = matched g h.linked o0 start.state.maps h.holds to_call o4 (reached_by L o0 to_call [] o4 told4) in
+      let at = matched g h.linked o0 start.state.maps h.holds to_call o4
+      (reached_by L o0 to_call [] o4 told4) in
       let k = looks g h.linked o4 at.0 at.2 in
       let a : AtSite L 0 o4 = subst (λ c. ReadyFor L o4 c) case4 (ready g h.linked o4 at.0 at.2) in (
         at.0,
@@ -112,13 +113,15 @@ module _ (h : HoldsFor pair 4 (overlay_at start) start.state.maps) (alone : Halt
       subst (λ n. run_of id id n start.state.maps ≡ went mid.0) z
       (run_then id id to_call (b - to_call) start.state.maps behind.0 _ behind.1 mid.1) in
       let left : (CALL_WORDS - 1) - (b - to_call) ≡ suc (to_callee - 2 - b) = omega (arith, low, high) in
-      let next = first_step (to_callee - 2 - b) mid.0 upto.0 (subst (λ n. run_of id id n mid.0 ≡ went upto.0) left mid.2)
+      let next = first_step (to_callee - 2 - b) mid.0 upto.0
+      (subst (λ n. run_of id id n mid.0 ≡ went upto.0) left mid.2)
       in
       rw (after_is b mid.0 here)
       (calm_at L (b - to_call) (CALL_WORDS - 1) behind.0 mid.0 next.0 calm (omega (arith, low, high))
       mid.1 next.1).0
 
-  not_own : (k word : ℕ) (c : LineTold) → k < load_word → load_word ≤ word → word ≤ wipe_word → ¬ (IsOwnReturn start (to_callee + k) c word)
+  not_own : (k word : ℕ) (c : LineTold) → k < load_word → load_word ≤ word → word ≤ wipe_word
+      → ¬ (IsOwnReturn start (to_callee + k) c word)
   unfolding jump_at
   not_own k word c lt low high r =
       let so = r.so_many in
@@ -130,7 +133,8 @@ module _ (h : HoldsFor pair 4 (overlay_at start) start.state.maps) (alone : Halt
 
   lines_are : (k : ℕ) → k ≤ load_word → written start (to_callee + k) ≡ call_line ∷ []
   lines_are k le =
-      agree.between to_callee (to_callee + k) (call_line ∷ []) o5 told5 (omega arith) (rw weight5 (omega (arith, le)))
+      agree.between to_callee (to_callee + k) (call_line ∷ []) o5 told5 (omega arith)
+      (rw weight5 (omega (arith, le)))
 
   goes_on : (plain (to_callee + load_word) start.state).end ≡ None
   goes_on =
