@@ -1,4 +1,5 @@
--- That pc goes on in its own word: what a fetch says of it, what rows set beside it, and that it stays till then.
+-- That pc goes on in its own word: what a fetch says of it, what rows set beside it, and that it stays till
+-- then.
 use Rattle.std.proofs.Common.{◌≡◌, ℕ, Bool, true, false, not, refl, sym, ap, ◌∙◌}
 use Rattle.std.specs.Prelude.{Option, Some, None, if◌then◌else◌}
 use Rattle.std.proofs.lemmas.Bool.{not-true}
@@ -100,8 +101,8 @@ module _ {W : Type 0} (look : W → Word) (plain : Word → W) where
       → plan_in look s i next ≡ Goes e → CanPerform look s e
   unfolding plan_in
   plan_can s i next e g h =
-      let k = plan-Once (faces look s) (opens look s) (face_there (cell_faces look s) (target i (faces look s)))
-      next i in
+      let k = plan-Once (faces look s) (opens look s)
+      (face_there (cell_faces look s) (target i (faces look s))) next i in
       let once : SetsOnce next e = Gives-effect (rw h at k) in
       (plan_fits look plain s i next e h, next_fits s next e.next once.0 g, once.1)
 
@@ -153,8 +154,8 @@ module _ {W : Type 0} (look : W → Word) (plain : Word → W) where
 
   -- behind what an effect takes and makes pc has the word that it had
   pub still_fits : (s : State W) (e : Effect) (o : Option Word) → NextFits look s o → SetsElsewhere o e
-      → NextFits look (make plain (make plain (spend look plain (spend look plain (move_on look plain s e.moved)
-      e.spent) e.also_spent) e.first) e.second) o
+      → NextFits look (make plain (make plain (spend look plain (spend look plain
+      (move_on look plain s e.moved) e.spent) e.also_spent) e.first) e.second) o
   still_fits s e None h k = tt
   still_fits s e (Some w) (c, a, at_pc, normal, next) (moved, first, second) =
       let n : IsNormal s = rw at_pc normal in

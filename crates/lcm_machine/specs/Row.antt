@@ -1,7 +1,7 @@
 -- One instruction and one step, said once for words of any kind: `look` is the plain word that the table
 -- reads in a word, and `plain` makes a word of a plain one. On the plain machine both are the identity.
-use Rattle.std.specs.Prelude.{ℕ, ℤ, pos, negsuc, ◌+ℤ◌, ◌≡◌, false, Option, Some, None, if◌then◌else◌, unwrap_or, not}
-use Rattle.std.specs.Prelude.{◌&&◌, IsSome, Result, Ok, Err}
+use Rattle.std.specs.Prelude.{◌≡◌, ℕ, ℤ, pos, negsuc, ◌+ℤ◌, false, not, ◌&&◌, Option, Some, None, unwrap_or}
+use Rattle.std.specs.Prelude.{if◌then◌else◌, IsSome, Result, Ok, Err}
 use Rattle.lcm_machine.specs.declared.Place.{Place}
 use Rattle.lcm_machine.specs.declared.Place.TheVariants.{R, Cell}
 use Rattle.lcm_isa.specs.declared.Reg.{Reg}

@@ -47,8 +47,8 @@ pub record Goes {A B : Type 0} (o : Option (A × Fields)) (f : A → Reader B) (
   pub first : o ≡ Some (value, rest)
   pub next : f value rest ≡ Some y
 
-pub goes : {A B : Type 0} (o : Option (A × Fields)) (f : A → Reader B) (y : B × Fields) → reads_on o f ≡ Some y
-    → Goes o f y
+pub goes : {A B : Type 0} (o : Option (A × Fields)) (f : A → Reader B) (y : B × Fields)
+    → reads_on o f ≡ Some y → Goes o f y
 goes None f y h = absurd cc
 goes (Some x) f y h = record { value = x.0; rest = x.1; first = refl; next = h }
 

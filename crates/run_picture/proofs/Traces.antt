@@ -229,8 +229,8 @@ unfolding steps
 steps_plain ts l rest h a =
     let g1 = goes (tested (bytes_eq (codes "steps")) ts) _ (l, rest) h in
     let g2 = goes (meant (number_in 18446744073709551615) g1.rest) _ (l, rest) g1.next in
-    by_test (bytes_eq (codes "steps")) (λ u. same_plain (codes "steps") u (record { same = refl })) ts g1.value
-    g1.rest g1.first
+    by_test (bytes_eq (codes "steps")) (λ u. same_plain (codes "steps") u (record { same = refl })) ts
+    g1.value g1.rest g1.first
     (by_meaning (number_in 18446744073709551615) count_plain g1.rest g2.value g2.rest g2.first
     (subst AllPlain (sym (done_rest g2.next)) a))
 

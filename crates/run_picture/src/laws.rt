@@ -58,9 +58,9 @@ pub fn pictures_are_documents()
     ensures { PicturesAreDocuments }
 {}
 
-/// A picture of at most 16,384 lines has at most 2,048 bytes for the page, three times the bytes of the escaped
-/// text, and 700 for each line, be the text a trace or not. A byte is escaped as six at most, and none of a text
-/// that passes the audit has to be.
+/// A picture of at most 16,384 lines has at most 2,048 bytes for the page, three times the bytes of the
+/// escaped text, and 700 for each line, be the text a trace or not. A byte is escaped as six at most, and
+/// none of a text that passes the audit has to be.
 pub fn pictures_are_short()
     ensures escapes { EscapesAreShort }
     ensures traces { TracesArePlain }
