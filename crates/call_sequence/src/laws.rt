@@ -19,7 +19,8 @@ pub fn sequences_stand_word_by_word()
 
 /// What a call's words do: `data` is stored where stk stands, the stack is split behind that, the
 /// two halves of the return are sealed, and the last word is an `xjmp`. With stk at its base or
-/// outside its range they fail. Whatever comes of them, but for their own code they touch stk's range alone.
+/// outside its range they fail. Whatever comes of them, but for the code of their part they touch stk's
+/// range alone, where that lies outside the code.
 pub fn calls_run<W: MachineWord>()
     ensures above { CallRuns W.look W.plain }
     ensures jumps { CallJumps W.look W.plain }
@@ -30,7 +31,8 @@ pub fn calls_run<W: MachineWord>()
 
 /// What a return's words do: stk and `data` are joined, and `data` is read back from the first cell of
 /// its stretch. Where they can't be joined, or what is joined doesn't begin at the stack's base, they
-/// fail. But for their own code only the word that loads and the one that wipes touch memory.
+/// fail. But for the code of their part only the word that loads and the one that wipes touch memory; of
+/// the last word that is said where stk and `data` are joined.
 pub fn returns_run<W: MachineWord>()
     ensures joint { ReturnRuns W.look W.plain }
     ensures apart { ReturnApartFails W.look W.plain }
@@ -40,7 +42,8 @@ pub fn returns_run<W: MachineWord>()
 {}
 
 /// What an entry's words do: stk is set to its end, where it is a linear capability with rw that
-/// begins at the stack's base, and else they end at the part's `fail`. They touch their code alone.
+/// begins at the stack's base, and else they end at the part's `fail`. They touch the code of their part
+/// alone.
 pub fn entries_run<W: MachineWord>()
     ensures stack { EntryRuns W.look W.plain }
     ensures others { EntryFails W.look W.plain }

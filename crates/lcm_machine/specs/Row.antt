@@ -134,12 +134,12 @@ abbrev pub MakesElsewhere : Option Made → Type 0
 MakesElsewhere None = Unit {0}
 MakesElsewhere (Some m) = is_pc m.reg ≡ false
 
--- where an effect sets pc to its next word, that is pc's own at another address, and the effect sets it to no
--- other
+-- pc's next word, where there is one, is its own at another address
 abbrev pub NextFits : {W : Type 0} → (W → Word) → State W → Option Word → Type 0
 NextFits look s None = Unit {0}
 NextFits look s (Some w) = GoesOnTo look s w
 
+-- and an effect sets pc to no other word beside it
 abbrev pub SetsElsewhere : Option Word → Effect → Type 0
 SetsElsewhere None e = Unit {0}
 SetsElsewhere (Some w) e = MovesElsewhere e.moved × MakesElsewhere e.first × MakesElsewhere e.second
