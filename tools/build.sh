@@ -41,7 +41,8 @@ changed() {
 }
 
 # A line for each crate below the program that changed or stands on one that did: its name, and those of them
-# that it names. First comes the one with the longest chain of crates above it, by the bytes of their files.
+# that it names. First comes the one with the longest chain of crates above it, by the bytes of their code: proving
+# takes some seconds for each kilobyte of code, and for lemmas hardly any.
 crates_to_prove() {
     changed >"$room/changed"
     crates_of_program >"$room/crates"
@@ -57,10 +58,10 @@ crates_to_prove() {
             if (name in chains) return chains[name]
             count = split(users[name], names)
             for (i = 1; i <= count; i++) if (chain(names[i]) > longest) longest = chain(names[i])
-            return chains[name] = longest + bytes[name] + 20000
+            return chains[name] = longest + bytes[name] + 3000
         }
         what == "changed" { changed[$1]; next }
-        what == "files" { split($1, at, "/"); bytes[at[2]] += $2; next }
+        what == "files" { split($1, at, "/"); if (at[3] == "src") bytes[at[2]] += $2; next }
         { uses[$1] = $0; for (i = 2; i <= NF; i++) users[$i] = users[$i] " " $1 }
         END {
             for (name in uses) {
