@@ -41,8 +41,9 @@ changed() {
 }
 
 # A line for each crate below the program that changed or stands on one that did: its name, and those of them
-# that it names. First comes the one with the longest chain of crates above it, by the bytes of their code: proving
-# takes some seconds for each kilobyte of code, and for lemmas hardly any.
+# that it names. First comes the one with the longest chain of crates above it, by the bytes of their code, and 3,000
+# for the reading with which each begins: proving takes some seconds for each kilobyte of code, and for lemmas
+# hardly any.
 crates_to_prove() {
     changed >"$room/changed"
     crates_of_program >"$room/crates"
