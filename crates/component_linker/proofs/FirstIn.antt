@@ -1,6 +1,6 @@
 -- The first part, and the first place in it, at which a rule is broken; and the first rule that is.
-use Rattle.std.proofs.Common.{◌≡◌, ℕ, zero, suc, ◌<◌, inl, inr, true, false, List, Option, Some, None, Result}
-use Rattle.std.proofs.Common.{Ok, Err, refl, sym, ap, ◌∙◌, arith, subst}
+use Rattle.std.proofs.Common.{◌≡◌, ℕ, zero, suc, ◌<◌, ◌⊎◌, inl, inr, true, false, List, Option, Some, None}
+use Rattle.std.proofs.Common.{Result, Ok, Err, refl, sym, ap, ◌∙◌, arith, subst}
 use Rattle.std.specs.Prelude.{is_some, option_map, unwrap_or, map}
 use Rattle.std.proofs.lemmas.Option.{slice_get-map}
 use Rattle.component_check.specs.Places.{Test, BrokenAt, first_of, first_place}
@@ -157,3 +157,45 @@ first_broken_in told rules =
     of (Ok u) none = λ n p i t e b. none n p (by_part t) (numbered_by rules n ∙ ap (option_map by_part) e)
         (breaks_part t p i b)
     of (Err report) first = with_place told rules report first
+
+-- ---- one
+
+order : (p q : ℕ) → (p ≡ q) ⊎ ((p < q) ⊎ (q < p))
+order p q = grind arith
+
+one_number_in : {E : Type 0} (told : ℕ → PartPlace → E) (ts : List PairTest) (a b : E)
+    (h : IsFirstIn told ts a) (k : IsFirstIn told ts b) → h.number ≡ k.number → h.part ≡ k.part → h.index
+    ≡ k.index → a ≡ b
+one_number_in told ts a b h k n p i =
+    let s : Some h.test ≡ Some k.test = sym h.is ∙ ap (rule_of ts) n ∙ k.is in
+    let t : h.test ≡ k.test = cc in
+    h.reported ∙ ap (λ m. told m (record { part = h.part; place = (h.test.within h.part).place h.index })) n
+    ∙ ap (λ (u : PairTest). told k.number (record { part = h.part; place = (u.within h.part).place h.index }))
+    t
+    ∙ ap (λ q. told k.number (record { part = q; place = (k.test.within q).place h.index })) p
+    ∙ ap (λ j. told k.number (record { part = k.part; place = (k.test.within k.part).place j })) i
+    ∙ sym k.reported
+
+-- there is one first place at which a rule is broken
+pub one_first_in : {E : Type 0} (told : ℕ → PartPlace → E) (ts : List PairTest) (a b : E)
+    → IsFirstIn told ts a → IsFirstIn told ts b → a ≡ b
+one_first_in told ts a b h k = elim (order h.number k.number) as (λ _. a ≡ b) [
+  | inl n ↦ elim (order h.part k.part) as (λ _. a ≡ b) [
+    | inl p ↦ elim (order h.index k.index) as (λ _. a ≡ b) [
+      | inl i ↦ one_number_in told ts a b h k n p i
+      | inr i ↦ elim i as (λ _. a ≡ b) [
+        | inl lt ↦ absurd (k.first h.number h.part h.index h.test h.is (inr (n, inr (p, lt))) h.broken)
+        | inr lt ↦ absurd (h.first k.number k.part k.index k.test k.is
+            (inr (sym n, inr (sym p, lt))) k.broken)
+      ]
+    ]
+    | inr p ↦ elim p as (λ _. a ≡ b) [
+      | inl lt ↦ absurd (k.first h.number h.part h.index h.test h.is (inr (n, inl lt)) h.broken)
+      | inr lt ↦ absurd (h.first k.number k.part k.index k.test k.is (inr (sym n, inl lt)) k.broken)
+    ]
+  ]
+  | inr n ↦ elim n as (λ _. a ≡ b) [
+    | inl lt ↦ absurd (k.first h.number h.part h.index h.test h.is (inl lt) h.broken)
+    | inr lt ↦ absurd (h.first k.number k.part k.index k.test k.is (inl lt) k.broken)
+  ]
+]

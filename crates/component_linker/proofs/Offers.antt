@@ -1,7 +1,7 @@
 -- What the crates above cite: lemmas over the definitions of `specs/`, by what they are of.
 
 -- the first part, and the first place in it, at which a rule is broken
-pub use Rattle.component_linker.proofs.FirstIn.{first_broken_in, first_in_is}
+pub use Rattle.component_linker.proofs.FirstIn.{first_broken_in, first_in_is, one_first_in}
 -- what searches through parts and through the items of a part tell of rules
 pub use Rattle.component_linker.proofs.RuleLemmas.{any_settled, each_before, each_item, slice_get-take, taken}
 pub use Rattle.component_linker.proofs.RuleLemmas.{told_behind, told_in, told_nowhere}

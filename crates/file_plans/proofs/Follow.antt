@@ -79,6 +79,16 @@ follows_bind p f old mid new x (Ok y) h g = comes_bind p f old mid new x (Ok y) 
 follows_bind p f old mid new x (Err (Refused why)) h g = comes_bind p f old mid new x (Err why) h g
 follows_bind p f old mid new x (Err NoMemory) h g = only_again old mid new (comes_quiet p old mid x h) g
 
+-- the same of plans that read nothing
+pub meets_bind : {A B : Type 0} (p : Plan A) (f : A → Plan B) (x : A) (r : Result B Stop) → p ≡ Made x
+    → Meets (f x) r → Meets (p >>= f) r
+meets_bind p f x r e m = rw e m
+
+pub meets_end : {A B : Type 0} (p : Plan A) (f : A → Plan B) (s : Stop) → Meets p (Err s)
+    → Meets (p >>= f) (Err s)
+meets_end p f (Refused why) m = rw m refl
+meets_end p f NoMemory m = tt
+
 -- a body that reads nothing follows its plan where it stands
 pub meets_follows : {A : Type 0} (p : Plan A) (r : Result A Stop) → Meets p r → (seen : FilesSeen)
     → Follows p seen r seen

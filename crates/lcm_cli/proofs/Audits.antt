@@ -13,8 +13,8 @@ use Rattle.file_plans.specs.declared.TheConstants.{LONGEST_FILE}
 use Rattle.file_plans.specs.declared.refusal.Refusal.{Refusal}
 use Rattle.file_plans.specs.declared.refusal.Refusal.TheVariants as refusal
 use Rattle.file_plans.specs.Plans.{Plan, Made, ◌>>=◌, unless, whole as read, too_long, unread, Comes}
-use Rattle.lcm_cli.specs.declared.status.Status.{Status}
-use Rattle.lcm_cli.specs.declared.status.Status.TheVariants as status
+use Rattle.refusal_lines.specs.declared.status.Status.{Status}
+use Rattle.refusal_lines.specs.declared.status.Status.TheVariants as status
 use Rattle.lcm_cli.specs.Audits.{audit_at}
 use Rattle.lcm_cli.specs.Commands.{Task, Write, ok_text, plan_of, plan_in}
 use Rattle.lcm_cli.specs.Answers.{Answer, Outside, with_files, writes, refused, IsAnswerOf, AnswersWhole}

@@ -31,11 +31,11 @@ use Rattle.lcm_machine.specs.declared.Step.TheVariants.{Went, Halted, Failed}
 use Rattle.lcm_machine.specs.Run.{answer as last_step, plain}
 use Rattle.file_plans.specs.declared.refusal.Refusal.{Refusal}
 use Rattle.file_plans.specs.declared.refusal.Refusal.TheVariants as refusal
-use Rattle.lcm_cli.specs.declared.status.Status.{Status}
-use Rattle.lcm_cli.specs.declared.status.Status.TheVariants as status
+use Rattle.refusal_lines.specs.declared.status.Status.{Status}
+use Rattle.refusal_lines.specs.declared.status.Status.TheVariants as status
 use Rattle.proc_sources.specs.declared.fault.SourceFault.{SourceFault}
 use Rattle.run_audit.specs.declared.fault.AuditFault.{AuditFault}
-use Rattle.lcm_cli.specs.Refusals.{refusal_status, image_status}
+use Rattle.refusal_lines.specs.Refusals.{refusal_status, image_status}
 use Rattle.file_plans.specs.Plans.{Plan, Reads, Ends, Made, Comes}
 use Rattle.source_events.specs.declared.MeaningEnd.{MeaningEnd}
 use Rattle.source_events.specs.declared.MeaningEnd.TheVariants as end

@@ -30,7 +30,7 @@ use Rattle.proc_compiler.specs.declared.fault.CompileFault.TheVariants.{TooLarge
 use Rattle.proc_sources.specs.declared.fault.SourceFault.{SourceFault}
 use Rattle.proc_sources.specs.declared.fault.SourceFault.TheVariants.{Size}
 use Rattle.proc_sources.specs.Sources.{is_large, compile_answer, module_in, sourced}
-use Rattle.lcm_cli.specs.Parts.{HasForm}
+use Rattle.link_tool.specs.Parts.{HasForm}
 
 -- what holds of texts, modules and programs
 pub record LimitLaws : Type 0 where

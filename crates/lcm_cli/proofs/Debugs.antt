@@ -28,7 +28,8 @@ use Rattle.file_plans.proofs.Offers.{comes_bind, comes_made, follows_bind, follo
 use Rattle.component_linker.specs.LinkedStarts.{IsStartOf}
 use Rattle.lcm_cli.specs.declared.ready.ReadyTask.TheVariants as ready
 use Rattle.lcm_cli.specs.ReadyTasks.{FollowsTask}
-use Rattle.lcm_cli.specs.Commands.{Task, Debug, linked_in, debug_plan}
+use Rattle.lcm_cli.specs.Commands.{Task, Debug, debug_plan}
+use Rattle.link_tool.specs.Linked.{linked_in}
 use Rattle.lcm_cli.specs.Debugs.{unscripted, script_at}
 use Rattle.lcm_cli.specs.Causes.{Breaks, IsUnloaded}
 use Rattle.lcm_cli.proofs.Ends.{Never, Foreign, comes_split, same_err, not_made, never_bind}

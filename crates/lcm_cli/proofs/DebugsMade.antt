@@ -10,8 +10,8 @@ use Rattle.debug_tool.specs.Replies.{debug_text}
 use Rattle.step_back.specs.declared.debugger.TheConstants.{MOST_DEPTH}
 use Rattle.file_plans.specs.declared.refusal.Refusal.{Refusal}
 use Rattle.file_plans.specs.Plans.{Comes}
-use Rattle.lcm_cli.specs.declared.status.Status.{Status}
-use Rattle.lcm_cli.specs.declared.status.Status.TheVariants as status
+use Rattle.refusal_lines.specs.declared.status.Status.{Status}
+use Rattle.refusal_lines.specs.declared.status.Status.TheVariants as status
 use Rattle.lcm_cli.specs.Commands.{Task, Debug, plan_in, debug_plan}
 use Rattle.lcm_cli.specs.Bytes.{Makes}
 use Rattle.lcm_cli.specs.Answers.{Answer, Outside, with_files, writes, IsAnswerOf, AnswersWhole, Answers}

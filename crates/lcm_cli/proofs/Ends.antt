@@ -16,10 +16,10 @@ use Rattle.file_plans.specs.declared.refusal.Refusal.TheVariants as refusal
 use Rattle.file_plans.specs.Plans.{Plan, Reads, Ends, Made, ◌>>=◌, unless, each_at, whole, too_long, unread}
 use Rattle.file_plans.specs.Plans.{Comes}
 use Rattle.command_words.specs.Part.{is_trusted_mark}
-use Rattle.lcm_cli.specs.Parts.{broken_in, linked, loaded, form_by, component_at, part_at}
+use Rattle.link_tool.specs.Parts.{broken_in, linked, loaded, form_by, component_at, part_at}
 use Rattle.proc_sources.specs.Sources.{sourced}
-use Rattle.lcm_cli.specs.Commands.{linked_parts, linked_image}
-use Rattle.lcm_cli.proofs.Linking.{image_with}
+use Rattle.link_tool.specs.Linked.{linked_parts, linked_image}
+use Rattle.link_tool.proofs.Offers.{image_with}
 
 -- what comes of two plans that are joined
 abbrev pub Split : {A B : Type 0} → Plan A → (A → Plan B) → FilesSeen → Result B Refusal → FilesSeen → Type 0

@@ -2,8 +2,8 @@
 use Rattle.std.proofs.Common.{ℕ, List, refl, sym, ap, subst, inl, inr}
 use Rattle.std.specs.Prelude.{Ok}
 use Rattle.outside_io.specs.FilesSeen.{FilesSeen}
-use Rattle.lcm_cli.specs.declared.status.Status.{Status}
-use Rattle.lcm_cli.specs.declared.status.Status.TheVariants.{Done}
+use Rattle.refusal_lines.specs.declared.status.Status.{Status}
+use Rattle.refusal_lines.specs.declared.status.Status.TheVariants.{Done}
 use Rattle.lcm_cli.specs.declared.ready.ReadyTask.{ReadyTask}
 use Rattle.lcm_cli.specs.declared.ready.ReadyTask.TheVariants as ready
 use Rattle.file_plans.specs.Plans.{Plan}

@@ -1,7 +1,5 @@
 pub mod Sinks
-pub mod FirstOf
 pub mod Given
-pub mod Linking
 pub mod Making
 pub mod Ends
 pub mod Tasks

@@ -1,10 +1,9 @@
 -- Plans that read nothing, and the loads that they make.
-use Rattle.std.proofs.Common.{◌≡◌, ◌⊎◌, ℕ, List, [], ◌∷◌, refl, sym, ap, subst, ◌∙◌, inl, inr}
+use Rattle.std.proofs.Common.{◌≡◌, ◌⊎◌, ℕ, [], ◌∷◌, refl, sym, ap, subst, ◌∙◌, inl, inr}
 use Rattle.std.proofs.Common.{true, false}
-use Rattle.std.specs.Prelude.{Result, Ok, Err, IfOk}
+use Rattle.std.specs.Prelude.{Result, Ok, Err}
 use Rattle.outside_io.specs.FilesSeen.{FilesSeen}
 use Rattle.component_linker.specs.Accepted.{accepted}
-use Rattle.component_linker.specs.Parts.{PartSeen}
 use Rattle.component_linker.specs.Started.{StartSeen}
 use Rattle.image_loader.specs.Image.{ImageSeen}
 use Rattle.generated_load.specs.declared.TheConstants.{LOAD_STACK}
@@ -14,39 +13,19 @@ use Rattle.proc_sources.specs.Sources.{sourced}
 use Rattle.proc_language.specs.declared.dialect.Dialect.TheVariants.{Plain}
 use Rattle.file_plans.specs.declared.refusal.Refusal.{Refusal}
 use Rattle.file_plans.specs.declared.refusal.Refusal.TheVariants as refusal
-use Rattle.file_plans.specs.declared.refusal.Stop.{Stop}
-use Rattle.file_plans.specs.declared.refusal.Stop.TheVariants.{Refused, NoMemory}
-use Rattle.file_plans.specs.Plans.{Plan, Ends, Made, ◌>>=◌, unless, Comes, Meets}
-use Rattle.component_linker.specs.LinkedStarts.{IsStartOf}
-use Rattle.lcm_cli.specs.Parts.{broken_in, linked}
-use Rattle.lcm_cli.specs.Loads.{load_module, load_other, load_parts, load_image}
-use Rattle.lcm_cli.specs.ReadyTasks.{without, MeetsStart, FollowsTask}
+use Rattle.file_plans.specs.Plans.{Plan, Ends, Made, ◌>>=◌, unless, Comes}
+use Rattle.link_tool.specs.Parts.{broken_in, linked}
+use Rattle.link_tool.specs.Loads.{load_module, load_other, load_parts, load_image}
+use Rattle.lcm_cli.specs.ReadyTasks.{FollowsTask}
+use Rattle.link_tool.specs.Linked.{MeetsStart}
 use Rattle.lcm_cli.specs.Commands.{Task, Run, Totals, for_task}
 use Rattle.lcm_cli.specs.declared.ready.ReadyTask.TheVariants as ready
 use Rattle.file_plans.proofs.Offers.{comes_same}
 use Rattle.lcm_cli.proofs.Tasks.{task_done}
 use Rattle.lcm_cli.proofs.Ends.{Never, same_err, not_made, never_unless, never_bind}
-use Rattle.lcm_cli.proofs.Linking.{image_with}
+use Rattle.link_tool.proofs.Offers.{image_with}
 
 -- ---- bodies
-
-pub meets_bind : {A B : Type 0} (p : Plan A) (f : A → Plan B) (x : A) (r : Result B Stop) → p ≡ Made x
-    → Meets (f x) r → Meets (p >>= f) r
-meets_bind p f x r e m = rw e m
-
-pub meets_end : {A B : Type 0} (p : Plan A) (f : A → Plan B) (s : Stop) → Meets p (Err s)
-    → Meets (p >>= f) (Err s)
-meets_end p f (Refused why) m = rw m refl
-meets_end p f NoMemory m = tt
-
--- the parts were made, and linking them gave this
-pub load_starts : (load : Workload) (parts : List PartSeen) (r : Result StartSeen Stop)
-    → load_parts load ≡ Made parts → Meets (unless refusal.Rule (linked parts LOAD_STACK)) (without r)
-    → IfOk r (IsStartOf parts LOAD_STACK) → MeetsStart (load_image load) r
-unfolding load_image
-load_starts load parts (Ok s) e m links = (image_with LOAD_STACK parts, rw (e, m) refl, links)
-load_starts load parts (Err (Refused why)) e m links = rw (e, m) refl
-load_starts load parts (Err NoMemory) e m links = tt
 
 -- the task of a load that was made
 abbrev pub task_of : ℕ → ImageSeen → Task

@@ -9,8 +9,8 @@ use Rattle.image_loader.specs.Image.{ImageSeen}
 use Rattle.generated_load.specs.Loads.{load_of, load_steps}
 use Rattle.file_plans.specs.declared.refusal.Refusal.{Refusal}
 use Rattle.file_plans.specs.Plans.{Comes}
-use Rattle.lcm_cli.specs.declared.status.Status.{Status}
-use Rattle.lcm_cli.specs.Loads.{load_image}
+use Rattle.refusal_lines.specs.declared.status.Status.{Status}
+use Rattle.link_tool.specs.Loads.{load_image}
 use Rattle.lcm_cli.specs.Commands.{Task, Totals, for_task, plan_in}
 use Rattle.lcm_cli.specs.Answers.{Answer, Outside, with_files, ran, IsAnswerOf, AnswersWhole, Answers}
 use Rattle.lcm_cli.specs.Causes.{IsRunStatus, LoadGiven}

@@ -11,7 +11,7 @@ use Rattle.proc_semantics.proofs.Offers.{meanings_leave}
 use Rattle.file_plans.specs.declared.refusal.Refusal.{Refusal}
 use Rattle.file_plans.specs.Plans.{Plan, Comes}
 use Rattle.meaning_tool.specs.Subjects.{Subject, told_of, subject_in}
-use Rattle.lcm_cli.specs.declared.status.Status.{Status}
+use Rattle.refusal_lines.specs.declared.status.Status.{Status}
 use Rattle.lcm_cli.specs.Commands.{Task, Tell, plan_of, plan_in}
 use Rattle.lcm_cli.specs.Bytes.{Makes}
 use Rattle.lcm_cli.specs.Answers.{Answer, Outside, with_files, tells, IsAnswerOf, AnswersWhole, Answers}

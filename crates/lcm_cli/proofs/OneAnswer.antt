@@ -16,7 +16,7 @@ use Rattle.file_plans.specs.Plans.{Plan, Reads, Ends, Made}
 use Rattle.lcm_cli.specs.Commands.{Task, Run, Trace, Reach, Debug, Put, Write, Tell}
 use Rattle.lcm_cli.specs.Commands.{plan_in}
 use Rattle.lcm_cli.specs.Answers.{Answer, IsAnswerOf, writes, ran, ran_overlay, Settles, IsWritten}
-use Rattle.lcm_cli.specs.declared.status.Status.TheVariants.{Done}
+use Rattle.refusal_lines.specs.declared.status.Status.TheVariants.{Done}
 use Rattle.lcm_cli.proofs.OneStart.{one_start}
 use Rattle.lcm_cli.proofs.OneOverlay.{one_overlay}
 

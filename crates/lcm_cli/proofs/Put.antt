@@ -21,19 +21,20 @@ use Rattle.generated_load.specs.Loads.{load_of}
 use Rattle.lcm_machine.specs.Run.{answer as last_step, plain}
 use Rattle.file_plans.specs.declared.refusal.Refusal.{Refusal}
 use Rattle.file_plans.specs.declared.refusal.Refusal.TheVariants as refusal
-use Rattle.lcm_cli.specs.declared.status.Status.{Status}
-use Rattle.lcm_cli.specs.declared.status.Status.TheVariants as status
-use Rattle.lcm_cli.specs.Refusals.{refusal_status, image_status}
+use Rattle.refusal_lines.specs.declared.status.Status.{Status}
+use Rattle.refusal_lines.specs.declared.status.Status.TheVariants as status
+use Rattle.refusal_lines.specs.Refusals.{refusal_status, image_status}
 use Rattle.file_plans.specs.Plans.{Plan, Reads, Ends, Made, whole as came_whole, too_long, unread, Comes}
-use Rattle.lcm_cli.specs.Parts.{component_at, part_at}
+use Rattle.link_tool.specs.Parts.{component_at, part_at}
 use Rattle.source_events.specs.declared.MeaningEnd.{MeaningEnd}
 use Rattle.source_events.specs.declared.MeaningEnd.TheVariants as end
 use Rattle.meaning_tool.specs.Subjects.{told_of, module_at, subject_in}
 use Rattle.lcm_cli.specs.Audits.{audit_at}
 use Rattle.lcm_cli.specs.Commands.{Task, Run, Trace, Reach, Debug, Put, Write, Tell}
 use Rattle.lcm_cli.specs.Commands.{Content, OfModule, spelling_of, IsReadAgain}
-use Rattle.lcm_cli.specs.Commands.{linked_in, link_task, component_task, plan_of, plan_in}
-use Rattle.lcm_cli.specs.Loads.{load_image}
+use Rattle.lcm_cli.specs.Commands.{link_task, component_task, plan_of, plan_in}
+use Rattle.link_tool.specs.Linked.{linked_in}
+use Rattle.link_tool.specs.Loads.{load_image}
 use Rattle.lcm_cli.specs.Answers.{Answer, NewFile, Outside, end_status, meaning_status, ran, ran_overlay}
 use Rattle.lcm_cli.specs.Answers.{tells}
 use Rattle.lcm_cli.specs.Answers.{puts}

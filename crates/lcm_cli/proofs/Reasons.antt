@@ -23,8 +23,8 @@ use Rattle.file_plans.specs.Plans.{Plan, Reads, Ends, Made, ◌>>=◌, unless, e
 use Rattle.file_plans.specs.Plans.{Comes}
 use Rattle.component_linker.specs.Accepted.{accepted}
 use Rattle.command_words.specs.Part.{is_trusted_mark}
-use Rattle.lcm_cli.specs.Parts.{broken_in, linked, loaded, form_by, component_at, part_at}
-use Rattle.lcm_cli.specs.Commands.{linked_parts, linked_image, linked_in}
+use Rattle.link_tool.specs.Parts.{broken_in, linked, loaded, form_by, component_at, part_at}
+use Rattle.link_tool.specs.Linked.{linked_parts, linked_image, linked_in}
 use Rattle.proc_sources.specs.declared.fault.SourceFault.{SourceFault}
 use Rattle.proc_sources.specs.Sources.{sourced}
 use Rattle.proc_language.specs.declared.dialect.Dialect.{Dialect}
@@ -33,7 +33,7 @@ use Rattle.lcm_cli.specs.Causes.{IsUndecoded, IsUnassembled, IsUnsourced, IsUnco
 use Rattle.lcm_cli.specs.Causes.{IsUnaudited, PartBreaks, SomeBreaks}
 use Rattle.lcm_cli.specs.Causes.{AllBreak, LinkBreaks, LinkedCame}
 use Rattle.lcm_cli.proofs.Ends.{comes_split, same_err, ended_unless, not_made, no_rule}
-use Rattle.lcm_cli.proofs.Linking.{image_with, loaded_read}
+use Rattle.link_tool.proofs.Offers.{image_with, loaded_read}
 
 -- ---- the turns of files
 

@@ -41,10 +41,11 @@ use Rattle.meaning_tool.specs.Subjects.{Subject, language_of, module_at, feed_at
 use Rattle.meaning_tool.specs.Subjects.{subject_in}
 use Rattle.meaning_tool.specs.Subjects.{told_of}
 use Rattle.command_words.specs.Part.{is_trusted_mark}
-use Rattle.lcm_cli.specs.declared.status.Status.TheVariants.{Done}
-use Rattle.lcm_cli.specs.Parts.{broken_in, linked, loaded, form_by, HasForm, component_at, part_at}
+use Rattle.refusal_lines.specs.declared.status.Status.TheVariants.{Done}
+use Rattle.link_tool.specs.Parts.{broken_in, linked, loaded, form_by, HasForm, component_at, part_at}
 use Rattle.lcm_cli.specs.Debugs.{unscripted, script_at}
-use Rattle.lcm_cli.specs.Commands.{Task, Tell, Debug, linked_parts, linked_image, linked_in, link_task}
+use Rattle.lcm_cli.specs.Commands.{Task, Tell, Debug, link_task}
+use Rattle.link_tool.specs.Linked.{linked_parts, linked_image, linked_in}
 use Rattle.lcm_cli.specs.Commands.{component_task, debug_plan}
 use Rattle.lcm_cli.specs.Commands.{for_task, plan_of}
 use Rattle.lcm_cli.specs.Answers.{NewFile, Answer, IsAnswerOf, IsWritten, tells, puts, writes}

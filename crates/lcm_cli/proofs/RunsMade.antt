@@ -34,11 +34,12 @@ use Rattle.lcm_machine.specs.declared.Step.TheVariants.{Went, Halted, Failed}
 use Rattle.lcm_machine.specs.Run.{answer as last_step, plain}
 use Rattle.file_plans.specs.declared.refusal.Refusal.{Refusal}
 use Rattle.file_plans.specs.declared.refusal.Refusal.TheVariants as refusal
-use Rattle.lcm_cli.specs.declared.status.Status.{Status}
-use Rattle.lcm_cli.specs.declared.status.Status.TheVariants as status
-use Rattle.lcm_cli.specs.Refusals.{refusal_text, refusal_status, image_status}
+use Rattle.refusal_lines.specs.declared.status.Status.{Status}
+use Rattle.refusal_lines.specs.declared.status.Status.TheVariants as status
+use Rattle.refusal_lines.specs.Refusals.{refusal_text, refusal_status, image_status}
 use Rattle.file_plans.specs.Plans.{Plan, Comes}
-use Rattle.lcm_cli.specs.Commands.{Lines, Task, linked_in, link_task, plan_of, plan_in}
+use Rattle.lcm_cli.specs.Commands.{Lines, Task, link_task, plan_of, plan_in}
+use Rattle.link_tool.specs.Linked.{linked_in}
 use Rattle.lcm_cli.specs.Bytes.{Makes}
 use Rattle.lcm_cli.specs.Answers.{Answer, NewFile, Outside, with_files, end_status, writes, ran, ran_overlay}
 use Rattle.lcm_cli.specs.Answers.{refused}

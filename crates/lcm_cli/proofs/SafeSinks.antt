@@ -10,7 +10,7 @@ use Rattle.command_words.specs.declared.command.LinkDeed.TheVariants as link_dee
 use Rattle.command_words.specs.declared.command.Command.{Command}
 use Rattle.command_words.specs.declared.command.Command.TheVariants.{Links}
 use Rattle.lcm_machine.specs.Run.{answer as last_step, plain}
-use Rattle.lcm_cli.specs.declared.status.Status.TheVariants as status
+use Rattle.refusal_lines.specs.declared.status.Status.TheVariants as status
 use Rattle.file_plans.specs.Plans.{Comes}
 use Rattle.lcm_cli.specs.Commands.{plan_in}
 use Rattle.lcm_cli.specs.Answers.{Answer, outside, read_in}

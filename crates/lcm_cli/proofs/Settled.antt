@@ -5,7 +5,7 @@ use Rattle.outside_io.specs.Counts.{Rose}
 use Rattle.outside_io.specs.FilesSeen.{FilesSeen}
 use Rattle.outside_io.specs.Whole.{OnlyGave}
 use Rattle.file_plans.specs.declared.refusal.Refusal.{Refusal}
-use Rattle.lcm_cli.specs.declared.status.Status.{Status}
+use Rattle.refusal_lines.specs.declared.status.Status.{Status}
 use Rattle.file_plans.specs.Plans.{Plan, Reads, Ends, Made, whole as came_whole, too_long, unread, Comes}
 use Rattle.lcm_cli.specs.Commands.{Task}
 use Rattle.lcm_cli.specs.Answers.{Outside, NewFile, IsPut, whole, unput, unwritten, Answers, answer, nothing}

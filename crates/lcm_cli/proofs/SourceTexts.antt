@@ -16,7 +16,7 @@ use Rattle.run_feed.specs.Feed.{fed}
 use Rattle.meaning_text.specs.Text.{told_text}
 use Rattle.trace_tool.specs.Layout.{layout}
 use Rattle.source_starts.specs.RunMeans.{went_out, came_in}
-use Rattle.lcm_cli.specs.declared.status.Status.{Status}
+use Rattle.refusal_lines.specs.declared.status.Status.{Status}
 use Rattle.lcm_cli.specs.Answers.{Outside, meaning_status}
 use Rattle.lcm_cli.specs.Causes.{Started, text_of_run}
 use Rattle.lcm_cli.specs.SourceRuns.{TellsOfRun, MeanTellsRuns}

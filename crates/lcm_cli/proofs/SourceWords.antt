@@ -30,7 +30,7 @@ use Rattle.file_plans.specs.declared.refusal.Refusal.{Refusal}
 use Rattle.file_plans.specs.declared.refusal.Refusal.TheVariants as refusal
 use Rattle.file_plans.specs.Plans.{Plan, Made, each_at, whole, too_long, unread, Comes}
 use Rattle.command_words.specs.Part.{is_trusted_mark}
-use Rattle.lcm_cli.specs.Parts.{broken_in, form_by, HasForm, component_at, part_at, IsPartOf}
+use Rattle.link_tool.specs.Parts.{broken_in, form_by, HasForm, component_at, part_at, IsPartOf}
 use Rattle.lcm_cli.specs.SourceRuns.{AllSources, SourcesCame}
 use Rattle.lcm_cli.proofs.Ends.{comes_split}
 use Rattle.lcm_cli.proofs.Modules.{unless_came}

@@ -23,7 +23,7 @@ use Rattle.linked_modules.specs.Among.{LinkedModulesKeepRules}
 use Rattle.module_rules.specs.Rules.{stack_base_of}
 use Rattle.run_items.specs.Items.{TextsTellItems}
 use Rattle.trace_tool.specs.Layout.{layout}
-use Rattle.lcm_cli.specs.declared.status.Status.{Status}
+use Rattle.refusal_lines.specs.declared.status.Status.{Status}
 use Rattle.lcm_cli.specs.Commands.{plan_in}
 use Rattle.lcm_cli.specs.Answers.{Outside, Answers, read_in}
 use Rattle.lcm_cli.specs.Causes.{Started, RunGiven}

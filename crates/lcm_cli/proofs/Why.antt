@@ -17,11 +17,12 @@ use Rattle.image_loader.specs.declared.fault.ImageFault.{ImageFault}
 use Rattle.file_plans.specs.declared.refusal.Refusal.{Refusal}
 use Rattle.file_plans.specs.declared.refusal.Refusal.TheVariants as refusal
 use Rattle.file_plans.specs.Plans.{Plan, Made, Comes}
-use Rattle.lcm_cli.specs.Parts.{component_at, part_at}
+use Rattle.link_tool.specs.Parts.{component_at, part_at}
 use Rattle.meaning_tool.specs.Subjects.{module_at, subject_in}
-use Rattle.lcm_cli.specs.Commands.{Task, linked_in, for_task, link_task, component_task, plan_of, plan_in}
+use Rattle.lcm_cli.specs.Commands.{Task, for_task, link_task, component_task, plan_of, plan_in}
+use Rattle.link_tool.specs.Linked.{linked_in}
 use Rattle.lcm_cli.specs.Commands.{debug_plan}
-use Rattle.lcm_cli.specs.Loads.{load_image}
+use Rattle.link_tool.specs.Loads.{load_image}
 use Rattle.lcm_cli.specs.Causes.{IsUnread, IsLong, IsUndecoded, IsUncompiled, IsUnassembled, IsUnloaded}
 use Rattle.lcm_cli.specs.Causes.{IsUnscripted, IsUnaudited}
 use Rattle.lcm_cli.specs.Causes.{IsUnmade, Breaks, IsUnfed}

@@ -22,21 +22,21 @@ use Rattle.source_events.specs.declared.Told.{Told}
 use Rattle.meaning_text.specs.Text.{told_text}
 use Rattle.meaning_tool.specs.Subjects.{told_of}
 use Rattle.file_plans.specs.declared.TheConstants.{LONGEST_FILE}
-use Rattle.lcm_cli.specs.declared.status.Status.{Status}
-use Rattle.lcm_cli.specs.declared.status.Status.TheVariants.{Done, MachineFailed, StepsUsed}
-use Rattle.lcm_cli.specs.declared.status.Status.TheVariants.{WriteFault, NoMemory}
+use Rattle.refusal_lines.specs.declared.status.Status.{Status}
+use Rattle.refusal_lines.specs.declared.status.Status.TheVariants.{Done, MachineFailed, StepsUsed}
+use Rattle.refusal_lines.specs.declared.status.Status.TheVariants.{WriteFault, NoMemory}
 use Rattle.command_words.specs.declared.command.Command.{Command}
 use Rattle.file_plans.specs.declared.refusal.Refusal.{Refusal}
 use Rattle.file_plans.specs.declared.refusal.Refusal.TheVariants.{TooLong}
 use Rattle.lcm_cli.specs.declared.ready.ReadyTask.{ReadyTask}
 use Rattle.lcm_cli.specs.declared.ready.ReadyTask.TheVariants as ready
-use Rattle.lcm_cli.specs.Refusals.{refusal_text, refusal_status}
+use Rattle.refusal_lines.specs.Refusals.{refusal_text, refusal_status}
 use Rattle.file_plans.specs.Plans.{Plan, Reads, Ends, Made, Comes}
 use Rattle.lcm_cli.specs.Bytes.{bytes_of}
 use Rattle.lcm_cli.specs.Commands.{Telling, Lines, Totals, Task, Run, Trace, Reach, Debug, Put, Write}
 use Rattle.lcm_cli.specs.Commands.{Tell, spelling_of, plan_in}
 use Rattle.lcm_cli.specs.Commands.{IsReadAgain, ok_text}
-use Rattle.lcm_cli.specs.Loads.{totals_text}
+use Rattle.lcm_cli.specs.Totals.{totals_text}
 
 -- a file that is put, by its name and its bytes
 pub record NewFile : Type 0 where

@@ -77,22 +77,25 @@ use Rattle.meaning_tool.specs.Subjects.{Subject, told_of, module_at, feed_line}
 use Rattle.file_plans.specs.declared.TheConstants.{LONGEST_FILE}
 use Rattle.file_plans.specs.declared.refusal.Refusal.{Refusal}
 use Rattle.file_plans.specs.declared.refusal.Refusal.TheVariants as refusal
-use Rattle.lcm_cli.specs.declared.status.Status.{Status}
-use Rattle.lcm_cli.specs.declared.status.Status.TheVariants.{Done, MachineFailed, StepsUsed, Usage, ReadFault}
-use Rattle.lcm_cli.specs.declared.status.Status.TheVariants.{WriteFault, NoMemory, TooLong, AsmRefused}
-use Rattle.lcm_cli.specs.declared.status.Status.TheVariants.{SourceRefused, FileRefused, RuleBroken}
-use Rattle.lcm_cli.specs.declared.status.Status.TheVariants.{AuditRefused}
-use Rattle.lcm_cli.specs.Refusals.{refusal_text, audit_text, image_status}
+use Rattle.refusal_lines.specs.declared.status.Status.{Status}
+use Rattle.refusal_lines.specs.declared.status.Status.TheVariants.{Done, MachineFailed, StepsUsed, Usage}
+use Rattle.refusal_lines.specs.declared.status.Status.TheVariants.{ReadFault}
+use Rattle.refusal_lines.specs.declared.status.Status.TheVariants.{WriteFault, NoMemory, TooLong, AsmRefused}
+use Rattle.refusal_lines.specs.declared.status.Status.TheVariants.{SourceRefused, FileRefused, RuleBroken}
+use Rattle.refusal_lines.specs.declared.status.Status.TheVariants.{AuditRefused}
+use Rattle.refusal_lines.specs.Refusals.{refusal_text, audit_text, image_status}
 use Rattle.file_plans.specs.Plans.{Plan, Reads, Ends, Made, each_at, Comes}
 use Rattle.component_linker.specs.Accepted.{accepted}
 use Rattle.command_words.specs.Part.{is_trusted_mark}
-use Rattle.lcm_cli.specs.Parts.{linked, loaded, component_at, part_at}
+use Rattle.link_tool.specs.Parts.{linked, loaded, component_at, part_at}
 use Rattle.lcm_cli.specs.Commands.{Content, spelling_of, IsReadAgain, Telling, Run, Trace, Put, Write}
 use Rattle.lcm_cli.specs.Commands.{Task, Reach, Tell}
 use Rattle.lcm_cli.specs.Commands as task
-use Rattle.lcm_cli.specs.Loads.{load_image, totals_text}
+use Rattle.link_tool.specs.Loads.{load_image}
+use Rattle.lcm_cli.specs.Totals.{totals_text}
 use Rattle.lcm_cli.specs.Debugs.{script_line}
-use Rattle.lcm_cli.specs.Commands.{ok_text, linked_in, link_task, plan_of, plan_in}
+use Rattle.lcm_cli.specs.Commands.{ok_text, link_task, plan_of, plan_in}
+use Rattle.link_tool.specs.Linked.{linked_in}
 use Rattle.lcm_cli.specs.Bytes.{Makes}
 use Rattle.lcm_cli.specs.Answers.{Outside, Answers, read_in, IsComplete, end_status, meaning_status}
 

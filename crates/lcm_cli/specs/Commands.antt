@@ -1,8 +1,6 @@
 -- What each command does: it reads, with its files in the order of refusals, and what came is for a task.
 use Rattle.std.specs.Prelude.{◌≡◌, ℕ, List, length, codes, Option, Some, None, Ok}
-use Rattle.command_words.specs.declared.part.PartWord.{PartWord}
 use Rattle.command_words.specs.declared.command.Linked.{Linked}
-use Rattle.command_words.specs.declared.command.Linked.TheVariants as what
 use Rattle.command_words.specs.declared.command.LinkDeed.{LinkDeed}
 use Rattle.command_words.specs.declared.command.LinkDeed.TheVariants as link_deed
 use Rattle.command_words.specs.declared.command.ComponentDeed.{ComponentDeed}
@@ -19,13 +17,14 @@ use Rattle.generated_load.specs.declared.load.Workload.{Workload}
 use Rattle.generated_load.specs.Loads.{load_of, load_steps}
 use Rattle.image_loader.specs.Image.{ImageSeen, image_bytes}
 use Rattle.file_plans.specs.declared.refusal.Refusal.TheVariants as refusal
-use Rattle.file_plans.specs.Plans.{Plan, Ends, Made, ◌>>=◌, file, unless, each_at}
+use Rattle.file_plans.specs.Plans.{Plan, Ends, Made, ◌>>=◌, file}
 use Rattle.alike_modules.specs.Alike.{IsParsedBack, IsSourceOf}
 use Rattle.meaning_tool.specs.Subjects.{Subject, module_at, subject_in}
 use Rattle.proc_language.specs.declared.module.ModuleFields.{ModuleFields}
 use Rattle.proc_print.specs.Printed.{printed}
-use Rattle.lcm_cli.specs.Parts.{linked, loaded, component_at, part_at}
-use Rattle.lcm_cli.specs.Loads.{load_image}
+use Rattle.link_tool.specs.Parts.{loaded, component_at, part_at}
+use Rattle.link_tool.specs.Linked.{linked_in}
+use Rattle.link_tool.specs.Loads.{load_image}
 use Rattle.lcm_cli.specs.Debugs.{script_at}
 use Rattle.lcm_cli.specs.Audits.{audit_at}
 
@@ -67,25 +66,6 @@ pub data Task : Type 0 where
 
 abbrev pub ok_text : List ℕ
 ok_text = codes "ok\n"
-
--- ---- parts that link, with the size of their stack
-
--- those of words: the parts, and then the rules L of all of them
-unfoldable pub linked_parts : List PartWord → ℕ → Plan ImageSeen
-linked_parts words size = do
-  parts ← each_at part_at 0 words
-  _ ← unless refusal.Rule (linked parts size)
-  Made (record { stack = size; parts = parts })
-
--- those of an image: the file, and what its bytes are
-unfoldable pub linked_image : List ℕ → Plan ImageSeen
-linked_image name = do
-  bytes ← file name 0
-  unless refusal.Image (loaded bytes)
-
-abbrev pub linked_in : Linked → Plan ImageSeen
-linked_in (what.Parts words size) = linked_parts words size
-linked_in (what.Image name) = linked_image name
 
 -- ---- what is done with what came
 

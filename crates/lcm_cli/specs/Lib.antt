@@ -1,7 +1,4 @@
-pub mod Status
-pub mod Refusals
-pub mod Parts
-pub mod Loads
+pub mod Totals
 pub mod Debugs
 pub mod Audits
 pub mod Commands

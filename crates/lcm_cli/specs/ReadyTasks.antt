@@ -1,20 +1,20 @@
 -- A ready task of the code, beside the task of the plan.
-use Rattle.std.specs.Prelude.{◌≡◌, ℕ, List, Result, Ok, Err}
+use Rattle.std.specs.Prelude.{◌≡◌, ℕ, List, Result}
 use Rattle.outside_io.specs.FilesSeen.{FilesSeen}
 use Rattle.authority_report.specs.Text.{IsReachText}
 use Rattle.generated_load.specs.Loads.{load_steps}
 use Rattle.component_linker.specs.Started.{StartSeen}
 use Rattle.component_linker.specs.LinkedStarts.{IsStartOf}
 use Rattle.overlay_machine.specs.Seen.{IsOverlayOf}
-use Rattle.image_loader.specs.Image.{ImageSeen, image_bytes}
+use Rattle.image_loader.specs.Image.{ImageSeen}
 use Rattle.lcm_cli.specs.declared.ready.ReadyTask.{ReadyTask}
 use Rattle.lcm_cli.specs.declared.ready.ReadyTask.TheVariants as ready
 use Rattle.file_plans.specs.declared.refusal.Stop.{Stop}
-use Rattle.file_plans.specs.Plans.{Plan, Made, Meets, FollowsAs}
+use Rattle.file_plans.specs.Plans.{Plan, FollowsAs}
 use Rattle.meaning_tool.specs.Subjects.{Subject, IsMeant}
 use Rattle.lcm_cli.specs.Commands.{Lines, Totals, Task, Run, Trace, Reach, Debug, Put, Write, Tell}
 use Rattle.lcm_cli.specs.Commands.{Content}
-use Rattle.lcm_cli.specs.Commands.{OfImage, spelling_of}
+use Rattle.lcm_cli.specs.Commands.{spelling_of}
 use Rattle.lcm_cli.specs.Commands.{IsReadAgain}
 use Rattle.lcm_cli.specs.Commands.{ok_text}
 
@@ -45,21 +45,3 @@ Does task (ready.Tell meant) = (s : Subject) × (fuel : ℕ) × (task ≡ Tell s
 -- a ready task that does the task
 abbrev pub FollowsTask : Plan Task → FilesSeen → Result ReadyTask Stop → FilesSeen → Type 0
 FollowsTask = FollowsAs Does
-
--- the start of the image
-abbrev pub FollowsStart : Plan ImageSeen → FilesSeen → Result StartSeen Stop → FilesSeen → Type 0
-FollowsStart = FollowsAs (λ i start. IsStartOf i.parts i.stack start)
-
--- the bytes of the image, which are loaded as just this image
-abbrev pub FollowsImage : Plan ImageSeen → FilesSeen → Result (List ℕ) Stop → FilesSeen → Type 0
-FollowsImage = FollowsAs (λ i bytes. IsReadAgain (OfImage i) × (bytes ≡ image_bytes i))
-
--- the start, of a plan that reads nothing
-abbrev pub MeetsStart : Plan ImageSeen → Result StartSeen Stop → Type 0
-MeetsStart plan (Ok start) = (i : ImageSeen) × (plan ≡ Made i) × IsStartOf i.parts i.stack start
-MeetsStart plan (Err stop) = Meets plan (Err stop)
-
--- an answer without what was made
-abbrev pub without : {A : Type 0} → Result A Stop → Result (Unit {0}) Stop
-without (Ok x) = Ok tt
-without (Err stop) = Err stop

@@ -16,7 +16,7 @@ use Rattle.proc_print.specs.Printed.{printed}
 use Rattle.proc_sources.specs.Sources.{module_in}
 use Rattle.alike_modules.specs.Alike.{IsParsedBack}
 use Rattle.file_plans.specs.declared.TheConstants.{LONGEST_FILE}
-use Rattle.lcm_cli.specs.declared.status.Status.TheVariants.{Done}
+use Rattle.refusal_lines.specs.declared.status.Status.TheVariants.{Done}
 use Rattle.lcm_cli.specs.Commands.{plan_of}
 use Rattle.lcm_cli.specs.Answers.{Answer, IsWritten, puts, writes}
 

@@ -8,7 +8,7 @@ use Rattle.command_words.specs.declared.command.Command.TheVariants.{Links}
 use Rattle.lcm_machine.specs.Run.{Run as Machine}
 use Rattle.file_plans.specs.declared.refusal.Refusal.{Refusal}
 use Rattle.file_plans.specs.Plans.{Plan, Comes}
-use Rattle.lcm_cli.specs.declared.status.Status.TheVariants.{WriteFault}
+use Rattle.refusal_lines.specs.declared.status.Status.TheVariants.{WriteFault}
 use Rattle.lcm_cli.specs.Commands.{Task, plan_in}
 use Rattle.lcm_cli.specs.Answers.{Answer, IsAnswerOf, Answers, outside}
 

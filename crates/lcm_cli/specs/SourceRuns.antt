@@ -29,17 +29,18 @@ use Rattle.trace_tool.specs.Layout.{layout}
 use Rattle.file_plans.specs.declared.TheConstants.{LONGEST_FILE}
 use Rattle.file_plans.specs.declared.refusal.Refusal.{Refusal}
 use Rattle.file_plans.specs.Plans.{Comes}
-use Rattle.lcm_cli.specs.declared.status.Status.{Status}
+use Rattle.refusal_lines.specs.declared.status.Status.{Status}
 use Rattle.command_words.specs.Part.{is_trusted_mark}
-use Rattle.lcm_cli.specs.Parts.{IsPartOf}
-use Rattle.lcm_cli.specs.Commands.{linked_in, plan_of}
+use Rattle.link_tool.specs.Parts.{IsPartOf}
+use Rattle.lcm_cli.specs.Commands.{plan_of}
+use Rattle.link_tool.specs.Linked.{linked_in}
 use Rattle.lcm_cli.specs.Bytes.{Makes}
-use Rattle.lcm_cli.specs.Refusals.{refusal_text}
+use Rattle.refusal_lines.specs.Refusals.{refusal_text}
 use Rattle.proc_semantics.specs.Meaning.{meaning}
 use Rattle.proc_semantics.specs.Fuel.{Prefix}
 use Rattle.meaning_text.specs.Text.{told_text}
 use Rattle.lcm_cli.specs.Answers.{Outside, meaning_status}
-use Rattle.lcm_cli.specs.declared.status.Status.TheVariants.{WriteFault}
+use Rattle.refusal_lines.specs.declared.status.Status.TheVariants.{WriteFault}
 use Rattle.lcm_cli.specs.Causes.{IsRunStatus, Started, IsMadeOf, RunGiven, text_of_run, MeaningGiven}
 
 -- every trusted word is a source

@@ -7,11 +7,11 @@ ghost use Rattle.lcm_cli.specs.Commands.{debug_plan};
 ghost use Rattle.lcm_cli.specs.ReadyTasks.{FollowsTask};
 
 use crate::ready::ReadyTask;
-use crate::start::start;
 use command_words::{FileName, Linked};
 use component_linker::Start;
 use debug_script::{Script, ScriptFault, script_of};
 use file_plans::{Refusal, Stop, read};
+use link_tool::start;
 use outside_io::Files;
 use std::alloc::Global;
 

@@ -6,7 +6,7 @@ ghost use Rattle.component_linker.specs.Pairs.{IsFirstBrokenIn};
 ghost use Rattle.component_linker.specs.Links.{rules_of_link, rule_at};
 ghost use Rattle.component_linker.specs.Standing.{placed};
 ghost use Rattle.image_loader.specs.Image.{ImageSeen, IsImage, image_bytes};
-ghost use Rattle.lcm_cli.specs.Parts.{linked, loaded};
+ghost use Rattle.link_tool.specs.Parts.{linked, loaded};
 ghost use Rattle.lcm_cli.specs.Commands.{plan_in};
 ghost use Rattle.lcm_cli.specs.Answers.{Answer, IsWritten};
 ghost use Rattle.lcm_cli.specs.SourceRuns.{MeanTellsRuns};

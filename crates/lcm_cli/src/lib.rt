@@ -4,13 +4,9 @@
 mod debugging;
 pub mod laws;
 mod lines;
-mod load;
-mod part;
 mod ready;
-mod refusal_line;
-mod start;
-mod status;
 mod top;
+mod totals;
 
-pub use status::Status;
+pub use refusal_lines::Status;
 pub use top::stk_main;

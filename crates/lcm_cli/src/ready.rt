@@ -1,7 +1,7 @@
 //! What is left to do once the files of a command came.
 ghost use Rattle.std.specs.Prelude.{◌≡◌, ◌≤◌, IfOk, IfErr, length, []};
 ghost use Rattle.command_words.specs.declared.command.LinkDeed.TheVariants as link_deed;
-ghost use Rattle.lcm_cli.specs.Parts.{part_at, component_at};
+ghost use Rattle.link_tool.specs.Parts.{part_at, component_at};
 ghost use Rattle.lcm_cli.specs.Audits.{audit_at};
 ghost use Rattle.run_audit.specs.Audit.{audited};
 ghost use Rattle.file_plans.specs.Plans.{Follows, Meets, unless};
@@ -9,16 +9,14 @@ ghost use Rattle.file_plans.specs.declared.refusal.Refusal.TheVariants as refusa
 ghost use Rattle.generated_load.specs.Loads.{load_of, load_steps};
 ghost use Rattle.outside_io.specs.FilesSeen.{FilesSeen};
 ghost use Rattle.lcm_cli.specs.Commands.{ok_text, OfModule, Run, Put, Write, Tell, Totals};
-ghost use Rattle.lcm_cli.specs.Commands.{linked_in, link_task, component_task, for_task, plan_of};
-ghost use Rattle.lcm_cli.specs.Loads.{load_image};
+ghost use Rattle.lcm_cli.specs.Commands.{link_task, component_task, for_task, plan_of};
+ghost use Rattle.link_tool.specs.Linked.{linked_in};
+ghost use Rattle.link_tool.specs.Loads.{load_image};
 ghost use Rattle.lcm_cli.specs.ReadyTasks.{Does, FollowsTask};
 ghost use Rattle.meaning_tool.specs.Subjects.{module_at, subject_in};
 ghost use Rattle.proc_names.specs.NameFaults.{name_faults};
 
 use crate::debugging::ready_debug;
-use crate::load::load_start;
-use crate::part::{component, part};
-use crate::start::{image_bytes, start};
 use alike_modules::laws::printed_modules_are_sources;
 use authority_report::reach_text;
 use cap_words::Items;
@@ -31,6 +29,7 @@ use debug_script::Script;
 use disassembler::disassemble;
 use file_plans::{Refusal, Stop, read};
 use generated_load::{Workload, load_of};
+use link_tool::{component, image_bytes, load_start, part, start};
 use meaning_tool::{Meaning, meant, module};
 use outside_io::Files;
 use overlay_machine::Overlay;

@@ -22,10 +22,8 @@ ghost use Rattle.lcm_cli.specs.Causes.{AuditTold};
 ghost use Rattle.lcm_cli.specs.SourceRuns.{AllSources, SourcesTold, ModulesTold};
 
 use crate::lines::write_lines;
-use crate::load::totals;
 use crate::ready::{ReadyTask, ready_of};
-use crate::refusal_line::{refusal_line, refusal_status};
-use crate::status::Status;
+use crate::totals::totals;
 use audited_runs::laws::runs_pass;
 use authority_report::laws::{reports_bound_influence, reports_bound_runs};
 use cap_words::Items;
@@ -44,6 +42,7 @@ use outside_io::{Files, Sink};
 use overlay_machine::Overlay;
 use overlay_machine::laws::a_start_has_one_overlay;
 use proc_sources::laws::sources_are_modules;
+use refusal_lines::{Status, refusal_line, refusal_status};
 use run_items::laws::texts_tell_items;
 use source_events::MeaningEnd;
 use source_starts::laws::{runs_mean, sources_show_nothing_else, stacks_begin};
@@ -176,7 +175,8 @@ fn meaning_status(end: MeaningEnd) -> Status
 
 // Writes the text of a meaning.
 fn give_meaning<S: Sink>(meant: &Meaning, out: &mut S) -> Status
-    ensures { WritesOrFails (S.seen out.old) meant.now.text (meaning_status meant.now.end) result (S.seen out.new) }
+    ensures { WritesOrFails (S.seen out.old) meant.now.text (meaning_status meant.now.end) result
+        (S.seen out.new) }
 {
     give_text(&meant.text, meaning_status(meant.end), out)
 }

@@ -4,9 +4,9 @@ use Rattle.outside_io.specs.FilesSeen.{FilesSeen}
 use Rattle.outside_io.specs.SinkSeen.{SinkSeen}
 use Rattle.lcm_machine.specs.Run.{Run as Machine}
 use Rattle.command_words.specs.Action.{asked_in}
-use Rattle.lcm_cli.specs.declared.status.Status.{Status}
-use Rattle.lcm_cli.specs.declared.status.Status.TheVariants.{NoMemory}
-use Rattle.lcm_cli.specs.Status.{status_number}
+use Rattle.refusal_lines.specs.declared.status.Status.{Status}
+use Rattle.refusal_lines.specs.declared.status.Status.TheVariants.{NoMemory}
+use Rattle.refusal_lines.specs.Status.{status_number}
 use Rattle.lcm_cli.specs.Answers.{outside}
 use Rattle.lcm_cli.specs.Causes.{Promised}
 

@@ -29,8 +29,8 @@ fn answered<F: Files, S: Sink>(alloc: Global, words: &Vec<String>, files: &mut F
     stk_main(alloc, words, files, out, &mut kept).number()
 }
 
-// The status of the process, whose arguments are these: the number of the top call's answer to the words behind
-// the first. A word that is no text makes the command line no command, as no words do.
+// The status of the process, whose arguments are these: the number of the top call's answer to the words
+// behind the first. A word that is no text makes the command line no command, as no words do.
 fn status<F: Files, S: Sink>(
     alloc: Global,
     args: io::Result<Args>,

@@ -1,5 +1,6 @@
 use Rattle.std.proofs.lemmas.Result.{err_from_is_err_and}
-use Rattle.lcm_cli.specs.Commands.{linked_in, debug_plan}
+use Rattle.lcm_cli.specs.Commands.{debug_plan}
+use Rattle.link_tool.specs.Linked.{linked_in}
 use Rattle.file_plans.proofs.Offers.{follows_end}
 use Rattle.lcm_cli.proofs.Debugs.{behind, few_owners, debug_follows, debug_stops}
 use Rattle.lcm_cli.proofs.debugging.ready_debug.Goals as goal

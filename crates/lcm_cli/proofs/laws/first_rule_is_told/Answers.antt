@@ -1,4 +1,4 @@
-use Rattle.lcm_cli.proofs.FirstOf.{linked_is}
+use Rattle.link_tool.proofs.Offers.{linked_is}
 use Rattle.lcm_cli.proofs.laws.first_rule_is_told.Goals as goal
 
 pub returns : goal.returns

@@ -1,4 +1,4 @@
-use Rattle.lcm_cli.proofs.Linking.{loaded_again}
+use Rattle.link_tool.proofs.Offers.{loaded_again}
 use Rattle.lcm_cli.proofs.laws.linked_images_are_loaded.Goals as goal
 
 pub returns : goal.returns

@@ -1,4 +1,4 @@
-use Rattle.std.proofs.Common.{◌≡◌, ◌<◌, ℕ, length, rules}
+use Rattle.std.proofs.Common.{◌≡◌, ◌<◌, length, rules}
 use Rattle.std.specs.Prelude.{Result, Ok, Err, OnErr}
 use Rattle.outside_io.specs.Writes.{FailsAtPiece}
 use Rattle.outside_io.proofs.Offers.{failed_writes}

@@ -1,7 +1,8 @@
 use Rattle.std.proofs.lemmas.Result.{err_from_is_err_and}
 use Rattle.command_words.specs.declared.command.LinkDeed.TheVariants.{Reach}
 use Rattle.lcm_cli.specs.declared.ready.ReadyTask.TheVariants as ready
-use Rattle.lcm_cli.specs.Commands.{linked_in, link_task}
+use Rattle.lcm_cli.specs.Commands.{link_task}
+use Rattle.link_tool.specs.Linked.{linked_in}
 use Rattle.file_plans.proofs.Offers.{comes_quiet}
 use Rattle.lcm_cli.proofs.RunsMade.{linked_as}
 use Rattle.lcm_cli.proofs.Tasks.{task_done, task_stops}

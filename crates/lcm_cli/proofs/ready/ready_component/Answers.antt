@@ -1,4 +1,4 @@
-use Rattle.lcm_cli.specs.Parts.{component_at}
+use Rattle.link_tool.specs.Parts.{component_at}
 use Rattle.lcm_cli.specs.Commands.{component_task}
 use Rattle.lcm_cli.proofs.Tasks.{task_follows, task_stops}
 use Rattle.lcm_cli.proofs.ready.ready_component.Goals as goal

@@ -1,6 +1,6 @@
 use Rattle.std.proofs.Common.{refl}
 use Rattle.lcm_cli.specs.declared.ready.ReadyTask.TheVariants.{Say}
-use Rattle.lcm_cli.specs.Parts.{part_at}
+use Rattle.link_tool.specs.Parts.{part_at}
 use Rattle.lcm_cli.specs.Commands.{Write, ok_text}
 use Rattle.lcm_cli.proofs.Tasks.{task_done, task_stops}
 use Rattle.lcm_cli.proofs.ready.ready_part.Goals as goal

@@ -1,7 +1,8 @@
 use Rattle.std.proofs.Common.{refl}
 use Rattle.command_words.specs.declared.command.LinkDeed.TheVariants.{Run}
 use Rattle.lcm_cli.specs.declared.ready.ReadyTask.TheVariants as ready
-use Rattle.lcm_cli.specs.Commands.{linked_in, link_task}
+use Rattle.lcm_cli.specs.Commands.{link_task}
+use Rattle.link_tool.specs.Linked.{linked_in}
 use Rattle.lcm_cli.proofs.Tasks.{task_done, task_stops}
 use Rattle.lcm_cli.proofs.ready.run.Goals as goal
 

@@ -1,7 +1,8 @@
 use Rattle.std.proofs.Common.{refl}
 use Rattle.command_words.specs.declared.command.LinkDeed.TheVariants.{Store}
 use Rattle.lcm_cli.specs.declared.ready.ReadyTask.TheVariants as ready
-use Rattle.lcm_cli.specs.Commands.{OfImage, linked_in, link_task}
+use Rattle.lcm_cli.specs.Commands.{OfImage, link_task}
+use Rattle.link_tool.specs.Linked.{linked_in}
 use Rattle.lcm_cli.proofs.Tasks.{task_done, task_stops}
 use Rattle.lcm_cli.proofs.ready.store.Goals as goal
 

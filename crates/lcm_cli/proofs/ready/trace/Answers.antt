@@ -2,7 +2,8 @@ use Rattle.std.proofs.Common.{refl}
 use Rattle.std.proofs.lemmas.Result.{err_from_is_err_and}
 use Rattle.command_words.specs.declared.command.LinkDeed.TheVariants.{Trace}
 use Rattle.lcm_cli.specs.declared.ready.ReadyTask.TheVariants as ready
-use Rattle.lcm_cli.specs.Commands.{linked_in, link_task}
+use Rattle.lcm_cli.specs.Commands.{link_task}
+use Rattle.link_tool.specs.Linked.{linked_in}
 use Rattle.file_plans.proofs.Offers.{comes_quiet}
 use Rattle.lcm_cli.proofs.Tasks.{task_done, task_stops}
 use Rattle.lcm_cli.proofs.ready.trace.Goals as goal

@@ -6,7 +6,7 @@ use Rattle.overlay_machine.specs.Seen.{OverlaySeen}
 use Rattle.trace_tool.specs.declared.run.RunEnd.{RunEnd}
 use Rattle.trace_tool.specs.declared.run.RunEnd.TheVariants.{Halted, Failed, Running, WriteFault}
 use Rattle.trace_tool.specs.Traces.{TracesTo, Traces}
-use Rattle.lcm_cli.specs.declared.status.Status.{Status}
+use Rattle.refusal_lines.specs.declared.status.Status.{Status}
 use Rattle.lcm_cli.specs.Answers.{Gives, whole, unwritten, outside, end_status, ran_overlay}
 use Rattle.lcm_cli.proofs.top.give_trace.Goals as goal
 

@@ -1,0 +1,4 @@
+pub mod FirstOf
+pub mod Linking
+pub mod Generated
+pub mod Offers
