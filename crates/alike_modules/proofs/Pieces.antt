@@ -11,11 +11,10 @@ use Rattle.proc_language.specs.Unplaced.{unplaced_name, unplaced_expr, unplaced_
 use Rattle.proc_language.specs.Unplaced.{unplaced_block, unplaced_import, unplaced_global, unplaced_param}
 use Rattle.proc_language.specs.Unplaced.{unplaced_proc, unplaced, IsAlike}
 use Rattle.proc_print.specs.Printed.{Piece, word, sign, spelled, named, between_signs, bracketed, signs_of}
-use Rattle.proc_print.specs.Printed.{expr_pieces, args_pieces, more_pieces, ended, in_curly}
-use Rattle.proc_print.specs.Printed.{stmt_pieces, block_pieces, import_pieces, global_pieces, param_pieces}
-use Rattle.proc_print.specs.Printed.{more_params, params_pieces, local_pieces, export_pieces}
-use Rattle.proc_print.specs.Printed.{proc_pieces, base_pieces, seal_pieces, header_pieces, module_pieces}
-use Rattle.proc_print.specs.Printed.{printed}
+use Rattle.proc_print.specs.Printed.{expr_pieces, args_pieces, more_pieces, ended, in_curly, stmt_pieces}
+use Rattle.proc_print.specs.Printed.{block_pieces, import_pieces, global_pieces, param_pieces, more_params}
+use Rattle.proc_print.specs.Printed.{params_pieces, local_pieces, export_pieces, proc_pieces, base_pieces}
+use Rattle.proc_print.specs.Printed.{seal_pieces, header_pieces, module_pieces, printed}
 use Rattle.alike_modules.proofs.Lists.{flat_of}
 use Rattle.alike_modules.proofs.Counts.{block_alike}
 

@@ -1,6 +1,5 @@
 -- Modules that are alike run as the same program.
-use Rattle.std.proofs.Common.{◌≡◌, refl, ◌∙◌, ap, sym, ℕ, ◌+◌, List, [], ◌∷◌, ◌++◌, map, pos}
-use Rattle.std.proofs.Common.{replicate}
+use Rattle.std.proofs.Common.{◌≡◌, refl, ◌∙◌, ap, sym, ℕ, ◌+◌, List, [], ◌∷◌, ◌++◌, map, pos, replicate}
 use Rattle.std.specs.Prelude.{is_some, unwrap_or}
 use Rattle.std.proofs.lemmas.List.{length-map}
 use Rattle.proc_language.specs.declared.tree.Name.{Name}
@@ -25,9 +24,8 @@ use Rattle.proc_program.specs.Program as run
 use Rattle.proc_program.specs.View.{args_of as args_view}
 use Rattle.proc_program.specs.StepView.{block_of as block_view}
 use Rattle.proc_program.specs.Lower.{words, place_by, variable_of, row_by, row_of, handle_by, handle_of}
-use Rattle.proc_program.specs.Lower.{passed_handle}
-use Rattle.proc_program.specs.Lower.{exp_of, args_of, step_of, steps_of, procedure_of, procedures_of}
-use Rattle.proc_program.specs.Lower.{globals_of, import_of, header_of, part_of}
+use Rattle.proc_program.specs.Lower.{passed_handle, exp_of, args_of, step_of, steps_of, procedure_of}
+use Rattle.proc_program.specs.Lower.{procedures_of, globals_of, import_of, header_of, part_of}
 use Rattle.alike_modules.proofs.Lists.{map_of, get_of}
 use Rattle.alike_modules.proofs.Counts.{block_alike, calls_alike, args_calls_alike, stmt_calls_alike}
 use Rattle.alike_modules.proofs.Counts.{block_calls_alike, proc_calls_alike, params_registers_alike}

@@ -11,8 +11,7 @@ use Rattle.std.proofs.lemmas.Option.{slice_get-map}
 use Rattle.component_check.specs.Places.{Test, plainly}
 use Rattle.component_check.specs.Verdict.{check_from}
 use Rattle.component_file.specs.Limits.{name_lt}
-use Rattle.component_linker.specs.Pairs.{by_part, never, once, passes, at_each, within_or}
-use Rattle.component_linker.specs.Pairs.{each_part}
+use Rattle.component_linker.specs.Pairs.{by_part, never, once, passes, at_each, within_or, each_part}
 use Rattle.component_linker.specs.Pairs.{each_part_then}
 use Rattle.proc_language.specs.declared.module.Proc.{Proc}
 use Rattle.proc_language.specs.declared.module.ModuleFields.{ModuleFields}

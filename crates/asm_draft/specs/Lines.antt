@@ -13,9 +13,8 @@ use Rattle.asm_fields.specs.declared.directives.Directive.TheVariants.{Of, Word}
 use Rattle.readers.specs.Answers.{AnswersAs}
 use Rattle.asm_fields.specs.Fault.{is_refusal}
 use Rattle.readers.specs.Readers.{Reader, ◌>>=◌, done, unless_none, holds}
-use Rattle.asm_fields.specs.Fields.{Input, place, kind_next}
-use Rattle.asm_fields.specs.Fields.{is_name_token, is_labelled, is_empty, name_or, name_at, proper_name_at}
-use Rattle.asm_fields.specs.Fields.{sign_at, dot, colon, end_at}
+use Rattle.asm_fields.specs.Fields.{Input, place, kind_next, is_name_token, is_labelled, is_empty, name_or}
+use Rattle.asm_fields.specs.Fields.{name_at, proper_name_at, sign_at, dot, colon, end_at}
 use Rattle.asm_fields.specs.Directives.{directive_named}
 use Rattle.asm_fields.specs.Words.{word_line}
 use Rattle.asm_fields.specs.Instrs.{row_named, shape_of, operands_at}

@@ -5,9 +5,8 @@ use Rattle.asm_labels.specs.declared.labels.Section.{Section}
 use Rattle.asm_labels.specs.declared.labels.Section.TheVariants as section
 use Rattle.asm_fields.specs.declared.directives.ItemKind.{ItemKind}
 use Rattle.asm_fields.specs.declared.directives.ItemKind.TheVariants.{Name, Stack, Closure, Movable, Seals}
-use Rattle.asm_fields.specs.declared.directives.ItemKind.TheVariants.{Linear}
-use Rattle.asm_fields.specs.declared.directives.ItemKind.TheVariants.{Code, Data, Import, Export, Site, Fail}
-use Rattle.asm_fields.specs.declared.directives.ItemKind.TheVariants.{Literal, Row}
+use Rattle.asm_fields.specs.declared.directives.ItemKind.TheVariants.{Linear, Code, Data, Import, Export}
+use Rattle.asm_fields.specs.declared.directives.ItemKind.TheVariants.{Site, Fail, Literal, Row}
 
 -- items stand in this order
 abbrev pub rank : ItemKind → ℕ

@@ -22,7 +22,7 @@ use Rattle.cap_words.specs.declared.Lin.TheVariants.{Normal, Linear}
 use Rattle.cap_words.specs.declared.CapFields.{CapFields}
 use Rattle.cap_words.specs.declared.SealFields.{SealFields}
 use Rattle.cap_words.specs.declared.Word.TheVariants as word
-use Rattle.cap_words.specs.Text.{perm_name, lin_name}
+use Rattle.cap_words.specs.Text.{perm_name, lin_name, named, perm_named, lin_named}
 use Rattle.cap_words.specs.Face.{CapInOrder}
 use Rattle.lcm_isa.specs.declared.Reg.{Reg}
 use Rattle.lcm_isa.specs.declared.Reg.TheVariants.{Pc, Rcode, Rdata, Stk, Dat, T1, T2, C1, C2, A0, A1, A2}
@@ -48,18 +48,15 @@ use Rattle.asm_fields.specs.Directives.{directive_name}
 use Rattle.readers.specs.Readers.{◌>>=◌, done}
 use Rattle.asm_fields.specs.Fields.{natural_at, Lexeme, is_sign, is_name_token, sign_at, proper_name_from}
 use Rattle.asm_fields.specs.Fields.{percent}
-use Rattle.cap_words.specs.Text.{named, perm_named, lin_named}
 use Rattle.cap_words.proofs.Offers.{perm_again, lin_again}
-use Rattle.asm_fields.specs.Names.{reg_named, ownership, shared_named}
-use Rattle.asm_fields.specs.Names.{kind_name}
+use Rattle.asm_fields.specs.Names.{reg_named, ownership, shared_named, kind_name}
 use Rattle.asm_fields.specs.Words.{i64_at, cap_at, seals_at, word_behind, word_line}
 use Rattle.asm_fields.specs.Instrs.{i32_at, Plain, Code, Data, reg_at, plain_at, last_at, last_if, reg_if}
 use Rattle.asm_fields.specs.Instrs.{shape_of, row_named, operands_at}
 use Rattle.asm_fields.specs.Operands.{address_at, stretch_at, Number, offset_at, shared_at}
 use Rattle.asm_fields.proofs.Again.{Alike, Again, Whole, Within, at_front, left, again_then, again_last}
 use Rattle.asm_fields.proofs.Again.{again_done, again_some, again_placed, again_meant, again_no_sign}
-use Rattle.asm_fields.proofs.Again.{again_integer, again_natural, whole_then, whole_end, whole_of}
-use Rattle.asm_fields.proofs.Again.{whole_line}
+use Rattle.asm_fields.proofs.Again.{again_integer, again_natural, whole_then, whole_end, whole_of, whole_line}
 
 -- ---- names
 

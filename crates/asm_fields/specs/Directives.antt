@@ -2,9 +2,8 @@
 use Rattle.std.specs.Prelude.{ℕ, List, [], ◌∷◌, codes, Option}
 use Rattle.asm_fields.specs.declared.directives.ItemKind.{ItemKind}
 use Rattle.asm_fields.specs.declared.directives.ItemKind.TheVariants.{Name, Stack, Closure, Movable, Seals}
-use Rattle.asm_fields.specs.declared.directives.ItemKind.TheVariants.{Linear}
-use Rattle.asm_fields.specs.declared.directives.ItemKind.TheVariants.{Code, Data, Import, Export, Site, Fail}
-use Rattle.asm_fields.specs.declared.directives.ItemKind.TheVariants.{Literal, Row}
+use Rattle.asm_fields.specs.declared.directives.ItemKind.TheVariants.{Linear, Code, Data, Import, Export}
+use Rattle.asm_fields.specs.declared.directives.ItemKind.TheVariants.{Site, Fail, Literal, Row}
 use Rattle.asm_fields.specs.declared.directives.WordKind.{WordKind}
 use Rattle.asm_fields.specs.declared.directives.WordKind.TheVariants.{Int, Cap, Seal}
 use Rattle.asm_fields.specs.declared.directives.Directive.{Directive}

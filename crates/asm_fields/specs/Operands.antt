@@ -11,8 +11,7 @@ use Rattle.asm_fields.specs.declared.operands.Offset.TheVariants as offset_in_co
 use Rattle.asm_fields.specs.declared.operands.KindField.{KindField as KindInCode}
 use Rattle.asm_fields.specs.declared.operands.KindField.TheVariants as kind_in_code
 use Rattle.readers.specs.Readers.{Reader, ◌>>=◌, done}
-use Rattle.asm_fields.specs.Fields.{Input, place, kind_next, is_name_token}
-use Rattle.asm_fields.specs.Fields.{meant, proper_name_at, natural_at}
+use Rattle.asm_fields.specs.Fields.{Input, place, kind_next, is_name_token, meant, proper_name_at, natural_at}
 use Rattle.asm_fields.specs.Names.{kind_named, shared_named}
 
 -- an address, or a seal

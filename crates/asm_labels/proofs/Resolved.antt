@@ -1,7 +1,6 @@
 -- Resolving references one after another.
 use Rattle.std.proofs.Common.{◌≡◌, ◌≢◌, ℕ, ◌+◌, ◌<◌, ◌≤◌, zero, suc, List, [], ◌∷◌, ◌++◌, map, length, Option}
-use Rattle.std.proofs.Common.{Some, None, Result, Ok}
-use Rattle.std.proofs.Common.{refl, sym, ap, ◌∙◌, subst, arith}
+use Rattle.std.proofs.Common.{Some, None, Result, Ok, refl, sym, ap, ◌∙◌, subst, arith}
 use Rattle.std.specs.Prelude.{ℤ, IsTrue, reverse, slice_get, slice_set, option_map}
 use Rattle.std.proofs.lemmas.List.{reverse-append, reverse-reverse, length-set}
 use Rattle.std.specs.List.{AllByRecursion}

@@ -1,6 +1,5 @@
 -- What readers read: facts of every value that a reader gives.
-use Rattle.std.proofs.Common.{◌≡◌, ℕ, ◌≤◌, Bool, true, false, cond, Option, Some, Ok}
-use Rattle.std.proofs.Common.{refl, subst, arith}
+use Rattle.std.proofs.Common.{◌≡◌, ℕ, ◌≤◌, Bool, true, false, cond, Option, Some, Ok, refl, subst, arith}
 use Rattle.std.proofs.lemmas.Bool.Decides.{nat_tests}
 use Rattle.std.specs.Prelude.{ℤ, pos, negsuc, nat_abs, int_le, IsTrue, FitsSigned}
 use Rattle.std.specs.Int.{w32, w64}
@@ -9,8 +8,7 @@ use Rattle.readers.proofs.Offers.{goes_on_ok, ok_value, some_ok}
 use Rattle.asm_fields.specs.declared.fault.AsmFault.{AsmFault}
 use Rattle.asm_fields.specs.declared.fault.AsmFault.TheVariants.{Range}
 use Rattle.readers.specs.Readers.{Reader, ◌>>=◌, done, unless_none, holds}
-use Rattle.asm_fields.specs.Fields.{Input, place}
-use Rattle.asm_fields.specs.Fields.{sign_at, number_from, signed, minus, integer_at, natural_at}
+use Rattle.asm_fields.specs.Fields.{Input, place, sign_at, number_from, signed, minus, integer_at, natural_at}
 
 -- whatever the reader gives keeps the fact
 pub record Gets {A : Type 0} (P : A → Type 0) (r : Reader Input AsmFault A) : Type 0 where

@@ -25,13 +25,11 @@ use Rattle.asm_labels.specs.Patch.{has_immediate}
 use Rattle.asm_fields.specs.declared.directives.WordKind.{WordKind}
 use Rattle.asm_fields.specs.declared.directives.WordKind.TheVariants.{Int, Cap, Seal}
 use Rattle.asm_fields.specs.declared.fault.AsmFault.TheVariants as fault
-use Rattle.asm_fields.specs.Fields.{place, at_sign, percent}
-use Rattle.asm_fields.specs.Fields.{meant, proper_name_from, sign_at, end_at}
+use Rattle.asm_fields.specs.Fields.{place, at_sign, percent, meant, proper_name_from, sign_at, end_at}
 use Rattle.cap_words.specs.Text.{named, perm_named, lin_named}
 use Rattle.asm_fields.specs.Words.{i64_at, cap_at, seals_at, word_behind, word_line}
 use Rattle.asm_fields.specs.Instrs.{Last, Plain, Code, Data, plain, reg_at, plain_at, last_at, shape_of}
-use Rattle.asm_fields.specs.Instrs.{row_named, is_imm}
-use Rattle.asm_fields.specs.Instrs.{reg_if, last_if, operands_at}
+use Rattle.asm_fields.specs.Instrs.{row_named, is_imm, reg_if, last_if, operands_at}
 use Rattle.assembler.proofs.Gets.{Gets, Any, gets_any, gets_then, gets_done, gets_some, gets_if, gets_looking}
 use Rattle.assembler.proofs.Gets.{integer_within, natural_within, fits_64, fits_32}
 

@@ -1,7 +1,6 @@
 -- The end line of a run is read by an audit as one.
-use Rattle.std.proofs.Common.{◌≡◌, ℕ, ◌+◌, ◌<◌, ◌^◌, Bool, true, false, List, [], ◌∷◌, ◌++◌}
-use Rattle.std.proofs.Common.{Some}
-use Rattle.std.proofs.Common.{refl, ap, arith, append_assoc, append-nil}
+use Rattle.std.proofs.Common.{◌≡◌, ℕ, ◌+◌, ◌<◌, ◌^◌, Bool, true, false, List, [], ◌∷◌, ◌++◌, Some, refl, ap}
+use Rattle.std.proofs.Common.{arith, append_assoc, append-nil}
 use Rattle.std.specs.Prelude.{codes, decimal, is_some, ◌||◌}
 use Rattle.cap_words.specs.declared.Word.{Word}
 use Rattle.cap_words.specs.declared.Word.TheVariants.{Int, Mem, Seal, Sealed}
@@ -26,8 +25,7 @@ use Rattle.line_fields.proofs.Offers.{number_again, integer_again, fits_has_text
 use Rattle.run_items.proofs.Offers.{IsHigh, decimal_high, word_high, cause_high, pc_high, end_body}
 use Rattle.run_audit.specs.declared.line.Line.TheVariants.{End}
 use Rattle.run_audit.specs.Lines.{is_address, is_cause, line_in, one_line, line_named, halted, failed}
-use Rattle.run_audit.specs.Lines.{running}
-use Rattle.run_audit.specs.Lines.{steps}
+use Rattle.run_audit.specs.Lines.{running, steps}
 use Rattle.audited_runs.proofs.Spelled.{word_read, read_by}
 
 -- ---- fields

@@ -12,7 +12,7 @@ use Rattle.overlay_machine.specs.Step.{weight_of}
 use Rattle.overlay_machine.specs.Events.{step_event}
 use Rattle.overlay_machine.specs.Flat.{flat}
 use Rattle.overlay_machine.specs.Invariant.{FrameLies, LiesBelow, FramesLie}
-use Rattle.overlay_machine.specs.Runs.{Reached, begins, goes_on}
+use Rattle.overlay_machine.specs.Runs.{Reached, goes_on}
 use Rattle.overlay_machine.specs.Brackets.{frame_told, Brackets, at_end, one_opens, one_closes}
 use Rattle.trace_tool.specs.Views.{flat_view}
 use Rattle.source_events.specs.declared.FeedPair.{FeedPair}
@@ -23,10 +23,10 @@ use Rattle.trusted_border.specs.declared.events.Event.TheVariants.{Called, Retur
 use Rattle.trace_tool.specs.Told.{step_lines, Told, none_yet, and_then}
 use Rattle.trace_tool.specs.OpenCalls.{LineTold}
 use Rattle.trace_tool.specs.Brackets.{mark_of, marks_in, line_told, lines_told, LinesAreBracketed}
+use Rattle.trace_tool.proofs.Offers.{reached_by}
 use Rattle.run_audit.specs.declared.line.Line.TheVariants.{Call, Ret, Enter}
 use Rattle.run_audit.specs.Traces.{IsWide}
-use Rattle.run_audit.specs.Audit.{OpenSeen, below_newest, stepped, audit_on as goes_on_with}
-use Rattle.run_audit.specs.Audit.{followed}
+use Rattle.run_audit.specs.Audit.{OpenSeen, below_newest, stepped, audit_on as goes_on_with, followed}
 use Rattle.run_audit.proofs.Offers.{told_same, wide_true, followed_append}
 use Rattle.audited_runs.specs.Audited.{told_seen, line_seen}
 
@@ -152,11 +152,6 @@ none_or_some l q (Some (Left part)) ps qs h lp lq n b =
 
 -- ---- all lines
 
-told_reached : {l : Layout} {o : OState} (j : ℕ) (ls : List Line) (p : OState) → Told l o j ls p
-    → Reached l o j p
-told_reached _ _ _ none_yet = begins
-told_reached _ _ _ (and_then {j = j} {ls = ls} {p = p} r e) = goes_on (told_reached j ls p r) e
-
 module _ (l : Layout) (o : OState) (lies : (j : ℕ) (p : OState) → Reached l o j p
     → Lie (lines_told l p.frames))
     (brackets : (j : ℕ) (p : OState) → Reached l o j p → LinesAreBracketed l p) where
@@ -166,7 +161,7 @@ module _ (l : Layout) (o : OState) (lies : (j : ℕ) (p : OState) → Reached l 
       (opened_at (lines_told l p.frames) b))
   follows _ _ _ none_yet = (false, refl)
   follows _ _ q (and_then {j = j} {ls = ls} {p = p} r e) =
-      let at = told_reached j ls p r in
+      let at = reached_by l o j ls p r in
       let before = follows j ls p r in
       let xs = map line_seen ls in
       let ys = map line_seen (step_lines l p q) in

@@ -1,6 +1,5 @@
 -- A text of lines that fit and spoil nothing, and of an end line, is a trace.
-use Rattle.std.proofs.Common.{◌≡◌, ℕ, ◌+◌, false, List, [], ◌∷◌, ◌++◌, Some, Ok}
-use Rattle.std.proofs.Common.{refl, ap, ◌∙◌, arith}
+use Rattle.std.proofs.Common.{◌≡◌, ℕ, ◌+◌, false, List, [], ◌∷◌, ◌++◌, Some, Ok, refl, ap, ◌∙◌, arith}
 use Rattle.std.specs.Prelude.{map}
 use Rattle.trace_tool.specs.Lines.{Line, call, ret, enter, pass, leave}
 use Rattle.trace_tool.specs.Texts.{lines_text}

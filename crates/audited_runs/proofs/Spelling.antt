@@ -1,17 +1,16 @@
 -- A line of an event is read of its own text alone.
-use Rattle.std.proofs.Common.{◌≡◌, ℕ, Bool, true, false, List, [], ◌∷◌, ◌++◌, Some}
-use Rattle.std.proofs.Common.{refl, sym, ap, ◌∙◌, arith}
+use Rattle.std.proofs.Common.{◌≡◌, ℕ, Bool, true, false, List, [], ◌∷◌, ◌++◌, Some, refl, sym, ap, ◌∙◌, arith}
 use Rattle.std.specs.Prelude.{codes, decimal, map, ◌||◌}
 use Rattle.std.specs.Str.{bytes_eq}
 use Rattle.cap_words.specs.Names.{is_name}
 use Rattle.cap_words.specs.Text.{word_text_of}
 use Rattle.trace_tool.specs.Lines.{Line, call, ret, enter, pass, leave}
 use Rattle.source_events.specs.Forms.{pair_text, is_pair}
-use Rattle.trace_tool.specs.Fits.{PlaceFits}
+use Rattle.trace_tool.specs.Fits.{PlaceFits, AllOf}
 use Rattle.trace_tool.specs.OpenCalls.{LineTold}
 use Rattle.line_fields.specs.Options.{where_true}
 use Rattle.line_fields.specs.Numbers.{natural_in}
-use Rattle.line_fields.specs.Words.{is_word}
+use Rattle.line_fields.specs.Words.{is_word, HasText}
 use Rattle.line_fields.specs.Forms.{back_in, handed_in}
 use Rattle.line_fields.specs.Fields.{meant, tested}
 use Rattle.line_fields.proofs.Offers.{chosen}
@@ -28,8 +27,6 @@ use Rattle.audited_runs.proofs.Spelled.{enter_body, regroup_pass, regroup_leave}
 use Rattle.audited_runs.proofs.Taken.{Fields, goes, name_taken, number_taken, word_taken}
 use Rattle.audited_runs.proofs.Taken.{direction_taken, mark_taken, back_taken, pair_taken, args_taken}
 use Rattle.audited_runs.proofs.Taken.{unless_is, same_read, and_then, words_taken}
-use Rattle.trace_tool.specs.Fits.{AllOf}
-use Rattle.line_fields.specs.Words.{HasText}
 
 -- behind a line's name, the fields are those of a line
 pub record Spells (name : List ℕ) (fs : Fields) (l : AuditLine) : Type 0 where

@@ -1,7 +1,6 @@
 -- What is taken from the front of fields is a text of what it is read as.
-use Rattle.std.proofs.Common.{append-nil}
-use Rattle.std.proofs.Common.{◌≡◌, ℕ, ◌≤◌, ◌<◌, ◌^◌, Bool, true, false, List, [], ◌∷◌, ◌++◌, Option}
-use Rattle.std.proofs.Common.{Some, None, refl, sym, ap, ◌∙◌}
+use Rattle.std.proofs.Common.{append-nil, ◌≡◌, ℕ, ◌≤◌, ◌<◌, ◌^◌, Bool, true, false, List, [], ◌∷◌, ◌++◌}
+use Rattle.std.proofs.Common.{Option, Some, None, refl, sym, ap, ◌∙◌}
 use Rattle.std.specs.Prelude.{codes, decimal, map, is_some, ◌||◌}
 use Rattle.std.specs.List.{list_all, join_with_byte}
 use Rattle.std.specs.Str.{bytes_eq}
@@ -20,14 +19,12 @@ use Rattle.line_fields.specs.Cuts.{parts}
 use Rattle.line_fields.specs.Numbers.{number_in}
 use Rattle.line_fields.specs.Words.{HasText, word_in, is_word}
 use Rattle.line_fields.specs.Forms.{back_in, handed_in}
-use Rattle.line_fields.specs.Fields.{Reader, reads_on, done, field, unless_none, meant, tested, fields}
-use Rattle.line_fields.specs.Fields.{whole}
+use Rattle.line_fields.specs.Fields.{Reader, reads_on, done, field, unless_none, meant, tested, fields, whole}
 use Rattle.line_fields.proofs.Offers.{number_is, chosen, word_is, back_is, handed_is}
 use Rattle.run_items.proofs.Offers.{spaced}
 use Rattle.run_audit.specs.Lines.{is_direction, registers, words_left}
 use Rattle.audited_runs.proofs.Spelled.{dir_text}
-use Rattle.trace_tool.specs.Fits.{AllOf}
-use Rattle.trace_tool.specs.Fits.{ArgsOf}
+use Rattle.trace_tool.specs.Fits.{AllOf, ArgsOf}
 
 abbrev pub Fields : Type 0
 Fields = List (List ℕ)

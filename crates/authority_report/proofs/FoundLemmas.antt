@@ -24,8 +24,7 @@ use Rattle.place_sets.specs.Takes.{is_left}
 use Rattle.place_sets.proofs.Offers.{kept, fresh, only}
 use Rattle.authority_report.specs.declared.found.Found.{Found}
 use Rattle.authority_report.specs.Reaches.{is_seal_of, whole_code, whole_data, bare, Reaches, its_code}
-use Rattle.authority_report.specs.Reaches.{its_data}
-use Rattle.authority_report.specs.Reaches.{the_stack, in_cell, opened, Allows, SealsWith}
+use Rattle.authority_report.specs.Reaches.{its_data, the_stack, in_cell, opened, Allows, SealsWith}
 use Rattle.authority_report.specs.Within.{CapWithin, SealsWithin, IsWithin}
 use Rattle.authority_report.specs.declared.reach.Reach.{Reach}
 use Rattle.place_sets.specs.Spans.{allows}

@@ -13,8 +13,7 @@ use Rattle.lcm_machine.specs.Places.{reg}
 use Rattle.lcm_machine.specs.Cells.{cell}
 use Rattle.component_linker.specs.declared.owners.Owner.{Owner}
 use Rattle.authority_report.specs.Reaches.{is_seal_of, whole_code, whole_data, bare, Reaches, its_code}
-use Rattle.authority_report.specs.Reaches.{its_data}
-use Rattle.authority_report.specs.Reaches.{the_stack, in_cell, opened}
+use Rattle.authority_report.specs.Reaches.{its_data, the_stack, in_cell, opened}
 use Rattle.authority_report.specs.Within.{Authority, CapWithin, SealsWithin, IsWithin}
 use Rattle.authority_report.specs.Report.{IsJust}
 

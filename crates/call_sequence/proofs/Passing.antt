@@ -1,8 +1,7 @@
 -- Steps through words of a part's code: where pc stands, and which addresses they touch.
 use Rattle.std.proofs.Common.{◌≡◌, ◌≢◌, ◌⊎◌, inl, inr, ℕ, zero, suc, ◌+◌, ◌<◌, ◌≤◌, ℤ, pos, ◌+ℤ◌, Bool, true}
 use Rattle.std.proofs.Common.{false, List, [], ◌∷◌, ◌++◌, length, Some, None, refl, sym, ap, ◌∙◌, subst}
-use Rattle.std.proofs.Common.{arith}
-use Rattle.std.proofs.Common.{le-leb, FitsSigned, w32}
+use Rattle.std.proofs.Common.{arith, le-leb, FitsSigned, w32}
 use Rattle.cap_words.specs.declared.Word.{Word}
 use Rattle.cap_words.specs.declared.Word.TheVariants.{Mem}
 use Rattle.cap_words.specs.declared.Face.{Face}
@@ -27,8 +26,7 @@ use Rattle.lcm_machine.specs.Touched.{Touches}
 use Rattle.lcm_machine.proofs.Offers.{fetch_at, step_row, touched_by, shows, move_goes, cca_goes, stays}
 use Rattle.lcm_machine.proofs.Offers.{fail_fails, reg-set_other, reg-set_same}
 use Rattle.call_sequence.specs.SequenceWords.{IsInRange, AtWord}
-use Rattle.call_sequence.proofs.Straight.{is_straight, is_store, Num, KeepsNumbers, MayKeep}
-use Rattle.call_sequence.proofs.Straight.{straight_goes}
+use Rattle.call_sequence.proofs.Straight.{is_straight, is_store, Num, KeepsNumbers, MayKeep, straight_goes}
 use Rattle.call_sequence.proofs.Testing.{dest, t2_stays, test_goes}
 
 -- neither loads nor stores

@@ -1,7 +1,6 @@
 -- What the words of a return do, for words of any kind.
 use Rattle.std.proofs.Common.{◌≡◌, ◌≢◌, ℕ, ◌+◌, ◌-◌, ◌≤◌, pos, ℤ, ◌+ℤ◌, ◌-ℤ◌, true, [], ◌∷◌, refl, ap, sym}
-use Rattle.std.proofs.Common.{◌∙◌, Some, false}
-use Rattle.std.proofs.Common.{arith, rules, FitsSigned, w32}
+use Rattle.std.proofs.Common.{◌∙◌, Some, false, arith, rules, FitsSigned, w32}
 use Rattle.std.proofs.lemmas.Int.{ints}
 use Rattle.std.specs.Ordering.{nat_cmp}
 use Rattle.std.specs.FinMap.{FinMap}
@@ -28,8 +27,7 @@ use Rattle.lcm_machine.proofs.Offers.{run_then, step_row}
 use Rattle.call_sequence.specs.declared.TheConstants.{RETURN_WORDS}
 use Rattle.call_sequence.specs.Sequences.{return_code, distance}
 use Rattle.call_sequence.specs.SequenceRuns.{stack_cap, IsOutsideRange, HasReturn, ReturnRuns}
-use Rattle.call_sequence.specs.SequenceRuns.{ReturnApartFails}
-use Rattle.call_sequence.specs.SequenceRuns.{ReturnOffBaseFails}
+use Rattle.call_sequence.specs.SequenceRuns.{ReturnApartFails, ReturnOffBaseFails}
 use Rattle.call_sequence.proofs.LawLemmas.{fits_small, small_operand, near_operand, leads, not_zero}
 use Rattle.call_sequence.proofs.LawLemmas.{fits_less, Stands-outside}
 

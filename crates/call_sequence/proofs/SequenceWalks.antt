@@ -25,15 +25,13 @@ use Rattle.lcm_machine.specs.Row.{faces, cell_faces, face_there, look_face, put,
 use Rattle.lcm_machine.specs.Runs.{and_then, run_of, Stands, code_cap}
 use Rattle.lcm_machine.specs.Refusals.{HasFailed, CannotJoin}
 use Rattle.lcm_machine.specs.Touched.{Touches, cell_used, reached, used_by}
-use Rattle.lcm_machine.proofs.Offers.{failed_more, fetch_at}
-use Rattle.lcm_machine.proofs.Offers.{covered, is_linear-face, load_goes, row_others, run_of-add}
-use Rattle.lcm_machine.proofs.Offers.{set_goes, shows}
+use Rattle.lcm_machine.proofs.Offers.{failed_more, fetch_at, covered, is_linear-face, load_goes, row_others}
+use Rattle.lcm_machine.proofs.Offers.{run_of-add, set_goes, shows}
 use Rattle.call_sequence.specs.declared.TheConstants.{CALL_WORDS, RETURN_WORDS, ENTRY_WORDS}
 use Rattle.call_sequence.specs.Sequences.{call_code, return_code, entry_code, distance, load_word, wipe_word}
 use Rattle.call_sequence.specs.SequenceRuns.{stack_cap, IsOutsideRange, HasCall, HasReturn, HasEntry}
 use Rattle.call_sequence.specs.SequenceWords.{IsInRange, AtWord, CallWords, EntryWords, LoadsOrWipes}
-use Rattle.call_sequence.specs.SequenceWords.{ReturnWords}
-use Rattle.call_sequence.specs.SequenceWords.{JointReturnWords}
+use Rattle.call_sequence.specs.SequenceWords.{ReturnWords, JointReturnWords}
 use Rattle.call_sequence.proofs.LawLemmas.{fits_small, small_operand, near_operand, leads}
 use Rattle.call_sequence.proofs.ReturnLaws.{tested, return_tests, return_turns, return_apart}
 use Rattle.call_sequence.proofs.Passing.{AreIdle, Guards, done, tests, keeps, Passes, passed, word_is, first}

@@ -1,7 +1,6 @@
 -- Whether sequences stand in a component's code.
 use Rattle.std.specs.Prelude.{◌≡◌, ℕ, ◌+◌, nat_le, ℤ, pos, List, [], ◌∷◌, length, slice_index, slice_get}
-use Rattle.std.specs.Prelude.{Bool, false, not, ◌&&◌}
-use Rattle.std.specs.Prelude.{Option, Some, None, is_some, if◌then◌else◌}
+use Rattle.std.specs.Prelude.{Bool, false, not, ◌&&◌, Option, Some, None, is_some, if◌then◌else◌}
 use Rattle.std.specs.Option.{option_or}
 use Rattle.std.specs.Ordering.{int_eq}
 use Rattle.cap_words.specs.declared.Word.{Word}

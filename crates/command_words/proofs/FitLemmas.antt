@@ -11,9 +11,8 @@ use Rattle.command_words.specs.Texts.{Text}
 use Rattle.command_words.specs.Line.{Taken, rows, taken_of}
 use Rattle.command_words.specs.Name.{is_file_name, file_name_in, file_of}
 use Rattle.command_words.specs.Number.{number_in, number_or, steps_in, size_in, seed_in}
-use Rattle.command_words.specs.Part.{mark_in, ending_in, may_be, has_tokens}
-use Rattle.command_words.specs.Part.{part_in, parts_in, some_parts_in, one_part_in}
-use Rattle.command_words.specs.Part.{image_in, one_image_in}
+use Rattle.command_words.specs.Part.{mark_in, ending_in, may_be, has_tokens, part_in, parts_in, some_parts_in}
+use Rattle.command_words.specs.Part.{one_part_in, image_in, one_image_in}
 use Rattle.command_words.specs.Action.{action_in, image_or_parts, is_assembler, is_module, is_source}
 use Rattle.command_words.specs.Action.{linked_asked, run_in, assemble_in, compile_in, part_alone_in, link_in}
 use Rattle.command_words.specs.Action.{mean_in, generate_in, asked_of, asked_in}

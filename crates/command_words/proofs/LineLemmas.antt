@@ -6,8 +6,7 @@ use Rattle.clap.specs.Words.{matches_of}
 use Rattle.clap.specs.Simple.{built, names_of, on_top}
 use Rattle.clap.specs.Walk.{Names, Walk, nothing_held, walk_from, walked}
 use Rattle.clap.specs.Faults.{turn_fault, walk_fault}
-use Rattle.clap.specs.Kinds.{or_else}
-use Rattle.clap.specs.Kinds.{IsAmong, Kinds}
+use Rattle.clap.specs.Kinds.{or_else, IsAmong, Kinds}
 use Rattle.clap.specs.declared.error.kind.ErrorKind.{ErrorKind}
 use Rattle.std.specs.Prelude.{if◌then◌else◌}
 use Rattle.clap.specs.Takes.{takes}

@@ -1,6 +1,5 @@
 -- What is within the limits can be written.
-use Rattle.std.proofs.Common.{ℕ, ◌<◌, leb, List, [], ◌∷◌, length, Option, Some, None}
-use Rattle.std.proofs.Common.{arith}
+use Rattle.std.proofs.Common.{ℕ, ◌<◌, leb, List, [], ◌∷◌, length, Option, Some, None, arith}
 use Rattle.std.specs.Prelude.{IsTrue}
 use Rattle.std.specs.List.{AllByRecursion}
 use Rattle.std.proofs.lemmas.Bool.{and_parts}

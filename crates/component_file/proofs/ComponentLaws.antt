@@ -1,7 +1,6 @@
 -- A component is read where it is spelled, and spelled where it was read.
-use Rattle.std.proofs.Common.{◌≡◌, ℕ, ◌^◌, Some, None, ◌<◌, ◌≤◌, Bool, true, false, cond, eqb}
-use Rattle.std.proofs.Common.{List, ◌∷◌, ◌++◌, length, Ok, Err, refl, sym, ap, ◌∙◌, append-nil}
-use Rattle.std.proofs.Common.{arith, take}
+use Rattle.std.proofs.Common.{◌≡◌, ℕ, ◌^◌, Some, None, ◌<◌, ◌≤◌, Bool, true, false, cond, eqb, List, ◌∷◌}
+use Rattle.std.proofs.Common.{◌++◌, length, Ok, Err, refl, sym, ap, ◌∙◌, append-nil, arith, take}
 use Rattle.std.specs.Str.{bytes_eq}
 use Rattle.std.proofs.lemmas.Bool.{eqb-true}
 use Rattle.std.proofs.lemmas.Slice.Eq.{bytes_eq-Decides}

@@ -1,6 +1,5 @@
 -- The readers of lists, and of the items in them.
-use Rattle.std.proofs.Common.{◌≡◌, ℕ, ◌^◌, ◌<◌, ◌≤◌, List, ◌++◌}
-use Rattle.std.proofs.Common.{length, Option, Some, None, refl, ap}
+use Rattle.std.proofs.Common.{◌≡◌, ℕ, ◌^◌, ◌<◌, ◌≤◌, List, ◌++◌, length, Option, Some, None, refl, ap}
 use Rattle.std.proofs.Common.{append-nil, arith}
 use Rattle.std.specs.Prelude.{IsTrue, nat_lt, option_map}
 use Rattle.std.specs.List.{flat_map}

@@ -1,7 +1,6 @@
 -- Lists that are read one item after another, each told the one before it.
 use Rattle.std.proofs.Common.{◌≡◌, ℕ, zero, suc, ◌+◌, ◌-◌, ◌<◌, ◌≤◌, List, [], ◌∷◌, ◌++◌, length, Option}
-use Rattle.std.proofs.Common.{Some, None}
-use Rattle.std.proofs.Common.{Result, Ok, refl, ap, ◌∙◌, arith, length-append}
+use Rattle.std.proofs.Common.{Some, None, Result, Ok, refl, ap, ◌∙◌, arith, length-append}
 use Rattle.std.specs.Prelude.{slice_get, take, set}
 use Rattle.std.proofs.lemmas.List.{take_more_set, take_all}
 use Rattle.readers.specs.Readers.{Reader, items_from}

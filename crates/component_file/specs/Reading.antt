@@ -9,8 +9,7 @@ use Rattle.cap_words.specs.declared.bytes.cursor.FieldFault.TheVariants as field
 use Rattle.cap_words.specs.Stretch.{Stretch}
 use Rattle.readers.specs.Readers.{Reader, ◌>>=◌, done, unless_none, holds, telling, items_from}
 use Rattle.readers.specs.Places.{here, read_whole}
-use Rattle.cap_words.specs.Reading.{Input, meant, within}
-use Rattle.cap_words.specs.Reading.{next_bytes, next_byte, next_number}
+use Rattle.cap_words.specs.Reading.{Input, meant, within, next_bytes, next_byte, next_number}
 use Rattle.cap_words.specs.WordReading.{next_in_space, next_unsealed}
 use Rattle.component_file.specs.declared.TheConstants.{LAST_OFFSET, MOST_WORDS, FIXED_VERSION}
 use Rattle.component_file.specs.declared.TheConstants.{MOVABLE_VERSION}

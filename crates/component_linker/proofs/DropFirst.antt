@@ -1,6 +1,5 @@
 -- The rules that are tried at a link, L10 apart from the others.
-use Rattle.std.proofs.Common.{◌≡◌, ℕ, zero, suc, List, [], ◌∷◌, map, Some, None, Result, ap, sym}
-use Rattle.std.proofs.Common.{subst, ◌∙◌}
+use Rattle.std.proofs.Common.{◌≡◌, ℕ, zero, suc, List, [], ◌∷◌, map, Some, None, Result, ap, sym, subst, ◌∙◌}
 use Rattle.component_check.specs.Verdict.{check_from, kept_or}
 use Rattle.component_linker.specs.declared.pairs.PartPlace.{PartPlace}
 use Rattle.component_linker.specs.declared.fault.RuleAt.{RuleAt}

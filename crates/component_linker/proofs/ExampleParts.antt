@@ -1,8 +1,7 @@
 -- An instance: a trusted part with an entry and a site, whose import is what it calls, and an adversary that
 -- goes right back. They keep the rules.
 use Rattle.std.proofs.Common.{◌≡◌, ℕ, zero, suc, ◌+◌, inl, inr, pos, Bool, true, false, List, [], ◌∷◌, ◌++◌}
-use Rattle.std.proofs.Common.{map}
-use Rattle.std.proofs.Common.{Some, None, Ok, refl, sym, ap, ◌∙◌, arith, subst, rules, ne_eqb}
+use Rattle.std.proofs.Common.{map, Some, None, Ok, refl, sym, ap, ◌∙◌, arith, subst, rules, ne_eqb}
 use Rattle.std.specs.Prelude.{◌==◌, ◌<◌, ◌||◌, ◌&&◌, nat_lt, slice_get, Option, ◌^◌}
 use Rattle.std.specs.List.{list_all}
 use Rattle.std.proofs.lemmas.Bool.{cases_eq, and_parts, ltb-true}

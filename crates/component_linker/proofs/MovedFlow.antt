@@ -9,8 +9,7 @@ use Rattle.cap_words.specs.declared.Word.TheVariants.{Int, Mem, Seal, Sealed}
 use Rattle.component_file.specs.declared.component.ComponentFields.{ComponentFields}
 use Rattle.component_check.specs.Places.{Test, BrokenAt}
 use Rattle.component_check.specs.Verdict.{NoneBroken}
-use Rattle.call_sequence.specs.Standing.{is_int, difference, sequence_difference}
-use Rattle.call_sequence.specs.Standing.{site_difference, is_entry}
+use Rattle.call_sequence.specs.Standing.{is_int, difference, sequence_difference, site_difference, is_entry}
 use Rattle.flow_check.specs.Kinds.{Row}
 use Rattle.flow_check.specs.Places.{begins_entry, begins_site, in_site, declared}
 use Rattle.flow_check.specs.Lists.{k1, k2, k3, k4, lists, entry_is_bad, is_misplaced, of_entry}

@@ -1,8 +1,7 @@
 -- Parts that are placed are parts, where there is room for them.
 use Rattle.std.proofs.Common.{◌≡◌, ℕ, zero, suc, ◌+◌, ◌<◌, ◌≤◌, Bool, true, false, not, List, [], ◌∷◌, ◌++◌}
 use Rattle.std.proofs.Common.{map, length, Option, Some, None, refl, sym, ap, subst, ◌∙◌, arith}
-use Rattle.std.specs.Prelude.{slice_get, option_map, if◌then◌else◌, min}
-use Rattle.std.specs.Prelude.{◌&&◌}
+use Rattle.std.specs.Prelude.{slice_get, option_map, if◌then◌else◌, min, ◌&&◌}
 use Rattle.std.proofs.lemmas.Bool.Decides.{nat_tests}
 use Rattle.component_file.specs.declared.component.ComponentFields.{ComponentFields}
 use Rattle.std.specs.List.{list_all}
@@ -15,8 +14,7 @@ use Rattle.component_linker.proofs.FirstIn.{first_in_is}
 use Rattle.component_linker.specs.declared.moving.Move.{Move}
 use Rattle.component_linker.specs.declared.placed.Free.{Free}
 use Rattle.component_linker.specs.Parts.{PartSeen, IsPart}
-use Rattle.component_linker.specs.Placing.{moved, moved_by, moved_word}
-use Rattle.component_linker.specs.Placing.{points_in_range, base_or}
+use Rattle.component_linker.specs.Placing.{moved, moved_by, moved_word, points_in_range, base_or}
 use Rattle.component_linker.specs.Placing.{areas_end_late, seals_end_late, points_too_far}
 use Rattle.component_linker.specs.Standing.{move_to, move_of, settled, placed_part, past, placed_from}
 use Rattle.component_linker.specs.Pairs.{never, first_in}

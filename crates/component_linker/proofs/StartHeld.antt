@@ -25,8 +25,7 @@ use Rattle.lcm_machine.specs.Places.{reg}
 use Rattle.lcm_machine.specs.Cells.{cell}
 use Rattle.lcm_machine.specs.Row.{word_at}
 use Rattle.lcm_machine.specs.Regions.{Region, IsLinearAt, InOneRegion, memory_of, is_over, word_over}
-use Rattle.lcm_machine.specs.Regions.{InRegions}
-use Rattle.lcm_machine.specs.Regions.{CoveredOnce, HeldOnce}
+use Rattle.lcm_machine.specs.Regions.{InRegions, CoveredOnce, HeldOnce}
 use Rattle.lcm_machine.proofs.Offers.{normal_apart, over_bounds}
 use Rattle.component_linker.specs.Parts.{PartSeen}
 use Rattle.component_linker.specs.Regions.{Apart, part_regions, regions_of, region, stack_span, in_regions}

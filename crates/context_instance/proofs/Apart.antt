@@ -7,8 +7,7 @@ use Rattle.context_instance.proofs.Modules.{limits, limits_too, resolved, resolv
 use Rattle.context_instance.proofs.Same.{mean_the_same}
 use Rattle.context_instance.proofs.Links.{parts_of}
 use Rattle.context_instance.proofs.Beginnings.{main, sums_start, keeps_start, sums_starts, keeps_starts}
-use Rattle.context_instance.proofs.Beginnings.{sums_sources}
-use Rattle.context_instance.proofs.Beginnings.{keeps_sources, sums_main, keeps_main, beside}
+use Rattle.context_instance.proofs.Beginnings.{sums_sources, keeps_sources, sums_main, keeps_main, beside}
 
 pub two_ways : SameMeaningsAreNotToldApart → TwoWays
 two_ways law = record {

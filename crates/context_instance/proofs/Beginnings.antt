@@ -1,11 +1,10 @@
 -- The starts of both modules beside the adversary, and that they are beside each other.
-use Rattle.std.proofs.Common.{◌≡◌, ◌⊎◌, inl, inr, ◌↔◌, ℕ, zero, suc, ◌+◌, ◌-◌, ◌<◌, ◌≤◌, true, false}
-use Rattle.std.proofs.Common.{List, [], ◌∷◌, map, length}
-use Rattle.std.proofs.Common.{Some, None, Ok, refl, sym, ap, ◌∙◌, arith, subst, rules}
+use Rattle.std.proofs.Common.{◌≡◌, ◌⊎◌, inl, inr, ◌↔◌, ℕ, zero, suc, ◌+◌, ◌-◌, ◌<◌, ◌≤◌, true, false, List}
+use Rattle.std.proofs.Common.{[], ◌∷◌, map, length, Some, None, Ok, refl, sym, ap, ◌∙◌, arith, subst, rules}
+use Rattle.std.proofs.Common.{leb-true}
 use Rattle.std.specs.Prelude.{slice_get, ◌&&◌, nat_le}
 use Rattle.std.specs.List.{Contains}
 use Rattle.std.proofs.lemmas.Bool.{and_parts, cases_lt, or_cases}
-use Rattle.std.proofs.Common.{leb-true}
 use Rattle.std.proofs.lemmas.List.Sorted.{IsPermutation-refl}
 use Rattle.lcm_isa.specs.Numbers.{number_of}
 use Rattle.lcm_machine.specs.declared.cells.Span.{Span}
@@ -44,8 +43,7 @@ use Rattle.context_laws.specs.Meanings.{SameUntrusted, AreBeside}
 use Rattle.context_instance.specs.Doubles.{sums, keeps}
 use Rattle.context_instance.proofs.Modules.{limits, limits_too, resolved, resolved_too}
 use Rattle.context_instance.proofs.Links.{other, parts_of, each_of, one_limits, two_limits, one_flow}
-use Rattle.context_instance.proofs.Links.{two_flow}
-use Rattle.context_instance.proofs.Links.{one_checked, two_checked, one_linked, two_linked}
+use Rattle.context_instance.proofs.Links.{two_flow, one_checked, two_checked, one_linked, two_linked}
 
 abbrev pub main : Exported
 main = record {

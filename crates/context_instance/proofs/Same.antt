@@ -21,8 +21,7 @@ use Rattle.proc_semantics.specs.Marked.{Event, Leaves, Whence, Frame, numbered_i
 use Rattle.context_laws.specs.Meanings.{Name, name_of, observed, MeanTheSame}
 use Rattle.context_instance.specs.Doubles.{sums, keeps}
 use Rattle.context_instance.proofs.Means.{M, tick, tell, tell_item, tell_left, tell_number, tell_value}
-use Rattle.context_instance.proofs.Means.{tell_back, is_it}
-use Rattle.context_instance.proofs.Means.{told, Told}
+use Rattle.context_instance.proofs.Means.{tell_back, is_it, told, Told}
 
 abbrev first : List Procedure → Procedure
 first [] = record { name = []; shared = false; callbacks = []; locals = 0; need = 0; body = [] }

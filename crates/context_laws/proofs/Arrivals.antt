@@ -1,6 +1,5 @@
 -- Sources that mean the same can't be told apart, where main is theirs.
-use Rattle.std.proofs.Common.{◌≡◌, ℕ, ◌+◌, List, [], ◌∷◌, map, Some, true, refl, sym, ap, ◌∙◌}
-use Rattle.std.proofs.Common.{subst, arith}
+use Rattle.std.proofs.Common.{◌≡◌, ℕ, ◌+◌, List, [], ◌∷◌, map, Some, true, refl, sym, ap, ◌∙◌, subst, arith}
 use Rattle.std.specs.Prelude.{slice_get}
 use Rattle.component_linker.specs.Parts.{PartSeen}
 use Rattle.component_linker.specs.Standing.{placed}
@@ -46,8 +45,7 @@ use Rattle.context_laws.proofs.Rounds.{RoundTold, round_told}
 use Rattle.context_laws.proofs.Beside.{beside_by_names}
 use Rattle.context_laws.proofs.Apart.{mean_back, beside_back}
 use Rattle.context_laws.proofs.Meanings.{SourcesMeanAll, observed_at, told_too, wiped_same, same_ends}
-use Rattle.context_laws.proofs.Meanings.{all_behind}
-use Rattle.context_laws.proofs.Meanings.{calls_behind, Point, go_in_step}
+use Rattle.context_laws.proofs.Meanings.{all_behind, calls_behind, Point, go_in_step}
 
 module _ (begin : StartsBegin) (agree : StartsAgree) (leaves : SourcesLeaveNothing) (words : SourcesTellWords)
     (wipes : WipedCellsAreTold) (means : SourcesMeanAll)

@@ -1,7 +1,6 @@
 -- Exports and sites of two links that stand for each other by their names.
 use Rattle.std.proofs.Common.{◌≡◌, ◌⊎◌, inl, inr, ℕ, zero, suc, ◌+◌, ◌<◌, List, [], ◌∷◌, length, Option, Some}
-use Rattle.std.proofs.Common.{None}
-use Rattle.std.proofs.Common.{Bool, true, false, refl, sym, ap, ◌∙◌, subst, arith, eq-eqb, eqb-true}
+use Rattle.std.proofs.Common.{None, Bool, true, false, refl, sym, ap, ◌∙◌, subst, arith, eq-eqb, eqb-true}
 use Rattle.std.specs.Prelude.{slice_get, find, option_map, option_and_then, if◌then◌else◌, ◌==◌, ◌&&◌}
 use Rattle.std.specs.List.{Contains}
 use Rattle.std.specs.Str.{bytes_eq}
@@ -28,7 +27,7 @@ use Rattle.lcm_machine.specs.declared.cells.Span.{Span}
 use Rattle.component_linker.specs.Regions.{stack_span, is_stack_size, addresses}
 use Rattle.component_linker.specs.Start.{stack_base_of}
 use Rattle.overlay_machine.specs.Starting.{StartsBegin}
-use Rattle.source_starts.specs.Sources.{SourcesLeaveNothing}
+use Rattle.source_starts.specs.Sources.{SourcesLeaveNothing, AreSources, linked_at}
 use Rattle.context_laws.proofs.Sources.{StartsAgree, linked_is}
 use Rattle.overlay_machine.proofs.Offers.{contains_first, contains_rest, index_of, found_is}
 use Rattle.overlay_machine.proofs.Offers.{starts_tell_names}
@@ -37,7 +36,6 @@ use Rattle.trace_tool.specs.Layout.{layout, part_name, site_of}
 use Rattle.proc_language.specs.declared.module.ModuleFields.{ModuleFields}
 use Rattle.proc_program.specs.declared.program.Procedure.{Procedure}
 use Rattle.proc_program.specs.Lower.{part_of}
-use Rattle.source_starts.specs.Sources.{AreSources, linked_at}
 use Rattle.source_starts.proofs.Offers.{aligned, home_of, NamesApart, names_apart, names_same, same_names}
 use Rattle.source_starts.proofs.Offers.{same_part, imported_names, Names, one_offset, data_in, proc_of}
 use Rattle.context_laws.specs.Related.{SameNames, IsExport}

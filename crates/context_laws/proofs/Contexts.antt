@@ -1,6 +1,5 @@
 -- No code outside can tell trusted parts apart of which the same is observed on each feed.
-use Rattle.std.proofs.Common.{◌≡◌, ℕ, suc, List, [], ◌∷◌, Option, Some, true, false}
-use Rattle.std.proofs.Common.{sym, ap, ◌∙◌, subst}
+use Rattle.std.proofs.Common.{◌≡◌, ℕ, suc, List, [], ◌∷◌, Option, Some, true, false, sym, ap, ◌∙◌, subst}
 use Rattle.std.proofs.lemmas.Option.{same_Some}
 use Rattle.overlay_machine.specs.State.{OState}
 use Rattle.overlay_machine.specs.Step.{goes, overlay_step}
@@ -11,18 +10,15 @@ use Rattle.trusted_border.specs.declared.layout.Layout.{Layout}
 use Rattle.template_runs.specs.Runs.{is_inside}
 use Rattle.template_runs.proofs.Offers.{goes_same, halts_not, fails_not}
 use Rattle.context_laws.specs.Related.{SameNames, Calls, Alike, StepsAlike, both_halt, both_fail, both_stay}
-use Rattle.context_laws.specs.Related.{both_come}
-use Rattle.context_laws.specs.Related.{ComesAlike}
+use Rattle.context_laws.specs.Related.{both_come, ComesAlike}
 use Rattle.context_laws.specs.Lockstep.{Round, IsRound, Path, InStep, at_end, round, AreBelow, Holds, Tidies}
 use Rattle.context_laws.specs.Lockstep as spec
 use Rattle.context_laws.specs.Contexts.{Telling, ShowsBy, firsts, seconds, TellAlike, none_yet, one_more}
-use Rattle.context_laws.specs.Contexts.{Follows}
-use Rattle.context_laws.specs.Contexts.{NoContextTells}
+use Rattle.context_laws.specs.Contexts.{Follows, NoContextTells}
 use Rattle.context_laws.proofs.Counts.{step_rises}
 use Rattle.context_laws.proofs.Arrive.{arrive_alike}
 use Rattle.context_laws.proofs.Whole.{alike_step, runs_outside, below_later, below_after, comes_alike}
-use Rattle.context_laws.proofs.Whole.{after_a, after_b}
-use Rattle.context_laws.proofs.Whole.{first_inside}
+use Rattle.context_laws.proofs.Whole.{after_a, after_b, first_inside}
 
 module _ {I O : Type 0} (l : Layout) (t : Telling I O) where
   -- behind a step outside, and behind a round

@@ -16,8 +16,7 @@ use Rattle.overlay_machine.specs.Words.{look}
 use Rattle.overlay_machine.specs.State.{OpenFrame, OState}
 use Rattle.overlay_machine.specs.Step.{goes, case_of, step_by, overlay_step, new_frame}
 use Rattle.overlay_machine.specs.Events.{step_event, note_by, note_return, note_jump, event_after, jumped}
-use Rattle.overlay_machine.specs.Events.{entered_event}
-use Rattle.overlay_machine.specs.Events.{owner_now}
+use Rattle.overlay_machine.specs.Events.{entered_event, owner_now}
 use Rattle.overlay_machine.specs.Runs.{Reached, goes_on}
 use Rattle.overlay_machine.specs.Link.{Link}
 use Rattle.overlay_machine.specs.Linked.{Linked}

@@ -1,9 +1,8 @@
 -- Two rounds of which the same is observed cross alike.
 use Rattle.std.proofs.lemmas.Option.{slice_get-map}
-use Rattle.std.specs.Prelude.{slice_get}
+use Rattle.std.specs.Prelude.{slice_get, option_map, if◌then◌else◌}
 use Rattle.std.proofs.Common.{◌≡◌, ℕ, ℤ, List, [], ◌∷◌, map, Option, Some, None, Bool, true}
 use Rattle.std.proofs.Common.{false, refl, sym, ap, ◌∙◌, subst}
-use Rattle.std.specs.Prelude.{option_map, if◌then◌else◌}
 use Rattle.std.specs.List.{Contains}
 use Rattle.cap_words.specs.declared.Word.TheVariants.{Int, Mem, Seal, Sealed}
 use Rattle.cap_words.specs.declared.Sealable.{Sealable}
@@ -33,16 +32,13 @@ use Rattle.source_events.specs.declared.OutEvent.TheVariants.{LeaveOut}
 use Rattle.source_events.specs.Outs.{out_arg}
 use Rattle.trace_tool.specs.Feed.{integer_in}
 use Rattle.template_runs.specs.Border.{Opened, code_word, half_word, content_of, ShowsCall, ShowsLeave}
-use Rattle.template_runs.specs.Border.{ShowsBy, by_call}
-use Rattle.template_runs.specs.Border.{by_leave, Shows}
+use Rattle.template_runs.specs.Border.{ShowsBy, by_call, by_leave, Shows}
 use Rattle.proc_semantics.specs.Marked.{Arg, Number, OfPair, Event, Calls, Leaves, Whence, arg_to, event_to}
 use Rattle.source_laws.specs.Seen.{Back, Shown, Went, handed, left_with, shown_of, event_outs, call_shown}
-use Rattle.source_laws.specs.Seen.{args_shown, arg_shown}
-use Rattle.source_laws.specs.Seen.{left_shown}
+use Rattle.source_laws.specs.Seen.{args_shown, arg_shown, left_shown}
 use Rattle.source_laws.specs.Wiped.{low_of}
 use Rattle.context_laws.specs.Related.{SameNames, RunsOutside, Calls as Pairs, SameWord, ours, code_halves}
-use Rattle.context_laws.specs.Related.{data_halves, ret_codes}
-use Rattle.context_laws.specs.Related.{ret_datas}
+use Rattle.context_laws.specs.Related.{data_halves, ret_codes, ret_datas}
 use Rattle.context_laws.specs.Lockstep.{Round, SameCrossing}
 use Rattle.context_laws.specs.Lockstep as spec
 use Rattle.context_laws.specs.Meanings.{Name, GoByNames}

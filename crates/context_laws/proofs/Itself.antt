@@ -1,7 +1,6 @@
 -- Each state at which code outside runs is alike to itself.
 use Rattle.std.proofs.Common.{◌≡◌, ◌⊎◌, inl, inr, ℕ, zero, suc, ◌<◌, List, [], ◌∷◌, length, Option, Some}
-use Rattle.std.proofs.Common.{None}
-use Rattle.std.proofs.Common.{Bool, true, false, refl, sym, ap, ◌∙◌, subst, arith}
+use Rattle.std.proofs.Common.{None, Bool, true, false, refl, sym, ap, ◌∙◌, subst, arith}
 use Rattle.std.specs.Prelude.{slice_get, if◌then◌else◌, option_and_then}
 use Rattle.std.specs.List.{Contains}
 use Rattle.std.proofs.lemmas.Option.{slice_get_within}
@@ -18,12 +17,11 @@ use Rattle.trusted_border.specs.declared.layout.SiteCode.{SiteCode}
 use Rattle.trusted_border.specs.Layout.{site_code, code_in}
 use Rattle.overlay_machine.specs.declared.words.OWord.{OWord}
 use Rattle.overlay_machine.specs.declared.words.OWord.TheVariants.{Plain, RetCode, RetData}
-use Rattle.overlay_machine.specs.State.{OpenFrame, OState, frame_of}
+use Rattle.overlay_machine.specs.State.{OpenFrame, OState, frame_of, Cells}
 use Rattle.overlay_machine.specs.Link.{Link}
 use Rattle.overlay_machine.specs.Linked.{Linked}
 use Rattle.overlay_machine.specs.Safe.{IsSafe}
 use Rattle.overlay_machine.specs.Invariant.{FramesLie, FrameFits}
-use Rattle.overlay_machine.specs.State.{Cells}
 use Rattle.overlay_machine.proofs.Offers.{contains_first, contains_rest, frame_of-cons, frame_none}
 use Rattle.template_runs.specs.Public.{IsFreeAt}
 use Rattle.context_laws.specs.Related.{RunsOutside, SameNames, Calls, AreCalls, IsExport, SameWord, ours}

@@ -1,7 +1,6 @@
 -- Sources that mean the same can't be told apart.
 use Rattle.std.proofs.Common.{◌≡◌, inl, inr, ◌↔◌, ℕ, suc, ◌+◌, ◌-◌, ◌<◌, ◌≤◌, List, [], ◌∷◌, ◌++◌, map}
-use Rattle.std.proofs.Common.{length, Option}
-use Rattle.std.proofs.Common.{Some, None, true, false, refl, sym, ap, ◌∙◌, subst, arith}
+use Rattle.std.proofs.Common.{length, Option, Some, None, true, false, refl, sym, ap, ◌∙◌, subst, arith}
 use Rattle.std.proofs.lemmas.Bool.{cases_lt}
 use Rattle.std.specs.Prelude.{slice_get, option_map, is_some, if◌then◌else◌}
 use Rattle.std.proofs.lemmas.Option.{slice_get-map, slice_get_within}
@@ -52,11 +51,9 @@ use Rattle.source_starts.specs.Words.{slots, SourcesTellWords}
 use Rattle.source_starts.specs.Wiped.{WipedCellsAreTold}
 use Rattle.context_laws.specs.Related.{SameNames, Calls, SameWord, ours, code_halves, data_halves, ret_codes}
 use Rattle.context_laws.specs.Related.{ret_datas, CellPair, Alike, ComesAlike, StepsAlike, both_halt}
-use Rattle.context_laws.specs.Related.{both_fail, both_stay}
-use Rattle.context_laws.specs.Related.{both_come}
+use Rattle.context_laws.specs.Related.{both_fail, both_stay, both_come}
 use Rattle.context_laws.specs.Lockstep.{Round, IsRound, Path, SameCrossing, by_call, by_leave, SameWiped}
-use Rattle.context_laws.specs.Lockstep.{InStep, at_end, round}
-use Rattle.context_laws.specs.Lockstep.{Holds, Tidies, AreBelow}
+use Rattle.context_laws.specs.Lockstep.{InStep, at_end, round, Holds, Tidies, AreBelow}
 use Rattle.context_laws.specs.Lockstep as spec
 use Rattle.context_laws.specs.Meanings.{name_of, observed, MeanTheSame, GoByNames, item_by, items_in}
 use Rattle.context_laws.specs.Meanings.{SameMeaningsGoInStep}

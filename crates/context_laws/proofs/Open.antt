@@ -18,8 +18,7 @@ use Rattle.overlay_machine.specs.Safe.{IsMet}
 use Rattle.overlay_machine.proofs.Offers.{frame_in, stays_open}
 use Rattle.source_laws.specs.Secrets.{Until, still_there, one_more}
 use Rattle.context_laws.specs.Related.{SameNames, Calls, AreCalls, SameWord, ours, code_halves, data_halves}
-use Rattle.context_laws.specs.Related.{ret_codes}
-use Rattle.context_laws.specs.Related.{ret_datas}
+use Rattle.context_laws.specs.Related.{ret_codes, ret_datas}
 use Rattle.context_laws.specs.Lockstep.{Holds}
 use Rattle.context_laws.proofs.Counts.{until_reached}
 use Rattle.context_laws.proofs.Jumps.{Flat, f_ours, f_code, f_data, f_ret, f_frame}

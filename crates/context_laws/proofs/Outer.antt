@@ -20,11 +20,9 @@ use Rattle.lcm_isa.specs.declared.Instr.TheVariants.{Xjmp}
 use Rattle.lcm_machine.specs.Maps.{State}
 use Rattle.lcm_machine.specs.Places.{reg}
 use Rattle.lcm_machine.specs.Runs.{code_cap}
-use Rattle.lcm_machine.specs.Table.{target}
+use Rattle.lcm_machine.specs.Table.{target, ask, need}
 use Rattle.lcm_machine.specs.Row.{went, faces, opens, cell_faces, fetch, Fetched, some, row, step_of}
-use Rattle.lcm_machine.specs.Row.{step_fetched}
-use Rattle.lcm_machine.specs.Row.{plan_in}
-use Rattle.lcm_machine.specs.Table.{ask, need}
+use Rattle.lcm_machine.specs.Row.{step_fetched, plan_in}
 use Rattle.lcm_machine.specs.Refusals.{HasFailed}
 use Rattle.lcm_machine.specs.Closed.{AllAre, OpensTo}
 use Rattle.lcm_machine.proofs.Offers.{fetch_normal, after_went, used_target, row_keeps}

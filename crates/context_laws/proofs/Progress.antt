@@ -1,7 +1,6 @@
 -- Where a meaning tells one event more than a run has shown, trusted code lets go of control.
 use Rattle.std.proofs.Common.{◌≡◌, ◌⊎◌, inl, inr, ℕ, zero, suc, ◌+◌, ◌*◌, ◌≤◌, List, [], ◌∷◌, ◌++◌, map}
-use Rattle.std.proofs.Common.{length}
-use Rattle.std.proofs.Common.{Option, Some, None, Bool, true, false, refl, sym, ap, ◌∙◌, subst, arith}
+use Rattle.std.proofs.Common.{length, Option, Some, None, Bool, true, false, refl, sym, ap, ◌∙◌, subst, arith}
 use Rattle.std.specs.Prelude.{is_some, option_map, if◌then◌else◌}
 use Rattle.std.proofs.lemmas.List.{append-nil, length-append, length-map}
 use Rattle.lcm_isa.specs.declared.Reg.TheVariants.{Pc}
@@ -21,8 +20,7 @@ use Rattle.overlay_machine.specs.State.{OpenFrame, OState}
 use Rattle.overlay_machine.specs.Step.{Ending, goes, halts, fails, overlay_step, weight_of, weight_by}
 use Rattle.overlay_machine.specs.Step.{case_of}
 use Rattle.overlay_machine.specs.Events.{step_event, event_after, note_by, note_call, note_return, note_jump}
-use Rattle.overlay_machine.specs.Events.{called_event}
-use Rattle.overlay_machine.specs.Events.{site_opened, jump_seal, owner_now}
+use Rattle.overlay_machine.specs.Events.{called_event, site_opened, jump_seal, owner_now}
 use Rattle.overlay_machine.specs.Starting.{overlay_at}
 use Rattle.trace_tool.specs.Layout.{layout}
 use Rattle.trace_tool.specs.Views.{flat_view}

@@ -31,8 +31,7 @@ use Rattle.lcm_machine.specs.Cells.{cell, set_cell}
 use Rattle.lcm_machine.specs.Table.{plan, target, unsealed}
 use Rattle.lcm_machine.specs.Row.{word_in, put, clear, move_on, spend, make, go_on, perform, faces, opens}
 use Rattle.lcm_machine.specs.Row.{cell_faces, look_face, face_there, plan_in, outcome, row, pc_of, pc_at}
-use Rattle.lcm_machine.specs.Row.{fetch}
-use Rattle.lcm_machine.specs.Row.{Outcome, went, halted, failed}
+use Rattle.lcm_machine.specs.Row.{fetch, Outcome, went, halted, failed}
 use Rattle.lcm_machine.proofs.Offers.{cases_reg, reg-set_same, reg-set_other, cell-set_same, cell-set_other}
 use Rattle.lcm_machine.proofs.Offers.{is_linear-face, fetch_by, OpensSame, plan-opens, Gives, Gives-effect}
 use Rattle.lcm_machine.proofs.Offers.{Gives-ask, Gives-need, Gives-by_cap, Gives-if, gives_fails, gives_halts}

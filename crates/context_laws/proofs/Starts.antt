@@ -1,7 +1,6 @@
 -- The cells of starts of parts that are the same but for their trusted ones.
 use Rattle.std.proofs.Common.{◌≡◌, ◌⊎◌, inl, inr, ℕ, ◌+◌, ◌-◌, ◌≤◌, ◌<◌, pos, List, [], ◌∷◌, length, Option}
-use Rattle.std.proofs.Common.{Some}
-use Rattle.std.proofs.Common.{None, Bool, true, false, refl, sym, ap, ◌∙◌, subst, arith, eq-eqb}
+use Rattle.std.proofs.Common.{Some, None, Bool, true, false, refl, sym, ap, ◌∙◌, subst, arith, eq-eqb}
 use Rattle.std.specs.Prelude.{slice_get, option_map, if◌then◌else◌, nat_le, ◌==◌}
 use Rattle.std.specs.Option.{option_or}
 use Rattle.std.specs.List.{Contains}

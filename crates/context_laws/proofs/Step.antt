@@ -1,7 +1,6 @@
 -- A step of code outside does the same in two runs, from states that are alike to it.
-use Rattle.std.proofs.Common.{◌≡◌, ◌≢◌, inl, inr, ℕ, ◌+◌, pos, List, [], ◌∷◌}
-use Rattle.std.proofs.Common.{Option, Some, None, Bool, true, false, refl, sym, ap, ◌∙◌, subst}
-use Rattle.std.proofs.Common.{eqb-true, eq-eqb}
+use Rattle.std.proofs.Common.{◌≡◌, ◌≢◌, inl, inr, ℕ, ◌+◌, pos, List, [], ◌∷◌, Option, Some, None, Bool, true}
+use Rattle.std.proofs.Common.{false, refl, sym, ap, ◌∙◌, subst, eqb-true, eq-eqb}
 use Rattle.std.specs.Prelude.{◌==◌, ◌&&◌, is_some, ◌↔◌, if◌then◌else◌}
 use Rattle.std.specs.List.{Contains}
 use Rattle.std.proofs.lemmas.Bool.{cases_Bool, and_parts, cases_eq}
@@ -28,8 +27,7 @@ use Rattle.lcm_machine.specs.Table.{target, unsealed, memory_content, runs_in, n
 use Rattle.lcm_machine.specs.Table as tbl
 use Rattle.lcm_machine.specs.declared.plan.Effect.{Effect}
 use Rattle.lcm_machine.specs.Row.{went, halted, failed, Outcome, faces, opens, cell_faces, fetch, Fetched}
-use Rattle.lcm_machine.specs.Row.{none, some}
-use Rattle.lcm_machine.specs.Row.{row, step_fetched, put, perform, clear, plan_in}
+use Rattle.lcm_machine.specs.Row.{none, some, row, step_fetched, put, perform, clear, plan_in}
 use Rattle.lcm_machine.specs.Refusals.{HasFailed, Refuses}
 use Rattle.lcm_machine.proofs.Offers.{reg-set_other, look_seals, xjmp_fails, xjmp_runs_fails, OpensSame}
 use Rattle.flow_check.specs.Holds.{code_at}
@@ -53,16 +51,14 @@ use Rattle.overlay_machine.proofs.Offers.{seals_safe, crossing_code_is as code_i
 use Rattle.template_runs.proofs.Offers.{safe_outside}
 use Rattle.template_runs.specs.Public.{IsFreeAt}
 use Rattle.context_laws.specs.Related.{RunsOutside, SameNames, Calls, AreCalls, OneToOne, IsOurs, SameWord}
-use Rattle.context_laws.specs.Related.{ours, code_halves}
-use Rattle.context_laws.specs.Related.{data_halves, ret_codes, ret_datas, Newest, Alike}
+use Rattle.context_laws.specs.Related.{ours, code_halves, data_halves, ret_codes, ret_datas, Newest, Alike}
 use Rattle.context_laws.specs.Related.{StepsAlike, both_halt, both_fail, both_stay, both_come}
 use Rattle.context_laws.specs.Related.{OutsideStepsAlike}
 use Rattle.context_laws.proofs.Rows.{Fresh, EndsTwin, fetch_twin, row_twin, faces_twin, clear_twin, put_twin}
-use Rattle.context_laws.proofs.Outer.{not_code_fails, pc_inside, site_inside, safe, pc_free}
-use Rattle.context_laws.proofs.Outer.{target_free, pc_there}
-use Rattle.context_laws.proofs.Outer.{target_there}
+use Rattle.context_laws.proofs.Outer.{not_code_fails, pc_inside, site_inside, safe, pc_free, target_free}
+use Rattle.context_laws.proofs.Outer.{pc_there, target_there, other_is, back_is, next_mem, straight_pc}
+use Rattle.context_laws.proofs.Outer.{cross_pc}
 use Rattle.context_laws.proofs.Comes.{enter_event, return_event, straight_event, own_event}
-use Rattle.context_laws.proofs.Outer.{other_is, back_is, next_mem, straight_pc, cross_pc}
 
 eqb_same : (k f m e : ℕ) → (k ≡ f) ↔ (m ≡ e) → (k == f) ≡ (m == e)
 eqb_same k f m e h = elim (cases_Bool (k == f)) as (λ _. (k == f) ≡ (m == e)) [

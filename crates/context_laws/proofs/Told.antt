@@ -1,7 +1,6 @@
 -- The items of two runs by which code outside comes in alike are the same.
 use Rattle.std.proofs.Common.{◌≡◌, inl, inr, ℕ, List, [], ◌∷◌, Option, Some, None, Bool, true, false, refl}
-use Rattle.std.proofs.Common.{sym}
-use Rattle.std.proofs.Common.{ap, ◌∙◌}
+use Rattle.std.proofs.Common.{sym, ap, ◌∙◌}
 use Rattle.std.specs.Prelude.{is_some, slice_get, option_map, option_and_then, if◌then◌else◌}
 use Rattle.std.specs.List.{Contains}
 use Rattle.cap_words.specs.declared.Word.{Word}
@@ -47,9 +46,8 @@ use Rattle.context_laws.specs.Related.{SameNames, IsExport, Calls, SameWord}
 use Rattle.context_laws.specs.Related.{EnterAlike, ReturnAlike, ComesAlike, entered_at}
 use Rattle.context_laws.specs.Meanings.{GoByNames, told_name, export_name}
 use Rattle.context_laws.proofs.Jumps.{Flat, f_ours, f_code, f_data, f_ret, f_frame, Jump, fails, outside}
-use Rattle.context_laws.proofs.Jumps.{hops, back}
+use Rattle.context_laws.proofs.Jumps.{hops, back, jumps, plan_is, code_opened, data_opened, jump_same}
 use Rattle.context_laws.proofs.Open.{CallsAlike, HasSites, flat_same}
-use Rattle.context_laws.proofs.Jumps.{jumps, plan_is, code_opened, data_opened, jump_same}
 
 -- ---- one link
 

@@ -13,9 +13,8 @@ use Rattle.template_runs.proofs.Offers.{goes_same, halts_not, fails_not}
 use Rattle.source_laws.specs.Secrets.{Until, still_there, one_more}
 use Rattle.context_laws.specs.Related.{RunsOutside, SameNames, Calls, AreCalls, Alike, StepsAlike, both_halt}
 use Rattle.context_laws.specs.Related.{both_fail, both_stay, both_come, ComesAlike}
-use Rattle.context_laws.specs.Lockstep.{Round, IsRound, Path, SameCrossing, by_call, by_leave}
-use Rattle.context_laws.specs.Lockstep.{SameObserved, InStep, at_end, round, AreBelow, Holds, Tidies}
-use Rattle.context_laws.specs.Lockstep.{RunInStep}
+use Rattle.context_laws.specs.Lockstep.{Round, IsRound, Path, SameCrossing, by_call, by_leave, SameObserved}
+use Rattle.context_laws.specs.Lockstep.{InStep, at_end, round, AreBelow, Holds, Tidies, RunInStep}
 use Rattle.context_laws.specs.Lockstep as spec
 use Rattle.context_laws.proofs.Step.{step_alike}
 use Rattle.context_laws.proofs.Counts.{call_new, step_rises, until_reached}

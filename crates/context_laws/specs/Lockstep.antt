@@ -1,6 +1,5 @@
 -- Runs of two links, of whose trusted parts outside code observes the same: it runs in lockstep.
-use Rattle.std.specs.Prelude.{◌≡◌, ℕ, suc, ◌↔◌, ◌<◌, true, false, List, [], ◌∷◌, Some}
-use Rattle.std.specs.Prelude.{is_some}
+use Rattle.std.specs.Prelude.{◌≡◌, ℕ, suc, ◌↔◌, ◌<◌, true, false, List, [], ◌∷◌, Some, is_some}
 use Rattle.std.specs.List.{Contains}
 use Rattle.cap_words.specs.declared.Word.{Word}
 use Rattle.lcm_isa.specs.declared.Reg.TheVariants.{A0, A1, A2, A3}

@@ -1,8 +1,6 @@
 -- Scripts and their texts.
-use Rattle.std.specs.Prelude.{◌≡◌, ◌≢◌, ◌⊎◌, ◌↔◌, ◌≤◌, ◌+◌, ℕ, List, [], ◌∷◌, ◌++◌, length, flat_map}
-use Rattle.std.specs.Prelude.{Some}
-use Rattle.std.specs.Prelude.{Ok, Err}
-use Rattle.std.specs.Prelude.{All}
+use Rattle.std.specs.Prelude.{◌≡◌, ◌≢◌, ◌⊎◌, ◌↔◌, ◌≤◌, ◌+◌, ℕ, List, [], ◌∷◌, ◌++◌, length, flat_map, Some}
+use Rattle.std.specs.Prelude.{Ok, Err, All}
 use Rattle.debug_script.specs.declared.command.DebugCommand.{DebugCommand}
 use Rattle.debug_script.specs.declared.fault.ScriptFault.TheVariants.{Line}
 use Rattle.debug_script.specs.declared.TheConstants.{MOST_LINES}

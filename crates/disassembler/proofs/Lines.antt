@@ -7,7 +7,7 @@ use Rattle.std.specs.Fmt.{signed_decimal}
 use Rattle.std.proofs.lemmas.Bool.Decides.{nat_tests}
 use Rattle.text_scan.proofs.Offers.{Form, name_form, sign_form, integer_forms, IsField, IsRest, rest_none}
 use Rattle.text_scan.proofs.Offers.{rest_more}
-use Rattle.cap_words.specs.Text.{perm_name, lin_name}
+use Rattle.cap_words.specs.Text.{perm_name, lin_name, newline}
 use Rattle.cap_words.specs.declared.Word.{Word}
 use Rattle.cap_words.specs.declared.Word.TheVariants.{Int, Mem, Seal, Sealed}
 use Rattle.cap_words.specs.WordBytes.{WordFits, IsUnsealed}
@@ -33,7 +33,6 @@ use Rattle.asm_draft.specs.Draft.{Draft, has_word_room, with_word, may_end, may_
 use Rattle.asm_draft.specs.Operands.{operands_in}
 use Rattle.asm_draft.specs.Lines.{may_stand}
 use Rattle.asm_draft.proofs.Offers.{instr_line_again, word_line_again, item_line_again, offset_forms}
-use Rattle.cap_words.specs.Text.{newline}
 use Rattle.disassembler.specs.Disassembled.{item_line, word_line, code_line, integer_line}
 use Rattle.disassembler.proofs.Leads.{Leads, leads_line, leads_fields}
 

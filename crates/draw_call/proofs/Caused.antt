@@ -1,6 +1,5 @@
 -- The cause of every status.
-use Rattle.std.proofs.Common.{◌≡◌, ◌≢◌, ℕ, List, Option, Some, false, refl, sym, ap, subst, ◌∙◌}
-use Rattle.std.proofs.Common.{inl, inr}
+use Rattle.std.proofs.Common.{◌≡◌, ◌≢◌, ℕ, List, Option, Some, false, refl, sym, ap, subst, ◌∙◌, inl, inr}
 use Rattle.std.specs.Prelude.{Result, Ok, Err, IsNone, IsSomeAnd, MatchOption}
 use Rattle.outside_io.specs.Counts.{Rose}
 use Rattle.outside_io.specs.FilesSeen.{FilesSeen, Puts, KeepsOthers}

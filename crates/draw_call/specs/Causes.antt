@@ -11,8 +11,7 @@ use Rattle.draw_call.specs.declared.words.DrawCall.{DrawCall}
 use Rattle.draw_call.specs.declared.refusal.DrawRefusal.{DrawRefusal}
 use Rattle.draw_call.specs.declared.refusal.DrawRefusal.TheVariants as refusal
 use Rattle.draw_call.specs.declared.status.DrawStatus.{DrawStatus}
-use Rattle.draw_call.specs.declared.status.DrawStatus.TheVariants.{Done, WriteFault}
-use Rattle.draw_call.specs.declared.status.DrawStatus.TheVariants.{NoMemory}
+use Rattle.draw_call.specs.declared.status.DrawStatus.TheVariants.{Done, WriteFault, NoMemory}
 use Rattle.draw_call.specs.Refusals.{refusal_line, refusal_ends}
 use Rattle.draw_call.specs.Answers.{CallSeen, done_line, picture_due}
 

@@ -8,8 +8,7 @@ use Rattle.file_plans.specs.declared.refusal.Refusal.{Refusal}
 use Rattle.file_plans.specs.declared.refusal.Stop.{Stop}
 use Rattle.file_plans.specs.declared.refusal.Stop.TheVariants.{Refused, NoMemory}
 use Rattle.file_plans.specs.Plans.{Plan, Reads, Ends, Made, ◌>>=◌, file, unless, whole, too_long, unread}
-use Rattle.file_plans.specs.Plans.{Comes}
-use Rattle.file_plans.specs.Plans.{Follows, Meets}
+use Rattle.file_plans.specs.Plans.{Comes, Follows, Meets}
 
 pub same_ok : {A : Type 0} (x y : A) (r : Result A Refusal) → r ≡ Ok x → r ≡ Ok y → x ≡ y
 same_ok x y r e h = cc

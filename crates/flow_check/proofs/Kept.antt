@@ -48,8 +48,7 @@ use Rattle.flow_check.specs.Flow.{led_to, by_target, cca_of, handed, shows_nothi
 use Rattle.std.specs.List.{list_all}
 use Rattle.std.proofs.Math.IntN.{+ℤ_assoc}
 use Rattle.flow_check.specs.Holds.{Ranges, data_cap, part_stack_cap, code_at, Up, HasKind, HasKinds, PcAt}
-use Rattle.flow_check.specs.Holds.{SafeCells}
-use Rattle.flow_check.specs.Holds.{SameOthers}
+use Rattle.flow_check.specs.Holds.{SafeCells, SameOthers}
 use Rattle.flow_check.proofs.Fitting.{fits_new, fits_set, fits_keep, fits_pc, is_safe}
 
 -- ---- what a flow that isn't broken says

@@ -1,7 +1,6 @@
 -- A part of an image is read where it is spelled, and spelled where it was read; and so are parts, one after
 -- another.
-use Rattle.std.proofs.Common.{◌≡◌, ℕ, ◌+◌, ◌≤◌, take, drop, Bool, true, false, cond, ltb, List}
-use Rattle.std.proofs.Common.{length}
+use Rattle.std.proofs.Common.{◌≡◌, ℕ, ◌+◌, ◌≤◌, take, drop, Bool, true, false, cond, ltb, List, length}
 use Rattle.std.proofs.Common.{Result, Ok, Err, refl, sym, ap, subst, ◌∙◌, arith, length-take}
 use Rattle.std.specs.List.{flat_map, AllByRecursion}
 use Rattle.readers.specs.Readers.{Reader, goes_on, ◌>>=◌, given, told_by, telling}

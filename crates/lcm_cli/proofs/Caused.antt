@@ -1,7 +1,6 @@
 -- The cause of every status.
-use Rattle.std.proofs.Common.{◌≡◌, ◌≢◌, ℕ, zero, suc, ◌⊎◌, ◌+◌, List, [], Option, Some, None, refl, sym}
-use Rattle.std.proofs.Common.{ap, subst, ◌∙◌}
-use Rattle.std.proofs.Common.{inl, inr, true, false}
+use Rattle.std.proofs.Common.{◌≡◌, ◌≢◌, ℕ, zero, suc, ◌⊎◌, ◌+◌, List, [], Option, Some, None, refl, sym, ap}
+use Rattle.std.proofs.Common.{subst, ◌∙◌, inl, inr, true, false}
 use Rattle.std.specs.Prelude.{Result, Ok, Err, Bool, ℤ, nat_lt, if◌then◌else◌}
 use Rattle.outside_io.specs.Counts.{Rose}
 use Rattle.outside_io.specs.FilesSeen.{FilesSeen}
@@ -42,17 +41,14 @@ use Rattle.source_events.specs.declared.MeaningEnd.TheVariants as end
 use Rattle.meaning_tool.specs.Subjects.{Subject, told_of}
 use Rattle.lcm_cli.specs.Commands.{Telling, Task, Run, Trace, Reach, Debug, Put, Write, Tell, plan_in}
 use Rattle.lcm_cli.specs.Answers.{Answer, Outside, end_status, meaning_status, writes, ran, ran_overlay}
-use Rattle.lcm_cli.specs.Answers.{tells}
-use Rattle.lcm_cli.specs.Answers.{refused, IsAnswerOf, IsPut}
-use Rattle.lcm_cli.specs.Answers.{whole, unput, unwritten, Answers, answer, nothing, read_in}
+use Rattle.lcm_cli.specs.Answers.{tells, refused, IsAnswerOf, IsPut, whole, unput, unwritten, Answers, answer}
+use Rattle.lcm_cli.specs.Answers.{nothing, read_in}
 use Rattle.lcm_cli.specs.Causes.{IsTurn, IsUnread, IsLong, IsUndecoded, IsUncompiled, IsUnassembled}
-use Rattle.lcm_cli.specs.Causes.{IsUnloaded, IsUnscripted, IsUnaudited, IsUnmade, Breaks}
+use Rattle.lcm_cli.specs.Causes.{IsUnloaded, IsUnscripted, IsUnaudited, IsUnmade, Breaks, CameOf, RanTo}
 use Rattle.debug_tool.specs.Replies.{debug_text}
-use Rattle.lcm_cli.specs.Causes.{CameOf, RanTo}
-use Rattle.lcm_cli.specs.Bytes.{bytes_of}
 use Rattle.lcm_cli.specs.Causes.{TracedTo, MeantTo, IsAtRest, PutsFile, Tells, out_name, Wrote, IsUnfed}
-use Rattle.lcm_cli.specs.Causes.{Causes}
-use Rattle.lcm_cli.specs.Causes.{Promised}
+use Rattle.lcm_cli.specs.Bytes.{bytes_of}
+use Rattle.lcm_cli.specs.Causes.{Causes, Promised}
 use Rattle.lcm_cli.proofs.Making.{came_of}
 use Rattle.lcm_cli.proofs.Why.{WhyIs, why_is}
 use Rattle.lcm_cli.proofs.Put.{put_of}

@@ -11,13 +11,10 @@ use Rattle.generated_load.specs.Loads.{load_steps}
 use Rattle.lcm_cli.specs.Commands.{Lines, Totals, Task, Run, Trace, Reach, Debug, Put, Write, Tell}
 use Rattle.debug_tool.specs.Replies.{debug_text}
 use Rattle.lcm_cli.specs.ReadyTasks.{IsTextOf, Does, FollowsTask}
-use Rattle.lcm_cli.specs.Answers.{Outside, unwritten, Answers, answer, nothing}
-use Rattle.lcm_cli.specs.Answers.{GivesOrNothing}
+use Rattle.lcm_cli.specs.Answers.{Outside, unwritten, Answers, answer, nothing, GivesOrNothing, with_files}
+use Rattle.lcm_cli.specs.Answers.{writes, meaning_status, says_ok, puts, ran, ran_overlay, IsAnswerOf}
 use Rattle.file_plans.proofs.Offers.{only_again, comes_quiet}
-use Rattle.lcm_cli.specs.Answers.{with_files, writes, meaning_status, says_ok, puts, ran, ran_overlay}
-use Rattle.lcm_cli.specs.Answers.{IsAnswerOf}
-use Rattle.lcm_cli.specs.Answers.{ready_answer}
-use Rattle.lcm_cli.specs.Answers.{IsReady}
+use Rattle.lcm_cli.specs.Answers.{ready_answer, IsReady}
 
 text_answers : (t : Task) (text : List ℕ) → IsTextOf t text → IsAnswerOf (Ok t) (writes Done text)
 text_answers (Write own) text d = ap (writes Done) d

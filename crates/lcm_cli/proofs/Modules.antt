@@ -30,8 +30,7 @@ use Rattle.meaning_tool.specs.Subjects.{subject_of, subject_in}
 use Rattle.proc_language.specs.declared.dialect.Dialect.{Dialect}
 use Rattle.lcm_cli.specs.Causes.{IsUnsourced, IsUnfed, ModulesBreak}
 use Rattle.lcm_cli.proofs.Ends.{Never, comes_split, same_err, ended_unless, not_made, never_unless}
-use Rattle.lcm_cli.proofs.Ends.{never_bind}
-use Rattle.lcm_cli.proofs.Ends.{never_reads, never_told, never_each, Foreign, foreign, no_rule_by}
+use Rattle.lcm_cli.proofs.Ends.{never_bind, never_reads, never_told, never_each, Foreign, foreign, no_rule_by}
 use Rattle.lcm_cli.proofs.Reasons.{Reasoned, reasoned_bind, reasoned_made, reasoned_rule, reads_reasoned}
 use Rattle.lcm_cli.proofs.Reasons.{reason_by, IsWord, each_reasoned, same_rule, err_same}
 

@@ -13,8 +13,7 @@ use Rattle.file_plans.specs.declared.TheConstants.{LONGEST_FILE}
 use Rattle.file_plans.specs.declared.refusal.Refusal.{Refusal}
 use Rattle.file_plans.specs.declared.refusal.Refusal.TheVariants as refusal
 use Rattle.file_plans.specs.Plans.{Plan, Reads, Ends, Made}
-use Rattle.lcm_cli.specs.Commands.{Task, Run, Trace, Reach, Debug, Put, Write, Tell}
-use Rattle.lcm_cli.specs.Commands.{plan_in}
+use Rattle.lcm_cli.specs.Commands.{Task, Run, Trace, Reach, Debug, Put, Write, Tell, plan_in}
 use Rattle.lcm_cli.specs.Answers.{Answer, IsAnswerOf, writes, ran, ran_overlay, Settles, IsWritten}
 use Rattle.refusal_lines.specs.declared.status.Status.TheVariants.{Done}
 use Rattle.lcm_cli.proofs.OneStart.{one_start}

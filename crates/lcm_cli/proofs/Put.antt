@@ -30,16 +30,13 @@ use Rattle.source_events.specs.declared.MeaningEnd.{MeaningEnd}
 use Rattle.source_events.specs.declared.MeaningEnd.TheVariants as end
 use Rattle.meaning_tool.specs.Subjects.{told_of, module_at, subject_in}
 use Rattle.lcm_cli.specs.Audits.{audit_at}
-use Rattle.lcm_cli.specs.Commands.{Task, Run, Trace, Reach, Debug, Put, Write, Tell}
-use Rattle.lcm_cli.specs.Commands.{Content, OfModule, spelling_of, IsReadAgain}
-use Rattle.lcm_cli.specs.Commands.{link_task, component_task, plan_of, plan_in}
+use Rattle.lcm_cli.specs.Commands.{Task, Run, Trace, Reach, Debug, Put, Write, Tell, Content, OfModule}
+use Rattle.lcm_cli.specs.Commands.{spelling_of, IsReadAgain, link_task, component_task, plan_of, plan_in}
 use Rattle.link_tool.specs.Linked.{linked_in}
 use Rattle.link_tool.specs.Loads.{load_image}
 use Rattle.lcm_cli.specs.Answers.{Answer, NewFile, Outside, end_status, meaning_status, ran, ran_overlay}
-use Rattle.lcm_cli.specs.Answers.{tells}
-use Rattle.lcm_cli.specs.Answers.{puts}
-use Rattle.lcm_cli.specs.Answers.{refused, IsAnswerOf}
-use Rattle.lcm_cli.specs.Answers.{IsPut, whole, unput, unwritten, Answers, answer, nothing, read_in}
+use Rattle.lcm_cli.specs.Answers.{tells, puts, refused, IsAnswerOf, IsPut, whole, unput, unwritten, Answers}
+use Rattle.lcm_cli.specs.Answers.{answer, nothing, read_in}
 use Rattle.lcm_cli.specs.Causes.{PutsFile, link_out, component_out, out_name, Stay, OthersStay, StayAt}
 use Rattle.lcm_cli.specs.Causes.{CameOf, PutsWhole}
 use Rattle.lcm_cli.specs.Bytes.{bytes_of}

@@ -30,8 +30,7 @@ use Rattle.proc_sources.specs.Sources.{sourced}
 use Rattle.proc_language.specs.declared.dialect.Dialect.{Dialect}
 use Rattle.lcm_cli.specs.Causes.{linked_words, part_words, IsTurn, IsUnread, IsLong, Holds, HoldsPart}
 use Rattle.lcm_cli.specs.Causes.{IsUndecoded, IsUnassembled, IsUnsourced, IsUncompiled, IsUnscripted}
-use Rattle.lcm_cli.specs.Causes.{IsUnaudited, PartBreaks, SomeBreaks}
-use Rattle.lcm_cli.specs.Causes.{AllBreak, LinkBreaks, LinkedCame}
+use Rattle.lcm_cli.specs.Causes.{IsUnaudited, PartBreaks, SomeBreaks, AllBreak, LinkBreaks, LinkedCame}
 use Rattle.lcm_cli.proofs.Ends.{comes_split, same_err, ended_unless, not_made, no_rule}
 use Rattle.link_tool.proofs.Offers.{image_with, loaded_read}
 

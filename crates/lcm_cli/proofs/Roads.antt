@@ -1,7 +1,6 @@
 -- Words beside words: each command comes to the same.
 use Rattle.std.proofs.Common.{◌≡◌, ℕ, ◌≤◌, List, [], ◌∷◌, length, Option, Some, None, Bool, true, false, refl}
-use Rattle.std.proofs.Common.{sym, ap, subst}
-use Rattle.std.proofs.Common.{◌∙◌, le-leb}
+use Rattle.std.proofs.Common.{sym, ap, subst, ◌∙◌, le-leb}
 use Rattle.std.proofs.lemmas.Bool.{leb-true}
 use Rattle.std.specs.Prelude.{◌↔◌, nat_le, Result, Ok, Err, map}
 use Rattle.command_words.specs.declared.part.Ending.{Ending}
@@ -38,25 +37,21 @@ use Rattle.file_plans.specs.declared.refusal.Refusal.{Refusal}
 use Rattle.file_plans.specs.declared.refusal.Refusal.TheVariants as refusal
 use Rattle.file_plans.specs.Plans.{Plan, Made, unless, each_at}
 use Rattle.meaning_tool.specs.Subjects.{Subject, language_of, module_at, feed_at, unfed, subject_of}
-use Rattle.meaning_tool.specs.Subjects.{subject_in}
-use Rattle.meaning_tool.specs.Subjects.{told_of}
+use Rattle.meaning_tool.specs.Subjects.{subject_in, told_of}
 use Rattle.command_words.specs.Part.{is_trusted_mark}
 use Rattle.refusal_lines.specs.declared.status.Status.TheVariants.{Done}
 use Rattle.link_tool.specs.Parts.{broken_in, linked, loaded, form_by, HasForm, component_at, part_at}
 use Rattle.lcm_cli.specs.Debugs.{unscripted, script_at}
-use Rattle.lcm_cli.specs.Commands.{Task, Tell, Debug, link_task}
+use Rattle.lcm_cli.specs.Commands.{Task, Tell, Debug, link_task, component_task, debug_plan, for_task}
 use Rattle.link_tool.specs.Linked.{linked_parts, linked_image, linked_in}
-use Rattle.lcm_cli.specs.Commands.{component_task, debug_plan}
-use Rattle.lcm_cli.specs.Commands.{for_task, plan_of}
+use Rattle.lcm_cli.specs.Commands.{plan_of}
 use Rattle.lcm_cli.specs.Answers.{NewFile, Answer, IsAnswerOf, IsWritten, tells, puts, writes}
-use Rattle.lcm_cli.specs.Roads.{Held, PutsComponent, PutsImage, ShowsText, IsErasure, HoldsShort}
-use Rattle.lcm_cli.specs.Roads.{Pairwise, HaveOneText, same, erasure, IsBeside, one_text, component, shown}
-use Rattle.lcm_cli.specs.Roads.{AreBeside, LinkBeside, AskBeside, Asking, AskTheSame, beside, back, onward}
-use Rattle.lcm_cli.specs.Roads.{IsGiven}
+use Rattle.lcm_cli.specs.Roads.{Held, PutsComponent, PutsImage, ShowsText, IsErasure, HoldsShort, Pairwise}
+use Rattle.lcm_cli.specs.Roads.{HaveOneText, same, erasure, IsBeside, one_text, component, shown, AreBeside}
+use Rattle.lcm_cli.specs.Roads.{LinkBeside, AskBeside, Asking, AskTheSame, beside, back, onward, IsGiven}
 use Rattle.lcm_cli.proofs.Alongside.{Due, by_length, by_bytes, on, settled, settled_by, settles, settled_bind}
-use Rattle.lcm_cli.proofs.Alongside.{Match, Agree, agree_bind}
-use Rattle.lcm_cli.proofs.Alongside.{each_agree, all_equal, as_many, told, settled_unless}
-use Rattle.lcm_cli.proofs.Alongside.{match_same}
+use Rattle.lcm_cli.proofs.Alongside.{Match, Agree, agree_bind, each_agree, all_equal, as_many, told}
+use Rattle.lcm_cli.proofs.Alongside.{settled_unless, match_same}
 use Rattle.lcm_cli.proofs.ComponentLimits.{LimitLaws, form_fits}
 use Rattle.lcm_cli.proofs.RunsMade.{refused_none}
 

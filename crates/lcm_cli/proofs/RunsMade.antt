@@ -42,12 +42,10 @@ use Rattle.lcm_cli.specs.Commands.{Lines, Task, link_task, plan_of, plan_in}
 use Rattle.link_tool.specs.Linked.{linked_in}
 use Rattle.lcm_cli.specs.Bytes.{Makes}
 use Rattle.lcm_cli.specs.Answers.{Answer, NewFile, Outside, with_files, end_status, writes, ran, ran_overlay}
-use Rattle.lcm_cli.specs.Answers.{refused}
-use Rattle.lcm_cli.specs.Answers.{IsPut, IsAnswerOf}
-use Rattle.lcm_cli.specs.Answers.{AnswersWhole, whole, unput, unwritten, Answers, answer, nothing, read_in}
-use Rattle.lcm_cli.specs.Causes.{IsRunStatus, Started, text_of_run, RunGiven, TraceGiven}
-use Rattle.lcm_cli.specs.Causes.{ReachGiven}
-use Rattle.lcm_cli.specs.Causes.{RunCut, TraceCut}
+use Rattle.lcm_cli.specs.Answers.{refused, IsPut, IsAnswerOf, AnswersWhole, whole, unput, unwritten, Answers}
+use Rattle.lcm_cli.specs.Answers.{answer, nothing, read_in}
+use Rattle.lcm_cli.specs.Causes.{IsRunStatus, Started, text_of_run, RunGiven, TraceGiven, ReachGiven, RunCut}
+use Rattle.lcm_cli.specs.Causes.{TraceCut}
 use Rattle.lcm_cli.proofs.Making.{makes_of}
 use Rattle.lcm_cli.proofs.Tasks.{err_of, made_of}
 use Rattle.lcm_cli.proofs.Reasons.{in_made}

@@ -19,13 +19,11 @@ use Rattle.file_plans.specs.declared.refusal.Refusal.TheVariants as refusal
 use Rattle.file_plans.specs.Plans.{Plan, Made, Comes}
 use Rattle.link_tool.specs.Parts.{component_at, part_at}
 use Rattle.meaning_tool.specs.Subjects.{module_at, subject_in}
-use Rattle.lcm_cli.specs.Commands.{Task, for_task, link_task, component_task, plan_of, plan_in}
+use Rattle.lcm_cli.specs.Commands.{Task, for_task, link_task, component_task, plan_of, plan_in, debug_plan}
 use Rattle.link_tool.specs.Linked.{linked_in}
-use Rattle.lcm_cli.specs.Commands.{debug_plan}
 use Rattle.link_tool.specs.Loads.{load_image}
 use Rattle.lcm_cli.specs.Causes.{IsUnread, IsLong, IsUndecoded, IsUncompiled, IsUnassembled, IsUnloaded}
-use Rattle.lcm_cli.specs.Causes.{IsUnscripted, IsUnaudited}
-use Rattle.lcm_cli.specs.Causes.{IsUnmade, Breaks, IsUnfed}
+use Rattle.lcm_cli.specs.Causes.{IsUnscripted, IsUnaudited, IsUnmade, Breaks, IsUnfed}
 use Rattle.lcm_cli.proofs.Ends.{Never, same_err, never_linked, never_image, never_component, never_part}
 use Rattle.lcm_cli.proofs.Ends.{no_rule}
 use Rattle.lcm_cli.proofs.Reasons.{reason_first, Reasoned, in_reasoned, component_reasoned}

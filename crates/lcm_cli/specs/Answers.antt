@@ -33,9 +33,8 @@ use Rattle.lcm_cli.specs.declared.ready.ReadyTask.TheVariants as ready
 use Rattle.refusal_lines.specs.Refusals.{refusal_text, refusal_status}
 use Rattle.file_plans.specs.Plans.{Plan, Reads, Ends, Made, Comes}
 use Rattle.lcm_cli.specs.Bytes.{bytes_of}
-use Rattle.lcm_cli.specs.Commands.{Telling, Lines, Totals, Task, Run, Trace, Reach, Debug, Put, Write}
-use Rattle.lcm_cli.specs.Commands.{Tell, spelling_of, plan_in}
-use Rattle.lcm_cli.specs.Commands.{IsReadAgain, ok_text}
+use Rattle.lcm_cli.specs.Commands.{Telling, Lines, Totals, Task, Run, Trace, Reach, Debug, Put, Write, Tell}
+use Rattle.lcm_cli.specs.Commands.{spelling_of, plan_in, IsReadAgain, ok_text}
 use Rattle.lcm_cli.specs.Totals.{totals_text}
 
 -- a file that is put, by its name and its bytes

@@ -79,22 +79,20 @@ use Rattle.file_plans.specs.declared.refusal.Refusal.{Refusal}
 use Rattle.file_plans.specs.declared.refusal.Refusal.TheVariants as refusal
 use Rattle.refusal_lines.specs.declared.status.Status.{Status}
 use Rattle.refusal_lines.specs.declared.status.Status.TheVariants.{Done, MachineFailed, StepsUsed, Usage}
-use Rattle.refusal_lines.specs.declared.status.Status.TheVariants.{ReadFault}
-use Rattle.refusal_lines.specs.declared.status.Status.TheVariants.{WriteFault, NoMemory, TooLong, AsmRefused}
-use Rattle.refusal_lines.specs.declared.status.Status.TheVariants.{SourceRefused, FileRefused, RuleBroken}
-use Rattle.refusal_lines.specs.declared.status.Status.TheVariants.{AuditRefused}
+use Rattle.refusal_lines.specs.declared.status.Status.TheVariants.{ReadFault, WriteFault, NoMemory, TooLong}
+use Rattle.refusal_lines.specs.declared.status.Status.TheVariants.{AsmRefused, SourceRefused, FileRefused}
+use Rattle.refusal_lines.specs.declared.status.Status.TheVariants.{RuleBroken, AuditRefused}
 use Rattle.refusal_lines.specs.Refusals.{refusal_text, audit_text, image_status}
 use Rattle.file_plans.specs.Plans.{Plan, Reads, Ends, Made, each_at, Comes}
 use Rattle.component_linker.specs.Accepted.{accepted}
 use Rattle.command_words.specs.Part.{is_trusted_mark}
 use Rattle.link_tool.specs.Parts.{linked, loaded, component_at, part_at}
-use Rattle.lcm_cli.specs.Commands.{Content, spelling_of, IsReadAgain, Telling, Run, Trace, Put, Write}
-use Rattle.lcm_cli.specs.Commands.{Task, Reach, Tell}
+use Rattle.lcm_cli.specs.Commands.{Content, spelling_of, IsReadAgain, Telling, Run, Trace, Put, Write, Task}
+use Rattle.lcm_cli.specs.Commands.{Reach, Tell, ok_text, link_task, plan_of, plan_in}
 use Rattle.lcm_cli.specs.Commands as task
 use Rattle.link_tool.specs.Loads.{load_image}
 use Rattle.lcm_cli.specs.Totals.{totals_text}
 use Rattle.lcm_cli.specs.Debugs.{script_line}
-use Rattle.lcm_cli.specs.Commands.{ok_text, link_task, plan_of, plan_in}
 use Rattle.link_tool.specs.Linked.{linked_in}
 use Rattle.lcm_cli.specs.Bytes.{Makes}
 use Rattle.lcm_cli.specs.Answers.{Outside, Answers, read_in, IsComplete, end_status, meaning_status}

@@ -13,10 +13,7 @@ use Rattle.file_plans.specs.declared.refusal.Stop.{Stop}
 use Rattle.file_plans.specs.Plans.{Plan, FollowsAs}
 use Rattle.meaning_tool.specs.Subjects.{Subject, IsMeant}
 use Rattle.lcm_cli.specs.Commands.{Lines, Totals, Task, Run, Trace, Reach, Debug, Put, Write, Tell}
-use Rattle.lcm_cli.specs.Commands.{Content}
-use Rattle.lcm_cli.specs.Commands.{spelling_of}
-use Rattle.lcm_cli.specs.Commands.{IsReadAgain}
-use Rattle.lcm_cli.specs.Commands.{ok_text}
+use Rattle.lcm_cli.specs.Commands.{Content, IsReadAgain, spelling_of, ok_text}
 
 -- the text that a task asks to be written: its own, or that of what the parts of its image can reach
 abbrev pub IsTextOf : Task → List ℕ → Type 0
@@ -25,8 +22,7 @@ IsTextOf (Reach i) text = (start : StartSeen) × IsStartOf i.parts i.stack start
 IsTextOf _ text = ⊥
 
 -- the ready task runs from the start of the task's image or load, or from its overlay, or has the bytes of
--- its file,
--- its text or that of its meaning
+-- its file, its text or that of its meaning
 abbrev pub Does : Task → ReadyTask → Type 0
 Does task (ready.Run start steps) =
     (i : ImageSeen) × (task ≡ Run i steps Lines) × IsStartOf i.parts i.stack start

@@ -1,8 +1,7 @@
 -- The number of an instruction leads back to it.
 use Rattle.std.proofs.Common.{◌≡◌, ℕ, ◌+◌, ◌/◌, ◌%◌, ◌<◌, ℤ, pos, negsuc, ◌-ℤ◌, Option, Some, None, refl, sym}
 use Rattle.std.proofs.Common.{ap, ◌∙◌, ◌-◌, eq-eqb, eqb-true, eqb, cond, Bool, true, false, lt-ltb, lit<}
-use Rattle.std.proofs.Common.{arith}
-use Rattle.std.proofs.Common.{zero, suc, subst, List, [], ◌∷◌, slice_get, rules, ◌≢◌}
+use Rattle.std.proofs.Common.{arith, zero, suc, subst, List, [], ◌∷◌, slice_get, rules, ◌≢◌}
 use Rattle.std.specs.Prelude.{◌==◌, if◌then◌else◌, IfNone}
 use Rattle.std.proofs.lemmas.Bool.{ltb-true}
 use Rattle.std.proofs.lemmas.Int.{ints}

@@ -1,7 +1,6 @@
 -- The numbers of registers, operands and instructions.
 use Rattle.std.specs.Prelude.{ℕ, ◌+◌, ◌*◌, ◌/◌, ◌%◌, ◌-◌, ◌==◌, ℤ, pos, negsuc, ◌-ℤ◌, List, [], ◌∷◌, Option}
-use Rattle.std.specs.Prelude.{Some, None, slice_get, unwrap_or, if◌then◌else◌, nat_lt}
-use Rattle.std.specs.Prelude.{FitsSigned}
+use Rattle.std.specs.Prelude.{Some, None, slice_get, unwrap_or, if◌then◌else◌, nat_lt, FitsSigned}
 use Rattle.std.specs.Int.{w32}
 use Rattle.lcm_isa.specs.declared.TheConstants.{FIRST, SECOND, THIRD, MODE, FIELD}
 use Rattle.lcm_isa.specs.declared.Reg.{Reg}

@@ -1,7 +1,6 @@
 -- A step counts at most one, an ended machine stays as it is, and a run is where its instructions lead.
-use Rattle.std.proofs.Common.{◌≡◌, ◌≢◌, ℕ, zero, suc, ◌+◌, ◌≤◌, ◌<◌, Option, Some, None, refl, sym, ap}
-use Rattle.std.proofs.Common.{subst, ◌∙◌}
-use Rattle.std.proofs.Common.{arith, add-one, inl, inr}
+use Rattle.std.proofs.Common.{◌≡◌, ◌≢◌, ℕ, zero, suc, ◌+◌, ◌≤◌, ◌<◌, Option, Some, None, refl, sym, ap, subst}
+use Rattle.std.proofs.Common.{◌∙◌, arith, add-one, inl, inr}
 use Rattle.std.specs.Prelude.{IfSome, Bool, true, false, not, ◌&&◌, is_some}
 use Rattle.std.proofs.lemmas.Bool.{cases_lt}
 use Rattle.cap_words.specs.declared.Word.{Word}
@@ -17,8 +16,7 @@ use Rattle.lcm_machine.specs.Row.{Outcome, went, halted, failed, step_of, pc_at,
 use Rattle.lcm_machine.specs.Maps.{State}
 use Rattle.lcm_machine.specs.Within.{lies, is_of, is_next, within}
 use Rattle.lcm_machine.specs.Run.{Run, moved, next_by, next_state, jump_by, next_jump, answer, answer_by}
-use Rattle.lcm_machine.specs.Run.{plain}
-use Rattle.lcm_machine.specs.Run.{fresh, EndsAs}
+use Rattle.lcm_machine.specs.Run.{plain, fresh, EndsAs}
 use Rattle.lcm_machine.specs.Runs.{and_then, run_of}
 use Rattle.lcm_machine.proofs.Goes.{run_of-add}
 use Rattle.lcm_machine.proofs.StepRows.{run_one}

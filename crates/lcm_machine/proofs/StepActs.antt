@@ -27,8 +27,7 @@ use Rattle.lcm_machine.specs.Row.{faces, cell_faces, look_face, face_there, fetc
 use Rattle.lcm_machine.specs.Row.{step_of, opens, plan_in, outcome, row, went, perform, put, clear}
 use Rattle.lcm_machine.specs.Ends.{After}
 use Rattle.lcm_machine.specs.Touched.{reached, cell_fetched, cell_used}
-use Rattle.lcm_machine.specs.Acts.{IsNext, GoesTo, Lets}
-use Rattle.lcm_machine.specs.Acts.{DoesAsItMay, ChangesNoOther, WritesWhereItMay}
+use Rattle.lcm_machine.specs.Acts.{IsNext, GoesTo, Lets, DoesAsItMay, ChangesNoOther, WritesWhereItMay}
 use Rattle.lcm_machine.proofs.Plans.{Gives, gives_goes, Gives-ask, Gives-need, Gives-by_cap, memory_is}
 use Rattle.lcm_machine.proofs.Plans.{load_cell}
 use Rattle.lcm_machine.proofs.CellLemmas.{cell-set_other}

@@ -20,7 +20,7 @@ use Rattle.cap_words.specs.declared.Face.TheVariants.{Number, Memory, Seals, Sea
 use Rattle.cap_words.specs.Face.{face_of, opened_of}
 use Rattle.cap_words.specs.Faces.{memory_in, seals_in, same_kind, face_number, face_address, face_base}
 use Rattle.cap_words.specs.Faces.{face_end, face_perm, perm_number, seals_at, can_split, address, covers}
-use Rattle.cap_words.specs.Faces.{target_of}
+use Rattle.cap_words.specs.Faces.{target_of, may_run}
 use Rattle.cap_words.specs.Linear.{lin_is}
 use Rattle.cap_words.specs.WordBytes.{ContentFits, WordFits}
 use Rattle.lcm_isa.specs.Numbers.{IsInstr, decode_of}
@@ -39,16 +39,14 @@ use Rattle.lcm_machine.specs.declared.plan.Moved.{Moved}
 use Rattle.lcm_machine.specs.Maps.{State}
 use Rattle.lcm_machine.specs.Places.{reg}
 use Rattle.lcm_machine.specs.Table.{plan, fits_64, bit, memory_content, unsealed}
-use Rattle.lcm_machine.specs.Row.{perform, faces}
-use Rattle.lcm_machine.specs.Row.{cell_faces, opens, plan_in, outcome, row, face_there, fetch, fetch_word}
-use Rattle.lcm_machine.specs.Row.{fetch_decoded, Fetched, none, some, step_fetched, step_of}
+use Rattle.lcm_machine.specs.Row.{perform, faces, cell_faces, opens, plan_in, outcome, row, face_there, fetch}
+use Rattle.lcm_machine.specs.Row.{fetch_word, fetch_decoded, Fetched, none, some, step_fetched, step_of}
 use Rattle.lcm_machine.specs.Row.{Outcome, went, halted, failed}
 use Rattle.lcm_machine.specs.declared.End.{End}
 use Rattle.lcm_machine.specs.declared.FailCause.TheVariants.{F1}
 use Rattle.lcm_machine.specs.Run.{Run, moved, next_by, next_state, plain}
 use Rattle.lcm_machine.specs.Ends.{After}
 use Rattle.cap_words.specs.Ranges.{in_range}
-use Rattle.cap_words.specs.Faces.{may_run}
 use Rattle.lcm_machine.proofs.Plans.{Gives, Gives-effect, gives_fails, gives_halts, gives_goes, Gives-ask}
 use Rattle.lcm_machine.proofs.Plans.{Gives-need, Gives-by_cap, Gives-if}
 use Rattle.lcm_machine.proofs.WordsKept.{PlaceIn, MoveIn, Makes, perform_all}

@@ -1,7 +1,6 @@
 -- Regions of addresses, and that no address of a linear one is held twice: for words of any kind, as the
 -- table reads them.
-use Rattle.std.specs.Prelude.{◌≡◌, ◌⊎◌, ℕ, ◌+◌, ◌≤◌, Bool, true, false, IsTrue, pos, List, Option}
-use Rattle.std.specs.Prelude.{Some, None}
+use Rattle.std.specs.Prelude.{◌≡◌, ◌⊎◌, ℕ, ◌+◌, ◌≤◌, Bool, true, false, IsTrue, pos, List, Option, Some, None}
 use Rattle.std.specs.List.{Contains}
 use Rattle.cap_words.specs.declared.CapFields.{CapFields}
 use Rattle.cap_words.specs.declared.Word.{Word}

@@ -20,9 +20,8 @@ use Rattle.lcm_machine.specs.Plan.{Plan, Fails, Halts, Goes}
 use Rattle.lcm_machine.specs.declared.plan.Effect.{Effect}
 use Rattle.lcm_machine.specs.declared.plan.Made.{Made}
 use Rattle.lcm_machine.specs.declared.plan.Moved.{Moved}
-use Rattle.cap_words.specs.Linear.{lin_is, is_linear}
+use Rattle.cap_words.specs.Linear.{lin_is, is_linear, zero_word}
 use Rattle.cap_words.specs.Face.{face_of, opened_of}
-use Rattle.cap_words.specs.Linear.{zero_word}
 use Rattle.lcm_isa.specs.Numbers.{decode_of}
 use Rattle.lcm_machine.specs.Maps.{State}
 use Rattle.lcm_machine.specs.Places.{reg, set_reg}

@@ -22,18 +22,15 @@ use Rattle.cap_words.specs.declared.Word.{Word}
 use Rattle.cap_words.specs.declared.Word.TheVariants.{Int, Mem, Seal, Sealed}
 use Rattle.cap_words.specs.Names.{is_digit}
 use Rattle.cap_words.specs.Text.{perm_name, lin_name, range_text, cap_text, seal_text, sealable_text}
-use Rattle.cap_words.specs.Text.{sealed_text, word_text_of}
+use Rattle.cap_words.specs.Text.{sealed_text, word_text_of, perm_named, lin_named}
 use Rattle.cap_words.specs.WordBytes.{ContentFits, WordFits}
 use Rattle.cap_words.specs.WordReading.{as_word}
 use Rattle.line_fields.specs.declared.TheConstants.{LAST_NATURAL}
 use Rattle.line_fields.specs.Cuts.{cut, behind}
 use Rattle.line_fields.specs.Numbers.{are_digits, number_in, integer_in}
-use Rattle.cap_words.specs.Text.{perm_named, lin_named}
 use Rattle.cap_words.proofs.Offers.{perm_again, lin_again}
-use Rattle.line_fields.specs.Words.{HasText, range_in, cap_in, seals_behind}
-use Rattle.line_fields.specs.Words.{content_behind}
-use Rattle.line_fields.specs.Words.{content_in, sealed_in, unsealed_or, word_behind, candidate_in}
-use Rattle.line_fields.specs.Words.{where_text, word_in}
+use Rattle.line_fields.specs.Words.{HasText, range_in, cap_in, seals_behind, content_behind, content_in}
+use Rattle.line_fields.specs.Words.{sealed_in, unsealed_or, word_behind, candidate_in, where_text, word_in}
 use Rattle.line_fields.proofs.Numbers.{digits_of_decimal, number_again, integer_again, number_is, integer_is}
 use Rattle.line_fields.proofs.Numbers.{some_from, some_of, chosen}
 use Rattle.line_fields.proofs.Fronts.{is_free, cut_front, decimal_free, signed_free}

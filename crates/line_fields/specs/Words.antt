@@ -1,6 +1,5 @@
 -- Words read of their texts: from the front as some word, which must then have this text.
-use Rattle.std.specs.Prelude.{ℕ, ℤ, ◌≤◌, nat_le, Bool, List, codes, Option, Some, None}
-use Rattle.std.specs.Prelude.{option_map, is_some}
+use Rattle.std.specs.Prelude.{ℕ, ℤ, ◌≤◌, nat_le, Bool, List, codes, Option, Some, None, option_map, is_some}
 use Rattle.std.specs.Str.{bytes_eq}
 use Rattle.cap_words.specs.declared.TheConstants.{LAST_PLACE}
 use Rattle.cap_words.specs.declared.CapFields.{CapFields}

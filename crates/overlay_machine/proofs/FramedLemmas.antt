@@ -1,7 +1,6 @@
 -- The word that a frame has at an address, found from the newest frame on.
-use Rattle.std.proofs.Common.{◌≡◌, ◌≤◌, ◌<◌, ◌⊎◌, inl, inr, ℕ, zero, suc, ◌+◌, ◌-◌, List, []}
-use Rattle.std.proofs.Common.{◌∷◌, length, drop, refl, ap, subst, arith, Some, None, Option, IsSome, lt-ltb}
-use Rattle.std.proofs.Common.{le-ltb}
+use Rattle.std.proofs.Common.{◌≡◌, ◌≤◌, ◌<◌, ◌⊎◌, inl, inr, ℕ, zero, suc, ◌+◌, ◌-◌, List, [], ◌∷◌, length}
+use Rattle.std.proofs.Common.{drop, refl, ap, subst, arith, Some, None, Option, IsSome, lt-ltb, le-ltb}
 use Rattle.std.specs.Prelude.{slice_get}
 use Rattle.std.specs.Option.{option_or}
 use Rattle.std.proofs.lemmas.Option.{slice_get_past, slice_get-get_or}

@@ -4,8 +4,7 @@ use Rattle.std.proofs.Common.{◌∷◌, Option, Some, None, Result, Ok, Err, re
 use Rattle.std.proofs.lemmas.Bool.{cases_Bool}
 use Rattle.readers.specs.Readers.{goes_on, ◌>>=◌, done, holds}
 use Rattle.phrases.specs.Phrase.{Meaning}
-use Rattle.phrases.specs.Reading.{Input, Tells, Reader, next_means, behind, going, case_next}
-use Rattle.phrases.specs.Reading.{is_there, many}
+use Rattle.phrases.specs.Reading.{Input, Tells, Reader, next_means, behind, going, case_next, is_there, many}
 use Rattle.phrases.proofs.Readers.{Distinct, goes_on_ok, goes_on_err}
 use Rattle.phrases.proofs.Repeats.{more_behind, other_fault, many_stop, many_out, many_go}
 

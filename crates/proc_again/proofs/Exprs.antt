@@ -18,10 +18,9 @@ use Rattle.proc_language.specs.Unplaced.{unplaced_name, unplaced_expr, unplaced_
 use Rattle.proc_grammar.specs.Lexemes.{Lexeme, adding, comparing, added, compared, round, end_round, square}
 use Rattle.proc_grammar.specs.Lexemes.{end_square, comma}
 use Rattle.phrases.specs.Phrase.{many}
-use Rattle.proc_grammar.specs.Grammar.{Phrase}
-use Rattle.proc_grammar.specs.Grammar.{term, number_term, name_term, bracket_term, next_term, sum, sum_of}
-use Rattle.proc_grammar.specs.Grammar.{comparison_part, expr_with, expr, inner_expr, index, args, some_args}
-use Rattle.proc_grammar.specs.Grammar.{arg, next_arg, arg_value, arg_proc, behind_arg}
+use Rattle.proc_grammar.specs.Grammar.{Phrase, term, number_term, name_term, bracket_term, next_term, sum}
+use Rattle.proc_grammar.specs.Grammar.{sum_of, comparison_part, expr_with, expr, inner_expr, index, args}
+use Rattle.proc_grammar.specs.Grammar.{some_args, arg, next_arg, arg_value, arg_proc, behind_arg}
 use Rattle.proc_print.specs.Printed.{Piece, word as a_word, numeral as a_numeral, sign as a_sign, named}
 use Rattle.proc_print.specs.Printed.{between_signs, bracketed, is_op, expr_pieces, args_pieces, more_pieces}
 use Rattle.proc_print.specs.Printed.{signs_of}

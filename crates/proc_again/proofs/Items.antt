@@ -26,14 +26,12 @@ use Rattle.proc_grammar.specs.declared.header.ModuleHeader.{ModuleHeader}
 use Rattle.proc_grammar.specs.Lexemes.{dot, slash, comma, semicolon, square, end_square, assign, dash, round}
 use Rattle.proc_grammar.specs.Lexemes.{end_round, curly, end_curly}
 use Rattle.phrases.specs.Phrase.{many}
-use Rattle.proc_grammar.specs.Grammar.{Phrase}
-use Rattle.proc_grammar.specs.Grammar.{import_item, length_part, minus_part, initial_part, global_item}
-use Rattle.proc_grammar.specs.Grammar.{arity_part, plain_param, param, next_param, some_params, params}
-use Rattle.proc_grammar.specs.Grammar.{plain_local, local_item, Taken, none_taken, behind_local}
-use Rattle.proc_grammar.specs.Grammar.{behind_params}
-use Rattle.proc_grammar.specs.Grammar.{movable_part, field, header, proc_behind, proc_item, one_more}
-use Rattle.proc_grammar.specs.Grammar.{room_in_body, behind_param, signed, is_initial, is_arity, is_length}
-use Rattle.proc_grammar.specs.Grammar.{is_address, is_return_count}
+use Rattle.proc_grammar.specs.Grammar.{Phrase, import_item, length_part, minus_part, initial_part}
+use Rattle.proc_grammar.specs.Grammar.{global_item, arity_part, plain_param, param, next_param, some_params}
+use Rattle.proc_grammar.specs.Grammar.{params, plain_local, local_item, Taken, none_taken, behind_local}
+use Rattle.proc_grammar.specs.Grammar.{behind_params, movable_part, field, header, proc_behind, proc_item}
+use Rattle.proc_grammar.specs.Grammar.{one_more, room_in_body, behind_param, signed, is_initial, is_arity}
+use Rattle.proc_grammar.specs.Grammar.{is_length, is_address, is_return_count}
 use Rattle.proc_print.specs.Printed.{Piece, word as a_word, numeral as a_numeral, sign as a_sign, named}
 use Rattle.proc_print.specs.Printed.{between_signs, in_curly, block_pieces, import_pieces, length_pieces}
 use Rattle.proc_print.specs.Printed.{initial_pieces, global_pieces, arity_pieces, param_pieces, more_params}

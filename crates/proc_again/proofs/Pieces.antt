@@ -17,9 +17,8 @@ use Rattle.proc_language.specs.Limits.{Each, NameFits, ExprFits, ArgsFit, StmtFi
 use Rattle.proc_language.specs.Limits.{LengthFits, ParamFits, ArityFits, ProcFits, IsModule}
 use Rattle.proc_language.specs.StmtView.{block_of}
 use Rattle.proc_print.specs.Printed.{Piece, word, sign, signs_of, named, between_signs, bracketed, is_op}
-use Rattle.proc_print.specs.Printed.{in_curly}
-use Rattle.proc_print.specs.Printed.{ended, call_pieces, expr_pieces, args_pieces, more_pieces, stmt_pieces}
-use Rattle.proc_print.specs.Printed.{block_pieces, import_pieces, length_pieces, initial_pieces}
+use Rattle.proc_print.specs.Printed.{in_curly, ended, call_pieces, expr_pieces, args_pieces, more_pieces}
+use Rattle.proc_print.specs.Printed.{stmt_pieces, block_pieces, import_pieces, length_pieces, initial_pieces}
 use Rattle.proc_print.specs.Printed.{global_pieces, arity_pieces, param_pieces, more_params, params_pieces}
 use Rattle.proc_print.specs.Printed.{local_pieces, proc_pieces, export_pieces, field_pieces, movable_pieces}
 use Rattle.proc_print.specs.Printed.{base_pieces, seal_pieces, header_pieces, module_pieces}

@@ -12,11 +12,9 @@ use Rattle.proc_language.specs.StmtView.{block_of}
 use Rattle.proc_language.specs.Unplaced.{unplaced_stmt, unplaced_block}
 use Rattle.proc_grammar.specs.Lexemes.{sign, round, square, assign, semicolon, curly, end_curly}
 use Rattle.phrases.specs.Phrase.{◌>>=◌, one, only, many, nothing}
-use Rattle.proc_grammar.specs.Grammar.{Phrase}
-use Rattle.proc_grammar.specs.Grammar.{expr, set_part, set_at_part, calls_part, target_part, name_stmt, block}
-use Rattle.proc_grammar.specs.Grammar.{if_stmt, while_stmt, return_stmt, halt_stmt, plain_stmt}
-use Rattle.proc_grammar.specs.Grammar.{stmt as a_stmt}
-use Rattle.proc_grammar.specs.Grammar.{stmts_with, stmts}
+use Rattle.proc_grammar.specs.Grammar.{Phrase, expr, set_part, set_at_part, calls_part, target_part}
+use Rattle.proc_grammar.specs.Grammar.{name_stmt, block, if_stmt, while_stmt, return_stmt, halt_stmt}
+use Rattle.proc_grammar.specs.Grammar.{plain_stmt, stmt as a_stmt, stmts_with, stmts}
 use Rattle.proc_print.specs.Printed.{sign as a_sign, between_signs, in_curly, expr_pieces, stmt_pieces}
 use Rattle.proc_print.specs.Printed.{block_pieces}
 use Rattle.proc_again.specs.Written.{Again}

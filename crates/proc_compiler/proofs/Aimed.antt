@@ -1,7 +1,6 @@
 -- A jump that is led elsewhere changes its own word and nothing behind it.
 use Rattle.std.proofs.Common.{◌≡◌, ℕ, ◌+◌, ◌-◌, ℤ, List, [], ◌∷◌, ◌++◌, length, map, refl, sym, ap, ◌∙◌}
-use Rattle.std.proofs.Common.{append_assoc}
-use Rattle.std.proofs.Common.{length-append, arith}
+use Rattle.std.proofs.Common.{append_assoc, length-append, arith}
 use Rattle.std.specs.Prelude.{slice_set}
 use Rattle.std.proofs.lemmas.List.{set-append_right}
 use Rattle.cap_words.specs.declared.Word.{Word}
@@ -9,8 +8,7 @@ use Rattle.lcm_isa.specs.declared.Reg.TheVariants.{T2}
 use Rattle.lcm_isa.specs.declared.Operand.TheVariants.{Imm}
 use Rattle.lcm_isa.specs.declared.Instr.TheVariants.{Cca, Jmp}
 use Rattle.proc_templates.specs.Items.{Spot, Item, goes, Laid, instrs, leading, word_of, sites_with}
-use Rattle.proc_templates.specs.Items.{entries_with}
-use Rattle.proc_templates.specs.Items.{labels_with, put, lay}
+use Rattle.proc_templates.specs.Items.{entries_with, labels_with, put, lay}
 use Rattle.proc_compiler.specs.Drafts.{Drafted, with_items, with_code, Aimed}
 
 -- the same words behind others of the same number, and the same beside the code

@@ -24,9 +24,8 @@ use Rattle.proc_grammar.specs.Fault.{limit_place}
 use Rattle.proc_grammar.specs.Makes.{Makes}
 use Rattle.proc_grammar.specs.Lexemes.{Lexeme, Meaning, Numeral, word, word_in, words_of, token_word, sign}
 use Rattle.proc_grammar.specs.Lexemes.{sign_in, a_name, a_local, name_in, name_text, taken, a_number}
-use Rattle.proc_grammar.specs.Lexemes.{number_in, a_start, a_proc}
-use Rattle.proc_grammar.specs.Lexemes.{adding, dot, comma, semicolon, slash, assign, dash, round}
-use Rattle.proc_grammar.specs.Lexemes.{square, curly, end_round, end_square, end_curly}
+use Rattle.proc_grammar.specs.Lexemes.{number_in, a_start, a_proc, adding, dot, comma, semicolon, slash}
+use Rattle.proc_grammar.specs.Lexemes.{assign, dash, round, square, curly, end_round, end_square, end_curly}
 use Rattle.proc_grammar.specs.Grammar.{Phrase, kept, is_short, is_address, is_return_count, is_arity}
 use Rattle.proc_grammar.specs.Grammar.{is_length, is_literal, is_initial, signed, behind_param, behind_arg}
 use Rattle.proc_grammar.specs.Grammar.{behind_local, behind_params, one_more, operated, sum_of, Taken}

@@ -6,10 +6,9 @@ use Rattle.text_scan.specs.declared.token.TokenKind.TheVariants as kinds
 use Rattle.proc_language.specs.declared.tree.Name.{Name}
 use Rattle.proc_language.specs.Words.{is_reserved}
 use Rattle.proc_grammar.specs.Makes.{Makes}
-use Rattle.proc_grammar.specs.Lexemes.{Lexeme, Meaning, word, words_of, token_word, taken}
-use Rattle.proc_grammar.specs.Lexemes.{token_words, sign, a_name, a_number, adding, added, comparing}
-use Rattle.proc_grammar.specs.Lexemes.{compared, square, round, end_square}
-use Rattle.proc_grammar.specs.Lexemes.{end_round, comma}
+use Rattle.proc_grammar.specs.Lexemes.{Lexeme, Meaning, word, words_of, token_word, taken, token_words, sign}
+use Rattle.proc_grammar.specs.Lexemes.{a_name, a_number, adding, added, comparing, compared, square, round}
+use Rattle.proc_grammar.specs.Lexemes.{end_square, end_round, comma}
 use Rattle.phrases.specs.Phrase as phrases
 use Rattle.phrases.specs.Phrase.{then, only, ◌or◌, where_true}
 use Rattle.proc_language.specs.declared.TheConstants.{MOST_REGISTERS, MOST_TERMS}
@@ -25,11 +24,10 @@ use Rattle.phrases.proofs.Offers.{reads_before, reads_none, Begins, Ends, reads_
 use Rattle.phrases.proofs.Offers.{head_more, heads_one, heads_then, heads_or, heads_as, heads_many}
 use Rattle.phrases.proofs.Offers.{none_there, began, begins_head, reads_up_to, reads_map, map_ahead}
 use Rattle.phrases.proofs.Offers.{many_ahead, or_ahead, head_ahead, only_ahead, Lacks}
-use Rattle.proc_grammar.proofs.Tokens.{sign_token, adding_token}
-use Rattle.proc_grammar.proofs.Tokens.{sign_kind, name_kind, adding_kind, comparing_kind}
-use Rattle.proc_grammar.proofs.Tokens.{no_sign, no_adding, no_comparing, no_number, sign_apart}
-use Rattle.proc_grammar.proofs.Tokens.{number_apart, name_apart, word_apart, sign_no_word, number_no_word}
-use Rattle.proc_grammar.proofs.Tokens.{name_no_word}
+use Rattle.proc_grammar.proofs.Tokens.{sign_token, adding_token, sign_kind, name_kind, adding_kind}
+use Rattle.proc_grammar.proofs.Tokens.{comparing_kind, no_sign, no_adding, no_comparing, no_number}
+use Rattle.proc_grammar.proofs.Tokens.{sign_apart, number_apart, name_apart, word_apart, sign_no_word}
+use Rattle.proc_grammar.proofs.Tokens.{number_no_word, name_no_word}
 use Rattle.proc_grammar.proofs.Items.{reads_any, name_reads, range_apart}
 use Rattle.proc_grammar.proofs.Added.{reads_added, heads_added, name_no_token, word_no_token, sign_no_token}
 use Rattle.proc_grammar.proofs.Added.{number_no_token, token_no_sign}

@@ -1,6 +1,5 @@
 -- The readers of names, numbers, imports, globals and the header.
-use Rattle.std.proofs.Common.{◌≡◌, Bool, true, false, ℕ, List, ◌++◌, Some, None, refl}
-use Rattle.std.proofs.Common.{ap, ◌∙◌, inl, inr, ◌⊎◌}
+use Rattle.std.proofs.Common.{◌≡◌, Bool, true, false, ℕ, List, ◌++◌, Some, None, refl, ap, ◌∙◌, inl, inr, ◌⊎◌}
 use Rattle.std.specs.Prelude.{codes, nat_lt}
 use Rattle.proc_grammar.specs.Lexemes.{Lexeme, Meaning, word, a_number, sign, dot, slash, semicolon, square}
 use Rattle.proc_grammar.specs.Lexemes.{end_square, dash, assign}

@@ -1,6 +1,5 @@
 -- The reader of modules with limits passed over.
-use Rattle.std.proofs.Common.{◌≡◌, Bool, true, false, ℕ, zero, suc, ◌+◌, ◌≤◌, List}
-use Rattle.std.proofs.Common.{refl, arith}
+use Rattle.std.proofs.Common.{◌≡◌, Bool, true, false, ℕ, zero, suc, ◌+◌, ◌≤◌, List, refl, arith}
 use Rattle.std.specs.Prelude.{codes, nat_lt}
 use Rattle.proc_grammar.specs.declared.fault.ParseFault.TheVariants.{Range, TooMany}
 use Rattle.proc_language.specs.declared.tree.Name.{Name}

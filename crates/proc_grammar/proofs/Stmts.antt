@@ -25,10 +25,9 @@ use Rattle.phrases.proofs.Offers.{Any, reads_next, reads_done, reads_case, reads
 use Rattle.phrases.proofs.Offers.{reads_many, Is, Head, Heads, head_more, heads_one, heads_then, heads_or}
 use Rattle.phrases.proofs.Offers.{heads_as, head_as, none_there, began, begins_head, reads_up_to, reads_map}
 use Rattle.phrases.proofs.Offers.{or_ahead, head_ahead, only_ahead, Lacks}
-use Rattle.proc_grammar.proofs.Tokens.{sign_token, sign_kind, name_kind}
-use Rattle.proc_grammar.proofs.Tokens.{word_kind, sign_apart, sign_no_word}
-use Rattle.proc_grammar.proofs.Added.{reads_added, heads_added, name_no_token, word_no_token, tokens_apart}
+use Rattle.proc_grammar.proofs.Tokens.{sign_token, sign_kind, name_kind, word_kind, sign_apart, sign_no_word}
 use Rattle.proc_grammar.proofs.Tokens.{name_no_word, word_other}
+use Rattle.proc_grammar.proofs.Added.{reads_added, heads_added, name_no_token, word_no_token, tokens_apart}
 use Rattle.proc_grammar.proofs.Items.{reads_any, name_reads}
 use Rattle.proc_grammar.proofs.Exprs.{ExprEnds, ends_by, expr_reads, inner_reads, inner_heads, index_reads}
 use Rattle.proc_grammar.proofs.Exprs.{args_reads, open_next}

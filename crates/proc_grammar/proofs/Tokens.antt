@@ -11,9 +11,8 @@ use Rattle.text_scan.specs.declared.token.TokenKind.TheVariants as kinds
 use Rattle.proc_language.specs.declared.tree.Name.{Name}
 use Rattle.proc_language.specs.declared.tree.Op.{Op}
 use Rattle.proc_language.specs.declared.tree.Op.TheVariants.{Plus, Minus, Less}
-use Rattle.proc_grammar.specs.Lexemes.{Lexeme, Numeral, word, word_in, a_name, a_number, number_in}
-use Rattle.proc_grammar.specs.Lexemes.{sign, sign_in, name_in, name_text, taken, adding, added, comparing}
-use Rattle.proc_grammar.specs.Lexemes.{compared}
+use Rattle.proc_grammar.specs.Lexemes.{Lexeme, Numeral, word, word_in, a_name, a_number, number_in, sign}
+use Rattle.proc_grammar.specs.Lexemes.{sign_in, name_in, name_text, taken, adding, added, comparing, compared}
 use Rattle.proc_language.specs.Words.{is_reserved, reserved}
 use Rattle.phrases.specs.Phrase as phrases
 use Rattle.proc_grammar.specs.Reader.{one}

@@ -1,9 +1,8 @@
 -- The module that tokens spell, read from left to right, or the first fault. Where `limits` is false, the
 -- limits on numbers, names and counts are passed over. `fuel` is how many items are read in one place at
 -- most, `room` how many brackets may still be opened.
-use Rattle.std.specs.Prelude.{ℕ, zero, suc, ◌+◌, ◌^◌, nat_lt, Bool, true, false}
-use Rattle.std.specs.Prelude.{ℤ, List, [], ◌∷◌, length, codes, Option, Some, None, Result, Ok, Err, ◌==◌}
-use Rattle.std.specs.Prelude.{if◌then◌else◌}
+use Rattle.std.specs.Prelude.{ℕ, zero, suc, ◌+◌, ◌^◌, nat_lt, Bool, true, false, ℤ, List, [], ◌∷◌, length}
+use Rattle.std.specs.Prelude.{codes, Option, Some, None, Result, Ok, Err, ◌==◌, if◌then◌else◌}
 use Rattle.proc_language.specs.declared.TheConstants.{MOST_ITEMS, MOST_REGISTERS, MOST_LOCALS, MOST_TERMS}
 use Rattle.proc_language.specs.declared.TheConstants.{MOST_TOKENS}
 use Rattle.proc_language.specs.declared.tree.Name.{Name}
@@ -15,9 +14,8 @@ use Rattle.phrases.specs.Reading.{case_next}
 use Rattle.proc_grammar.specs.declared.header.ModuleHeader.{ModuleHeader}
 use Rattle.proc_grammar.specs.Makes.{Makes, TokenMakes}
 use Rattle.proc_grammar.specs.Lexemes.{Lexeme, Numeral, word, words_of, a_name, a_number, sign, a_start}
-use Rattle.proc_grammar.specs.Lexemes.{a_local, a_proc}
-use Rattle.proc_grammar.specs.Lexemes.{adding, comparing, dot, comma, semicolon, slash, assign, dash}
-use Rattle.proc_grammar.specs.Lexemes.{round, square, curly, end_round, end_square, end_curly}
+use Rattle.proc_grammar.specs.Lexemes.{a_local, a_proc, adding, comparing, dot, comma, semicolon, slash}
+use Rattle.proc_grammar.specs.Lexemes.{assign, dash, round, square, curly, end_round, end_square, end_curly}
 use Rattle.proc_grammar.specs.Grammar.{kept, is_short, is_address, is_return_count, is_arity, is_length}
 use Rattle.proc_grammar.specs.Grammar.{is_literal, is_initial, signed, behind_param, behind_arg, behind_local}
 use Rattle.proc_grammar.specs.Grammar.{behind_params, one_more, operated, sum_of, room_in_body, Taken}

@@ -1,7 +1,6 @@
 -- Work lists that grow and shrink at their end.
-use Rattle.std.proofs.Common.{replicate, ◌≡◌, ℕ, zero, suc, ◌+◌, ℤ}
-use Rattle.std.proofs.Common.{pos, negsuc, List, [], ◌∷◌, ◌++◌}
-use Rattle.std.proofs.Common.{reverse, refl, sym, ap, ◌∙◌, arith, if◌then◌else◌}
+use Rattle.std.proofs.Common.{replicate, ◌≡◌, ℕ, zero, suc, ◌+◌, ℤ, pos, negsuc, List, [], ◌∷◌, ◌++◌, reverse}
+use Rattle.std.proofs.Common.{refl, sym, ap, ◌∙◌, arith, if◌then◌else◌}
 use Rattle.std.proofs.lemmas.List.{reverse-append, append_assoc, replicate-append-replicate}
 use Rattle.proc_meaning.specs.declared.places.Run.{Run}
 use Rattle.proc_meaning.specs.declared.work.Work.{Work}

@@ -1,12 +1,11 @@
 -- Names that stand again, list by list.
 use Rattle.std.proofs.Common.{◌≡◌, refl, sym, ◌∙◌, ap, List, [], ◌∷◌, ◌++◌, append_assoc, not, Option}
 use Rattle.proc_language.specs.declared.tree.Name.{Name}
-use Rattle.proc_names.specs.Faults.{first, earlier}
+use Rattle.proc_names.specs.Faults.{first, earlier, unless}
 use Rattle.proc_names.specs.declared.fault.NameFault.{NameFault}
 use Rattle.proc_names.specs.declared.fault.NameFault.TheVariants.{Twice}
 use Rattle.proc_names.specs.NameFaults.{again, twice}
 use Rattle.proc_names.specs.Names.{same}
-use Rattle.proc_names.specs.Faults.{unless}
 use Rattle.proc_names.proofs.FirstLemmas.{first-append, first_step}
 
 pub again-append : (x : Name) (ys zs : List Name) → again x (ys ++ zs) ≡ again x ys ++ again x zs

@@ -1,6 +1,5 @@
 -- What the calls of reading answer.
-use Rattle.std.specs.Prelude.{◌≡◌, ℕ, ◌+◌, ◌≤◌, List, [], ◌∷◌, length, Option, Some, None, Result}
-use Rattle.std.specs.Prelude.{Ok, Err}
+use Rattle.std.specs.Prelude.{◌≡◌, ℕ, ◌+◌, ◌≤◌, List, [], ◌∷◌, length, Option, Some, None, Result, Ok, Err}
 use Rattle.text_scan.specs.declared.token.Token.{Token}
 use Rattle.phrases.specs.Reading.{behind}
 use Rattle.proc_grammar.specs.declared.fault.ParseFault.{ParseFault}

@@ -4,8 +4,7 @@ use Rattle.readers.specs.Readers.{◌>>=◌, goes_on, done}
 use Rattle.proc_grammar.specs.declared.fault.ParseFault.{ParseFault}
 use Rattle.proc_grammar.specs.Lexemes.{Meaning, adding, sign, comma, end_round, a_proc, word, words_of}
 use Rattle.proc_grammar.specs.Makes.{Makes}
-use Rattle.proc_grammar.specs.Grammar.{one_more, sum_of, room_in_body}
-use Rattle.proc_grammar.specs.Grammar.{none_taken, behind_arg, behind_param}
+use Rattle.proc_grammar.specs.Grammar.{one_more, sum_of, room_in_body, none_taken, behind_arg, behind_param}
 use Rattle.proc_grammar.specs.Reader.{Input, Reader, one, many}
 use Rattle.proc_grammar.specs.Reading.{full, another_term, another_arg, inner_expr, another_param}
 use Rattle.proc_grammar.specs.Reading.{next_proc, next_header, next_import, next_global}

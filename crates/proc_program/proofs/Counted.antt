@@ -5,9 +5,8 @@ use Rattle.std.proofs.lemmas.List.Sums.{sum_by-cons}
 use Rattle.proc_language.specs.declared.module.Proc.{Proc}
 use Rattle.proc_language.specs.declared.module.ModuleFields.{ModuleFields}
 use Rattle.proc_language.specs.Tree.{Expr, Args, Stmt, Block, number, var, element, call, op, no_args, value}
-use Rattle.proc_language.specs.Tree.{proc}
-use Rattle.proc_language.specs.Tree.{set, set_at, do_call, if_then, if_else, while, return, halt, no_stmts}
-use Rattle.proc_language.specs.Tree.{stmt}
+use Rattle.proc_language.specs.Tree.{proc, set, set_at, do_call, if_then, if_else, while, return, halt}
+use Rattle.proc_language.specs.Tree.{no_stmts, stmt}
 use Rattle.proc_language.specs.StmtView.{block_of as stmts_of}
 use Rattle.proc_names.specs.Calls as text
 use Rattle.proc_program.specs.Calls.{calls, args_calls, step_calls, block_calls, procedure_calls, part_calls}

@@ -13,9 +13,8 @@ use Rattle.proc_language.specs.declared.module.Param.{Param}
 use Rattle.proc_language.specs.declared.module.Proc.{Proc}
 use Rattle.proc_language.specs.declared.module.ModuleFields.{ModuleFields}
 use Rattle.proc_language.specs.Tree.{Expr, Args, Stmt, Block, number, var, element, call, op, no_args, value}
-use Rattle.proc_language.specs.Tree.{proc}
-use Rattle.proc_language.specs.Tree.{set, set_at, do_call, if_then, if_else, while, return, halt, no_stmts}
-use Rattle.proc_language.specs.Tree.{stmt}
+use Rattle.proc_language.specs.Tree.{proc, set, set_at, do_call, if_then, if_else, while, return, halt}
+use Rattle.proc_language.specs.Tree.{no_stmts, stmt}
 use Rattle.proc_language.specs.StmtView.{block_of as stmts_of}
 use Rattle.proc_language.specs.Limits as language
 use Rattle.proc_language.specs.Limits.{Each, IsModule, ProcFits, GlobalFits, param_registers}
@@ -27,14 +26,11 @@ use Rattle.proc_names.specs.declared.scope.Callee.TheVariants as called
 use Rattle.proc_names.specs.Names.{variable_named, callee_named, passed_named}
 use Rattle.proc_names.specs.Calls.{calls, stmt_calls, block_calls, proc_calls}
 use Rattle.proc_program.specs.Lower.{words, words_in, first_word_of, place_by, row_by, handle_by, exp_of}
-use Rattle.proc_program.specs.Lower.{args_of}
-use Rattle.proc_program.specs.Lower.{step_of}
-use Rattle.proc_program.specs.Lower.{steps_of, procedure_of, procedures_of, globals_of, import_of, part_of}
+use Rattle.proc_program.specs.Lower.{args_of, step_of, steps_of, procedure_of, procedures_of, globals_of}
+use Rattle.proc_program.specs.Lower.{import_of, part_of}
 use Rattle.proc_program.specs.Limits.{VariableWithin, CalleeWithin, register_count, registers_of}
-use Rattle.proc_program.specs.Limits.{arg_registers}
-use Rattle.proc_program.specs.Limits.{Scope, scope_of, PlaceFits, RowFits, HandleFits, ExpFits, ArgsFit}
-use Rattle.proc_program.specs.Limits.{StepFits}
-use Rattle.proc_program.specs.Limits.{BlockFits, ProcedureFits, LoweredImportFits, IsPart}
+use Rattle.proc_program.specs.Limits.{arg_registers, Scope, scope_of, PlaceFits, RowFits, HandleFits, ExpFits}
+use Rattle.proc_program.specs.Limits.{ArgsFit, StepFits, BlockFits, ProcedureFits, LoweredImportFits, IsPart}
 use Rattle.proc_program.specs.View.{args_of as args_view}
 use Rattle.proc_program.specs.StepView.{block_of as block_view}
 use Rattle.proc_program.proofs.Limits.{words_before, registers_before, variable_within, callee_within}

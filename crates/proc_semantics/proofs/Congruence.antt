@@ -29,9 +29,8 @@ use Rattle.proc_semantics.specs.declared.value.Value.TheVariants.{Num, Closure, 
 use Rattle.proc_semantics.specs.declared.value.Register.{Register}
 use Rattle.proc_semantics.specs.declared.value.Activation.{Activation}
 use Rattle.proc_semantics.specs.Told.{Comp, ends, fails, tick, ticks, emit, take_item}
-use Rattle.proc_semantics.specs.Values.{World, register_of, Store, is_zero, set_word, global_word}
-use Rattle.proc_semantics.specs.Values.{variable, pair_of, taken, found, registers_fed}
-use Rattle.proc_semantics.specs.Values.{proc_at}
+use Rattle.proc_semantics.specs.Values.{World, register_of, Store, is_zero, set_word, global_word, variable}
+use Rattle.proc_semantics.specs.Values.{pair_of, taken, found, registers_fed, proc_at}
 use Rattle.proc_semantics.specs.Meaning.{Then, Next, Wait, Level, result_of, with_number, enough, given_of}
 use Rattle.proc_semantics.specs.Meaning.{is_given, operated, element_at, with_place, element, assigned}
 use Rattle.proc_semantics.specs.Meaning.{resumed, returned, call_by, call, part_name_of, expr}

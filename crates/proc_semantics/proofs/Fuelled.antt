@@ -6,8 +6,7 @@ use Rattle.source_events.specs.declared.MeaningEnd.{MeaningEnd}
 use Rattle.source_events.specs.declared.MeaningEnd.TheVariants.{Halt as Halted, Fail, Waiting, OutOfFuel}
 use Rattle.source_events.specs.declared.Told.{Told}
 use Rattle.proc_semantics.specs.Told.{Comp, tick, counted, said, take_item}
-use Rattle.proc_semantics.specs.Values.{World}
-use Rattle.proc_semantics.specs.Values.{main_target}
+use Rattle.proc_semantics.specs.Values.{World, main_target}
 use Rattle.proc_semantics.specs.Meaning.{meaning}
 use Rattle.proc_semantics.specs.Fuel.{Later, Within, EndsWith, FuelLaws}
 use Rattle.proc_semantics.proofs.Congruence.{IsKept, levels_kept}

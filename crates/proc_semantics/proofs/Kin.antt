@@ -1,8 +1,7 @@
 -- Two domains that are related, in what they tell and in what they carry: a meaning of the one is related to
 -- that of the other.
-use Rattle.std.proofs.Common.{◌≡◌, ℕ, zero, suc, ◌+◌, ◌≤◌, ℤ, pos, List, []}
-use Rattle.std.proofs.Common.{◌∷◌, ◌++◌, replicate, Option, Some, None, Bool, true, false, refl}
-use Rattle.std.proofs.Common.{sym, ap, ◌∙◌, subst, arith, one-add}
+use Rattle.std.proofs.Common.{◌≡◌, ℕ, zero, suc, ◌+◌, ◌≤◌, ℤ, pos, List, [], ◌∷◌, ◌++◌, replicate, Option}
+use Rattle.std.proofs.Common.{Some, None, Bool, true, false, refl, sym, ap, ◌∙◌, subst, arith, one-add}
 use Rattle.std.specs.Prelude.{if◌then◌else◌, ◌==◌, ◌&&◌, slice_set}
 use Rattle.std.specs.Str.{bytes_eq}
 use Rattle.proc_language.specs.declared.tree.Op.{Op}
@@ -31,9 +30,8 @@ use Rattle.proc_semantics.specs.Values.{variable, pair_of, taken, found, proc_at
 use Rattle.proc_semantics.specs.Rules.{Domain, Then, Next, Wait, Level, result_of, with_number, enough}
 use Rattle.proc_semantics.specs.Rules.{given_from, is_given, operated, element_at, with_place, element}
 use Rattle.proc_semantics.specs.Rules.{assigned, resumed, returned, call_by, call, part_name_of, expr, args}
-use Rattle.proc_semantics.specs.Rules.{stmt}
-use Rattle.proc_semantics.specs.Rules.{block, turn_at, body_of, begin, proc_of, hopped, left_by, entered}
-use Rattle.proc_semantics.specs.Rules.{by_item, on_item, level, start}
+use Rattle.proc_semantics.specs.Rules.{stmt, block, turn_at, body_of, begin, proc_of, hopped, left_by}
+use Rattle.proc_semantics.specs.Rules.{entered, by_item, on_item, level, start}
 
 pub record Kin (M N : Domain) : Type 1 where
   -- a relation at each bound on what is left of fuel and feed; a tick and an item make the bound one more

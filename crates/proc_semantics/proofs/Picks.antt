@@ -1,7 +1,6 @@
 -- Two modules that differ in one global, and so in which of two callbacks they call.
-use Rattle.std.proofs.Common.{◌≡◌, ◌≢◌, ℕ, pos, List, [], ◌∷◌, Option, Some, None, true, false}
-use Rattle.std.proofs.Common.{refl}
-use Rattle.std.proofs.Common.{ap, arith}
+use Rattle.std.proofs.Common.{◌≡◌, ◌≢◌, ℕ, pos, List, [], ◌∷◌, Option, Some, None, true, false, refl, ap}
+use Rattle.std.proofs.Common.{arith}
 use Rattle.std.specs.Prelude.{codes}
 use Rattle.proc_program.specs.declared.program.Handle.TheVariants.{Given, Own}
 use Rattle.proc_program.specs.declared.program.Location.TheVariants.{Global}

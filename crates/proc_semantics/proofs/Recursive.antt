@@ -2,17 +2,14 @@
 use Rattle.std.proofs.Common.{◌≡◌, ℕ, zero, suc, ◌+◌, ◌<◌, ◌≤◌, ℤ, List, [], ◌∷◌, length, map, Option, Some}
 use Rattle.std.proofs.Common.{None, refl, sym, ap, ◌∙◌, arith, add-one}
 use Rattle.proc_semantics.specs.declared.value.Target.{Target}
-use Rattle.proc_program.specs.Program.{Exp}
-use Rattle.proc_program.specs.Program.{Block}
+use Rattle.proc_program.specs.Program.{Exp, Block}
 use Rattle.source_events.specs.declared.Item.{Item}
 use Rattle.proc_semantics.specs.declared.value.Value.{Value}
 use Rattle.proc_semantics.specs.declared.value.Value.TheVariants.{Num}
 use Rattle.proc_semantics.specs.declared.value.Register.{Register}
 use Rattle.proc_semantics.specs.declared.value.Activation.{Activation}
 use Rattle.proc_semantics.specs.Told.{Comp, tick, counted, said, take_item}
-use Rattle.proc_semantics.specs.Values.{World, register_of, Store}
-use Rattle.proc_semantics.specs.Values.{main_target}
-use Rattle.proc_semantics.specs.Values.{proc_at}
+use Rattle.proc_semantics.specs.Values.{World, register_of, Store, main_target, proc_at}
 use Rattle.proc_semantics.specs.Meaning.{Then, Next, Wait, Level, proc_of, turn_at, on_item, level, start}
 use Rattle.proc_semantics.specs.Meaning.{meaning}
 use Rattle.proc_semantics.specs.Whole.{whole_proc, whole_wait, whole_turn, whole_hop, whole, IsRecursive}

@@ -3,9 +3,8 @@
 -- words by which it goes, and of each argument register the number or the mark of its word; of a procedure
 -- that leaves, the mark of its entry. Of both it tells the lowest stack cell that was wiped since code
 -- outside last let go, if any was, as a number of words above the first one.
-use Rattle.std.specs.Prelude.{◌≡◌, ℕ, zero, suc, ◌+◌, ◌-◌, nat_lt, ℤ, pos, List, [], ◌∷◌, map, length}
-use Rattle.std.specs.Prelude.{Option, Some, None, Bool, true, false, slice_index_or, if◌then◌else◌}
-use Rattle.std.specs.Prelude.{option_map}
+use Rattle.std.specs.Prelude.{◌≡◌, ℕ, zero, suc, ◌+◌, ◌-◌, nat_lt, ℤ, pos, List, [], ◌∷◌, map, length, Option}
+use Rattle.std.specs.Prelude.{Some, None, Bool, true, false, slice_index_or, if◌then◌else◌, option_map}
 use Rattle.source_events.specs.declared.Item.{Item}
 use Rattle.source_events.specs.declared.OutArg.{OutArg}
 use Rattle.source_events.specs.declared.OutArg.TheVariants.{Int, Half}

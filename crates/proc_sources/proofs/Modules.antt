@@ -1,7 +1,6 @@
 -- What a source is where it is taken.
 use Rattle.std.proofs.Common.{◌≡◌, ℕ, List, [], refl, sym, ap, subst}
-use Rattle.std.specs.Prelude.{Option, Some, None, Result, Ok, Err, if◌then◌else◌, Bool, true, false}
-use Rattle.std.specs.Prelude.{nat_lt}
+use Rattle.std.specs.Prelude.{Option, Some, None, Result, Ok, Err, if◌then◌else◌, Bool, true, false, nat_lt}
 use Rattle.readers.specs.Readers.{told_by}
 use Rattle.readers.specs.Results.{◌>>=◌}
 use Rattle.component_file.specs.declared.component.ComponentFields.{ComponentFields}

@@ -10,9 +10,8 @@ use Rattle.component_file.specs.Limits.{name_lt}
 use Rattle.lcm_isa.specs.declared.Reg.TheVariants.{A0}
 use Rattle.proc_program.specs.declared.program.Program.{Program}
 use Rattle.proc_program.specs.declared.program.Procedure.{Procedure}
-use Rattle.proc_program.specs.Program.{Exp}
-use Rattle.proc_program.specs.Program.{Statement, Set, SetAt, Do, If, While, Return, Halt}
-use Rattle.proc_program.specs.Program.{Block, no_steps, step}
+use Rattle.proc_program.specs.Program.{Exp, Statement, Set, SetAt, Do, If, While, Return, Halt, Block}
+use Rattle.proc_program.specs.Program.{no_steps, step}
 use Rattle.proc_program.specs.Limits.{registers_of}
 use Rattle.proc_program.specs.StepView.{block_of}
 use Rattle.flow_check.specs.Places.{begins_entry, begins_site, declared}

@@ -18,8 +18,7 @@ use Rattle.component_file.specs.declared.component.Import.{Import}
 use Rattle.component_file.specs.declared.component.Export.{Export}
 use Rattle.component_file.specs.declared.component.KindRow.{KindRow}
 use Rattle.component_file.specs.Limits.{ascends, name_lt, Chain, ImportFits, ExportFits, SiteFits}
-use Rattle.component_file.specs.Limits.{KindRowFits}
-use Rattle.component_file.specs.Limits.{StretchFits, IsComponent}
+use Rattle.component_file.specs.Limits.{KindRowFits, StretchFits, IsComponent}
 use Rattle.call_sequence.specs.declared.TheConstants.{CALL_WORDS, SITE_WORDS}
 use Rattle.call_sequence.proofs.Offers.{near_operand, small_operand as near}
 use Rattle.call_sequence.specs.Sequences.{call_code, return_code, entry_code}

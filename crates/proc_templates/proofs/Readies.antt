@@ -18,8 +18,7 @@ use Rattle.proc_program.specs.Program.{Block, no_steps, step}
 use Rattle.proc_program.specs.StepView.{block_of}
 use Rattle.proc_program.specs.Calls.{part_calls}
 use Rattle.proc_program.specs.Limits.{scope_of, PlaceFits, RowFits, HandleFits, ExpFits, ArgsFit, StepFits}
-use Rattle.proc_program.specs.Limits.{BlockFits}
-use Rattle.proc_program.specs.Limits.{ProcedureFits}
+use Rattle.proc_program.specs.Limits.{BlockFits, ProcedureFits}
 use Rattle.proc_templates.specs.Templates.{block_words, checks_words}
 use Rattle.proc_templates.specs.Compiled.{frame_of, size_of_proc, code_words, data_count, head_of, laid_of}
 use Rattle.proc_templates.specs.Compiled.{component_of}

@@ -5,9 +5,7 @@ use Rattle.lcm_isa.specs.declared.Reg.TheVariants.{Pc, Stk, Dat, T2}
 use Rattle.lcm_isa.specs.declared.Operand.{Operand}
 use Rattle.lcm_isa.specs.declared.Operand.TheVariants.{R, Imm}
 use Rattle.lcm_isa.specs.declared.Instr.{Instr}
-use Rattle.lcm_isa.specs.declared.Instr.TheVariants.{Gettype}
-use Rattle.lcm_isa.specs.declared.Instr.TheVariants.{Getlin, Move, Store, Load, Cca, Lt, Plus}
-use Rattle.lcm_isa.specs.declared.Instr.TheVariants.{Minus}
+use Rattle.lcm_isa.specs.declared.Instr.TheVariants.{Gettype, Getlin, Move, Store, Load, Cca, Lt, Plus, Minus}
 
 -- a register whose word any code may have
 abbrev pub is_low : Reg → Bool

@@ -23,8 +23,7 @@ use Rattle.proc_program.specs.Program.{Block, no_steps, step}
 use Rattle.proc_program.specs.Limits.{register_count, registers_of, arg_registers}
 use Rattle.proc_templates.specs.declared.FrameShape.{FrameShape}
 use Rattle.proc_templates.specs.Items.{Item, does, guards, goes, goes_if, finishes, label, site, entry}
-use Rattle.proc_templates.specs.Items.{leaves}
-use Rattle.proc_templates.specs.Items.{zero_of}
+use Rattle.proc_templates.specs.Items.{leaves, zero_of}
 
 -- ---- sizes: how many words
 

@@ -7,8 +7,7 @@ use Rattle.readers.specs.Answers.{Fails}
 use Rattle.readers.specs.Places.{Ahead}
 use Rattle.readers.proofs.Faults.{still_fails}
 use Rattle.readers.proofs.Grammar.{Took, took_nothing, took_then, after, before, IsCut, cut_goes_on, Reads}
-use Rattle.readers.proofs.Grammar.{All}
-use Rattle.readers.proofs.Grammar.{goes_on_ok, ok_value, cut_then, again_then}
+use Rattle.readers.proofs.Grammar.{All, goes_on_ok, ok_value, cut_then, again_then}
 
 -- ---- the law: of items of which each is right behind those before it, by P, and of the lists of such, by Q
 

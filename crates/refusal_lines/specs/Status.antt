@@ -2,10 +2,9 @@
 use Rattle.std.specs.Prelude.{ℕ}
 use Rattle.refusal_lines.specs.declared.status.Status.{Status}
 use Rattle.refusal_lines.specs.declared.status.Status.TheVariants.{Done, MachineFailed, StepsUsed, Usage}
-use Rattle.refusal_lines.specs.declared.status.Status.TheVariants.{ReadFault}
-use Rattle.refusal_lines.specs.declared.status.Status.TheVariants.{WriteFault, NoMemory, TooLong, AsmRefused}
-use Rattle.refusal_lines.specs.declared.status.Status.TheVariants.{SourceRefused, FileRefused, RuleBroken}
-use Rattle.refusal_lines.specs.declared.status.Status.TheVariants.{AuditRefused}
+use Rattle.refusal_lines.specs.declared.status.Status.TheVariants.{ReadFault, WriteFault, NoMemory, TooLong}
+use Rattle.refusal_lines.specs.declared.status.Status.TheVariants.{AsmRefused, SourceRefused, FileRefused}
+use Rattle.refusal_lines.specs.declared.status.Status.TheVariants.{RuleBroken, AuditRefused}
 
 abbrev pub status_number : Status → ℕ
 status_number Done = 0

@@ -1,7 +1,6 @@
 -- Lines that are followed spoil nothing, and lines that spoil nothing are followed.
-use Rattle.std.proofs.Common.{◌≡◌, ℕ, ◌+◌, ◌<◌, ◌≤◌, Bool, true, false, List, [], ◌∷◌, ◌++◌}
-use Rattle.std.proofs.Common.{Result, Ok, Err, refl, sym, ap, ◌∙◌, subst, arith}
-use Rattle.std.proofs.Common.{eq-eqb}
+use Rattle.std.proofs.Common.{◌≡◌, ℕ, ◌+◌, ◌<◌, ◌≤◌, Bool, true, false, List, [], ◌∷◌, ◌++◌, Result, Ok, Err}
+use Rattle.std.proofs.Common.{refl, sym, ap, ◌∙◌, subst, arith, eq-eqb}
 use Rattle.std.specs.Prelude.{not, if◌then◌else◌}
 use Rattle.std.proofs.lemmas.Bool.{eqb-true, ltb-true, lt-ltb}
 use Rattle.run_audit.specs.declared.fault.AuditFault.{AuditFault}
@@ -12,8 +11,7 @@ use Rattle.run_audit.specs.Told.{ToldSeen, is_wide, same_told}
 use Rattle.run_audit.specs.Lines.{is_end}
 use Rattle.run_audit.specs.Brackets.{Leads}
 use Rattle.run_audit.specs.Brackets.Leads.{at_end, passes as goes_by, opens, closes}
-use Rattle.run_audit.specs.Audit.{OpenSeen, below_newest, closed_by, stepped, audit_on}
-use Rattle.run_audit.specs.Audit.{followed}
+use Rattle.run_audit.specs.Audit.{OpenSeen, below_newest, closed_by, stepped, audit_on, followed}
 use Rattle.run_audit.specs.Traces.{InPlace, AreInPlace, lets_pass, IsWide, HasWidth, HaveWidth, LiesBelow}
 use Rattle.run_audit.specs.Traces.{AreApart, entered_by, Spoils, misplaced, call_width, ret_width, overlaps}
 use Rattle.run_audit.specs.Traces.{unopened, differs}

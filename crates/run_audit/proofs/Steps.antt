@@ -1,7 +1,6 @@
 -- An audit, line by line.
 use Rattle.std.proofs.Common.{◌≡◌, ℕ, ◌+◌, ◌<◌, ◌≤◌, ◌^◌, Bool, true, false, List, [], ◌∷◌, ◌++◌, length}
-use Rattle.std.proofs.Common.{Some}
-use Rattle.std.proofs.Common.{None, Result, Ok, Err, refl, sym, ap, ◌∙◌, subst, arith}
+use Rattle.std.proofs.Common.{Some, None, Result, Ok, Err, refl, sym, ap, ◌∙◌, subst, arith}
 use Rattle.std.specs.Prelude.{if◌then◌else◌}
 use Rattle.line_fields.specs.Fields.{field, lines, is_none_left}
 use Rattle.line_fields.proofs.Offers.{next_line, parts_len}
@@ -12,8 +11,7 @@ use Rattle.run_audit.specs.declared.line.Line.{Line}
 use Rattle.run_audit.specs.declared.line.Line.TheVariants.{Call, Ret, Enter, Pass, Leave, End}
 use Rattle.run_audit.specs.Lines.{line_in, is_end}
 use Rattle.run_audit.specs.Audit.{OpenSeen, is_ended, at_end, audit_on, stepped, judged, audited_from, Leads}
-use Rattle.run_audit.specs.Audit.{Answers}
-use Rattle.run_audit.specs.Audit.{followed}
+use Rattle.run_audit.specs.Audit.{Answers, followed}
 
 -- ---- lines
 

@@ -5,8 +5,7 @@ pub use Rattle.run_items.proofs.High.{IsHigh, decimal_high, name_high, name_is, 
 -- fields, each behind a blank, and the lines of a text
 pub use Rattle.run_items.proofs.Spaced.{AllHigh, fields_are, spaced, words_high, words_spaced}
 -- what fields of lines are read as
-pub use Rattle.run_items.proofs.FieldsRead.{back_high, natural_again, pair_high}
-pub use Rattle.run_items.proofs.FieldsRead.{signed_fits}
+pub use Rattle.run_items.proofs.FieldsRead.{back_high, natural_again, pair_high, signed_fits}
 -- the lines of runs, as a feed's reader sees them
 pub use Rattle.run_items.proofs.LinesSeen.{body, line_text_is}
 -- an end line is one line, and a feed's reader passes it over

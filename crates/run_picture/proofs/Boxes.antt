@@ -21,8 +21,7 @@ use Rattle.run_picture.specs.Groups.{acts, arrow_between, arrow, number, rows, t
 use Rattle.run_picture.specs.Groups.{frame_box, told_inside, call_frame, ret_edge, frame, line_shapes}
 use Rattle.run_picture.specs.Groups.{end_shapes, groups}
 use Rattle.run_picture.specs.Laws.{is_frame, is_area, boxes_of, box_due, boxes_due, areas_due, OneBoxEach}
-use Rattle.run_picture.specs.Laws.{OneAreaEach}
-use Rattle.run_picture.specs.Laws.{TitlesAreLines, TitlesAreTheText, ended_text, last_of}
+use Rattle.run_picture.specs.Laws.{OneAreaEach, TitlesAreLines, TitlesAreTheText, ended_text, last_of}
 
 titles : (p : PageSeen) (n : ℕ) (h : HeldSeen) (es : List EventSeen)
     → map (λ (g : Group). g.title) (groups p n h es) ≡ map (λ (e : EventSeen). e.line) es

@@ -1,7 +1,6 @@
 -- The lines of a text that passes the audit, as what they change.
-use Rattle.std.proofs.Common.{◌≡◌, ℕ, ◌+◌, ◌<◌, Bool, true, false, List, [], ◌∷◌, length, Option}
-use Rattle.std.proofs.Common.{Some}
-use Rattle.std.proofs.Common.{None, Result, Ok, Err, refl, sym, ap, ◌∙◌, subst, arith, map}
+use Rattle.std.proofs.Common.{◌≡◌, ℕ, ◌+◌, ◌<◌, Bool, true, false, List, [], ◌∷◌, length, Option, Some, None}
+use Rattle.std.proofs.Common.{Result, Ok, Err, refl, sym, ap, ◌∙◌, subst, arith, map}
 use Rattle.std.specs.Prelude.{codes, not, ◌||◌, if◌then◌else◌}
 use Rattle.std.specs.Str.{bytes_eq}
 use Rattle.std.proofs.lemmas.Bool.{ltb-true, eqb-true}
@@ -11,8 +10,7 @@ use Rattle.line_fields.specs.Options.{where_true}
 use Rattle.line_fields.specs.Numbers.{natural_in, number_in}
 use Rattle.line_fields.specs.Words.{is_word}
 use Rattle.line_fields.specs.Forms.{back_in, handed_in}
-use Rattle.line_fields.specs.Fields.{Reader, reads_on, done, unless_none, meant, tested, whole, fields}
-use Rattle.line_fields.specs.Fields.{lines}
+use Rattle.line_fields.specs.Fields.{Reader, reads_on, done, unless_none, meant, tested, whole, fields, lines}
 use Rattle.line_fields.proofs.Offers.{chosen}
 use Rattle.run_audit.proofs.Offers.{told_decides}
 use Rattle.run_audit.specs.declared.fault.AuditFault.{AuditFault}

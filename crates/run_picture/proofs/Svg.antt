@@ -12,8 +12,7 @@ use Rattle.run_picture.specs.Groups.{groups}
 use Rattle.run_picture.specs.Picture.{lanes, mark, mark_above, marks_text, front, page_text, page_for}
 use Rattle.run_picture.specs.Picture.{picture}
 use Rattle.run_picture.specs.SvgLaws.{IsText, none, plain, reference, EscapesAreTexts, Document}
-use Rattle.run_picture.specs.SvgLaws.{document_text}
-use Rattle.run_picture.specs.SvgLaws.{PicturesAreDocuments}
+use Rattle.run_picture.specs.SvgLaws.{document_text, PicturesAreDocuments}
 use Rattle.run_picture.proofs.Joined.{shapes_append}
 
 -- ---- texts

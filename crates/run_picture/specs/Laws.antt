@@ -1,7 +1,6 @@
 -- What holds of every picture.
-use Rattle.std.specs.Prelude.{◌≡◌, ◌↔◌, ℕ, ◌+◌, ◌<◌, ◌≤◌, nat_le, Bool, true, false, List, [], ◌∷◌, ◌++◌}
-use Rattle.std.specs.Prelude.{map, length}
-use Rattle.std.specs.Prelude.{Option, Some, None, if◌then◌else◌}
+use Rattle.std.specs.Prelude.{◌≡◌, ◌↔◌, ℕ, ◌+◌, ◌<◌, ◌≤◌, nat_le, Bool, true, false, List, [], ◌∷◌, ◌++◌, map}
+use Rattle.std.specs.Prelude.{length, Option, Some, None, if◌then◌else◌}
 use Rattle.run_picture.specs.declared.class.Class.{Class}
 use Rattle.run_picture.specs.declared.class.Class.TheVariants.{Trusted, Outside, Closed, Open, Edge, Acts}
 use Rattle.run_picture.specs.declared.class.Class.TheVariants.{Arrow, Rule, End, Note, Inside}

@@ -1,7 +1,6 @@
 -- The picture of a run.
 use Rattle.std.specs.Prelude.{◌≡◌, ℕ, ◌-◌, ◌+◌, ◌*◌, nat_le, nat_lt, min, Bool, ◌||◌, List, [], ◌∷◌, ◌++◌}
-use Rattle.std.specs.Prelude.{length, codes}
-use Rattle.std.specs.Prelude.{decimal, Result, Ok, Err, if◌then◌else◌}
+use Rattle.std.specs.Prelude.{length, codes, decimal, Result, Ok, Err, if◌then◌else◌}
 use Rattle.run_audit.specs.declared.fault.AuditFault.{AuditFault}
 use Rattle.run_audit.specs.declared.fault.AuditFault.TheVariants.{NoMemory}
 use Rattle.run_audit.specs.Audit.{audited}

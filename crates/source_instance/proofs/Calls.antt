@@ -32,10 +32,9 @@ use Rattle.overlay_machine.specs.Events.{note_by, event_after, step_event}
 use Rattle.proc_templates.specs.Items.{zero_of}
 use Rattle.source_instance.proofs.Module.{as_word, behind, site_at}
 use Rattle.source_instance.proofs.Parts.{parts}
-use Rattle.source_instance.proofs.Machine.{L, M, has, IsSame, at_start, has_in, set_above}
-use Rattle.source_instance.proofs.Machine.{maps, state, own_code, own_data, its_code, its_data, stack, g_code}
-use Rattle.source_instance.proofs.Machine.{g_data, Makes, own_stands, its_fetch, after, loads, stores, adds}
-use Rattle.source_instance.proofs.Machine.{clears}
+use Rattle.source_instance.proofs.Machine.{L, M, has, IsSame, at_start, has_in, set_above, maps, state}
+use Rattle.source_instance.proofs.Machine.{own_code, own_data, its_code, its_data, stack, g_code, g_data}
+use Rattle.source_instance.proofs.Machine.{Makes, own_stands, its_fetch, after, loads, stores, adds, clears}
 use Rattle.source_instance.proofs.Enters.{o8}
 use Rattle.trace_tool.proofs.Offers.{regs_with, zero_}
 

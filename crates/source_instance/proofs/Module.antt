@@ -1,7 +1,6 @@
 -- A module of one procedure, which hands on what a procedure of another part answers, and its component.
 use Rattle.std.proofs.Common.{◌≡◌, ℕ, ◌+◌, pos, negsuc, true, false, List, [], ◌∷◌, ◌++◌, map, Some, refl}
-use Rattle.std.proofs.Common.{arith}
-use Rattle.std.proofs.Common.{subst}
+use Rattle.std.proofs.Common.{arith, subst}
 use Rattle.cap_words.specs.Names as names
 use Rattle.cap_words.specs.declared.Word.{Word}
 use Rattle.cap_words.specs.declared.Word.TheVariants.{Int, Seal}

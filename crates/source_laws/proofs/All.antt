@@ -23,8 +23,7 @@ use Rattle.flow_check.specs.Holds.{data_cap}
 use Rattle.overlay_machine.specs.State.{OState}
 use Rattle.overlay_machine.specs.Link.{ranges_of}
 use Rattle.component_linker.specs.Parts.{PartSeen}
-use Rattle.source_laws.proofs.Refined.{main_of, Comp, ends, meaning, no_registers}
-use Rattle.source_laws.proofs.Refined.{start, whole, starts}
+use Rattle.source_laws.proofs.Refined.{main_of, Comp, ends, meaning, no_registers, start, whole, starts}
 use Rattle.proc_semantics.specs.declared.value.Target.{Target}
 use Rattle.proc_program.specs.declared.program.Program.{Program}
 use Rattle.proc_program.specs.declared.program.Procedure.{Procedure}

@@ -3,10 +3,9 @@ use Rattle.source_laws.proofs.AtWork.{AtWork}
 use Rattle.source_laws.proofs.Variables.{AtPlace, EnvIn, NumberAt, env_same, index_is}
 use Rattle.source_laws.proofs.CallsIn.{int_public}
 use Rattle.template_runs.proofs.Offers.{used, fits_small, with_at, length-with_at, SameBelow, get_with}
-use Rattle.template_runs.proofs.Offers.{get_other, At, next_pc, Here, load_law, store_law, loaded}
-use Rattle.template_runs.proofs.Offers.{with_reg, set_law, dat_law, load_data_law, Stand}
-use Rattle.template_runs.proofs.Offers.{stand_front, stand_back, words-append, words_in, free_g0, free_g1}
-use Rattle.template_runs.proofs.Offers.{from_element}
+use Rattle.template_runs.proofs.Offers.{get_other, At, next_pc, Here, load_law, store_law, loaded, with_reg}
+use Rattle.template_runs.proofs.Offers.{set_law, dat_law, load_data_law, Stand, stand_front, stand_back}
+use Rattle.template_runs.proofs.Offers.{words-append, words_in, free_g0, free_g1, from_element}
 use Rattle.source_laws.proofs.Upto.{upto, UpTo, tick_up}
 use Rattle.std.proofs.Common.{◌≡◌, ℕ, ◌+◌, ◌-◌, ◌<◌, ◌≤◌, ℤ, pos, ◌+ℤ◌, ◌-ℤ◌, List, [], ◌∷◌, ◌++◌, length}
 use Rattle.std.proofs.Common.{Some, true, refl, sym, ap, ◌∙◌, subst, arith}

@@ -31,17 +31,15 @@ use Rattle.proc_semantics.specs.Values as values
 use Rattle.proc_semantics.specs.Meaning as plain
 use Rattle.proc_semantics.specs.Fuel.{Prefix}
 use Rattle.proc_semantics.specs.Marked as marked
-use Rattle.proc_semantics.specs.Marked.{Marks, Thing, Whence, whences, numbered_items, plain_arg}
-use Rattle.proc_semantics.specs.Marked.{plain_event, plain_report, marked_meaning, thing_to, refined}
-use Rattle.proc_semantics.specs.Marked.{report_to}
+use Rattle.proc_semantics.specs.Marked.{Marks, Thing, Whence, whences, numbered_items, plain_arg, plain_event}
+use Rattle.proc_semantics.specs.Marked.{plain_report, marked_meaning, thing_to, refined, report_to}
 use Rattle.proc_semantics.proofs.Offers.{marked_forgets, marked_renames}
 use Rattle.template_runs.specs.Runs.{is_inside}
 use Rattle.source_laws.specs.Trace as lines
 use Rattle.source_laws.specs.Trace.{Final, Running, Outside, HaltedWith, Failed, weighed}
 use Rattle.source_laws.specs.Good as good
 use Rattle.source_laws.specs.Seen as seen
-use Rattle.source_laws.specs.Seen.{Shown, Trace, shown_of, events_of, arg_shown, args_shown}
-use Rattle.source_laws.specs.Seen.{thing_of}
+use Rattle.source_laws.specs.Seen.{Shown, Trace, shown_of, events_of, arg_shown, args_shown, thing_of}
 use Rattle.source_laws.specs.Words.{Tells, none_yet, and_then, words_at, back_at, word_from, TellsSo}
 use Rattle.source_laws.specs.Words.{WordsTold, WhenceTold}
 use Rattle.source_laws.proofs.Refined.{Report, Entry, World}

@@ -27,8 +27,7 @@ use Rattle.proc_semantics.specs.declared.value.Pair.{Pair}
 use Rattle.proc_program.specs.declared.program.Handle.{Handle}
 use Rattle.proc_program.specs.declared.program.Location.TheVariants.{Local, Global}
 use Rattle.proc_program.specs.Program.{Exp, Number, Element, Call, Binary, Args, no_args, value, pass}
-use Rattle.proc_program.specs.Program.{Statement}
-use Rattle.proc_program.specs.Program.{Set, SetAt, Do, If, While, Return, Block, no_steps, step}
+use Rattle.proc_program.specs.Program.{Statement, Set, SetAt, Do, If, While, Return, Block, no_steps, step}
 use Rattle.proc_semantics.specs.declared.value.Value.{Value}
 use Rattle.proc_templates.specs.declared.FrameShape.{FrameShape as Shape}
 use Rattle.proc_program.specs.Limits.{arg_registers}
@@ -36,8 +35,7 @@ use Rattle.proc_templates.specs.Items.{Item, does, site as a_site}
 use Rattle.proc_templates.specs.Templates.{code, args_code, load_args, load_pair, zeros, arguments, argument}
 use Rattle.proc_templates.specs.Templates.{step_code, block_code}
 use Rattle.source_laws.specs.Fits.{HandleInside, ExpFits, ArgsFit, StepFits, BlockFits, Kind, AsNumber}
-use Rattle.source_laws.specs.Fits.{AsPair}
-use Rattle.source_laws.specs.Fits.{AsRest}
+use Rattle.source_laws.specs.Fits.{AsPair, AsRest}
 use Rattle.source_laws.specs.Sites.{SiteIs}
 use Rattle.source_laws.proofs.CallSites.{StepCallsAt, BlockCallsAt}
 use Rattle.template_runs.proofs.Offers.{Owing, used, At, Placed, Here, SameBelow, SiteHere, Called, Stand}
@@ -46,14 +44,12 @@ use Rattle.template_runs.proofs.Offers.{free_g0, free_g1, free_g2}
 use Rattle.source_laws.proofs.Upto.{UpTo, spend, tick_up}
 use Rattle.source_laws.proofs.CallsIn.{ProcLaw}
 use Rattle.source_laws.proofs.Waiting.{WaitLaw}
-use Rattle.source_laws.proofs.Evals.{LawOf, number_law, local_law, global_law, element_law}
-use Rattle.source_laws.proofs.Evals.{binary_law}
+use Rattle.source_laws.proofs.Evals.{LawOf, number_law, local_law, global_law, element_law, binary_law}
 use Rattle.source_laws.proofs.Doings.{Evals, Does, set_local_law, set_global_law, set_at_law, do_law}
 use Rattle.source_laws.proofs.Doings.{return_law, halt_law, if_law, while_law, none_law, step_law}
-use Rattle.source_laws.proofs.Arguments.{Apart, Others, Holding, argument_spare, HandlesFit}
-use Rattle.source_laws.proofs.Arguments.{ArgsOf, ArgsIn, ValuesAre, no_values, number_too, pair_too}
-use Rattle.source_laws.proofs.Arguments.{load_args_law, zeros_law, zero_law, pair_law, no_args_law, value_law}
-use Rattle.source_laws.proofs.Arguments.{pass_law}
+use Rattle.source_laws.proofs.Arguments.{Apart, Others, Holding, argument_spare, HandlesFit, ArgsOf, ArgsIn}
+use Rattle.source_laws.proofs.Arguments.{ValuesAre, no_values, number_too, pair_too, load_args_law, zeros_law}
+use Rattle.source_laws.proofs.Arguments.{zero_law, pair_law, no_args_law, value_law, pass_law}
 use Rattle.source_laws.proofs.Callings.{IsPair, IsCalled, Passed, no_more, one_more, two_more, filled}
 use Rattle.source_laws.proofs.Callings.{call_law}
 
@@ -68,8 +64,8 @@ holding_kept : (ws : List OWord) (rs : List Reg) (o q : OState) → ((j : ℕ) �
     → Others rs o q → Holding ws o → Holding ws q
 holding_kept ws rs o q ap1 others h j x e = others (argument j) (argument_spare j) (ap1 j) ∙ h j x e
 
--- a procedure at work in a scene, where it may make calls: it has the room that it was given, the sites of its
--- part tell its module's name, and registers that hold arguments are what a procedure is handed
+-- a procedure at work in a scene, where it may make calls: it has the room that it was given, the sites of
+-- its part tell its module's name, and registers that hold arguments are what a procedure is handed
 pub record Enacting : Type 1 where
   pub scene : Scene
   open scene use {world, g, linked, Begins, StoreIs, RegsAre}

@@ -33,8 +33,7 @@ use Rattle.std.specs.List.{Contains}
 use Rattle.overlay_machine.specs.Safe.{IsMet}
 use Rattle.overlay_machine.specs.Invariant.{FrameLies, FramesLie}
 use Rattle.overlay_machine.specs.Linked.{Linked}
-use Rattle.overlay_machine.proofs.Offers.{own_from, frame_in, frame_of-cons}
-use Rattle.overlay_machine.proofs.Offers.{below_all}
+use Rattle.overlay_machine.proofs.Offers.{own_from, frame_in, frame_of-cons, below_all}
 use Rattle.trace_tool.specs.Layout.{part_name, site_of}
 use Rattle.trace_tool.specs.Views.{flat_view}
 use Rattle.source_laws.proofs.Scenes.{Scene}

@@ -1,9 +1,8 @@
 -- A procedure, from its entry to the `xjmp` that ends it, given its checks and its body.
 use Rattle.call_sequence.specs.declared.TheConstants.{ENTRY_WORDS}
 use Rattle.source_laws.proofs.Scenes.{Scene}
-use Rattle.source_laws.proofs.Refined.{Frame, taken_marks, wipes, proc_at, Comp, ends, ticks}
-use Rattle.source_laws.proofs.Refined.{Registers, Then, with_place, block, begin, body_of, finish, proc_of}
-use Rattle.source_laws.proofs.Refined.{whole, recursive}
+use Rattle.source_laws.proofs.Refined.{Frame, taken_marks, wipes, proc_at, Comp, ends, ticks, Registers, Then}
+use Rattle.source_laws.proofs.Refined.{with_place, block, begin, body_of, finish, proc_of, whole, recursive}
 use Rattle.source_laws.proofs.Upto.{wipes_up, upto, failing, UpTo, ticks_up, as_live, MaySet, stack_top}
 use Rattle.source_laws.proofs.Upto.{end_of as stack_end, is_lower}
 use Rattle.std.proofs.Common.{◌≡◌, ◌≢◌, ℕ, ◌+◌, ◌-◌, ◌*◌, ◌<◌, ◌≤◌, ℤ, pos, List, [], ◌∷◌, ◌++◌, length}

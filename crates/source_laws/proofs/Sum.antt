@@ -18,8 +18,7 @@ use Rattle.source_events.specs.Outs.{LeaveIntegers}
 use Rattle.proc_semantics.specs.Told.{Comp}
 use Rattle.proc_semantics.specs.Meaning.{meaning}
 use Rattle.source_laws.specs.Trace.{Running, Outside, HaltedWith, Failed, rests, shown, event_outs}
-use Rattle.source_laws.specs.Trace.{event_items}
-use Rattle.source_laws.specs.Trace.{standing, ended, weighed, show, trace, Trace, Final}
+use Rattle.source_laws.specs.Trace.{event_items, standing, ended, weighed, show, trace, Trace, Final}
 use Rattle.template_runs.specs.Runs.{is_inside}
 use Rattle.source_laws.specs.Good.{MeaningAgrees}
 use Rattle.source_laws.specs.Sources.{Shows, none_yet, and_then, MeaningEnds, MeaningBegins, MeaningTakes}

@@ -14,8 +14,7 @@ use Rattle.cap_words.specs.declared.CapFields.{CapFields}
 use Rattle.trace_tool.specs.Views.{flat_view}
 use Rattle.source_laws.proofs.Refined as telling
 use Rattle.source_laws.specs.Seen.{Shown, shown_of, Back, rests, shown, event_outs, event_items, standing}
-use Rattle.source_laws.specs.Seen.{ended}
-use Rattle.source_laws.specs.Seen.{show, trace}
+use Rattle.source_laws.specs.Seen.{ended, show, trace}
 use Rattle.source_events.specs.declared.MeaningEnd.TheVariants.{Fail, Halt}
 use Rattle.source_laws.proofs.Refined.{Comp, ends, tick, ticks, emit}
 use Rattle.overlay_machine.specs.Link.{Link}

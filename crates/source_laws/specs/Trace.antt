@@ -1,7 +1,6 @@
 -- What a run of the overlay shows to a source: what leaves, what comes in, the weight of its trusted steps,
 -- and where it stands.
-use Rattle.std.specs.Prelude.{ℕ, zero, suc, ◌+◌, Bool, true, false, List, [], ◌∷◌, ◌++◌, Option, Some}
-use Rattle.std.specs.Prelude.{None}
+use Rattle.std.specs.Prelude.{ℕ, zero, suc, ◌+◌, Bool, true, false, List, [], ◌∷◌, ◌++◌, Option, Some, None}
 use Rattle.cap_words.specs.declared.Word.{Word}
 use Rattle.lcm_isa.specs.declared.Reg.TheVariants.{Stk, A0}
 use Rattle.trusted_border.specs.declared.layout.Layout.{Layout}

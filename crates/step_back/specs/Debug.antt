@@ -1,7 +1,6 @@
 -- What the calls of a debugger do.
-use Rattle.std.specs.Prelude.{ℕ, zero, suc, ◌==◌, Bool, true, false, not, ◌&&◌, List, []}
-use Rattle.std.specs.Prelude.{◌∷◌, take}
-use Rattle.std.specs.Prelude.{Option, Some, None, is_some, if◌then◌else◌, ℤ, pos, negsuc}
+use Rattle.std.specs.Prelude.{ℕ, zero, suc, ◌==◌, Bool, true, false, not, ◌&&◌, List, [], ◌∷◌, take, Option}
+use Rattle.std.specs.Prelude.{Some, None, is_some, if◌then◌else◌, ℤ, pos, negsuc}
 use Rattle.std.specs.Ordering.{nat_cmp}
 use Rattle.std.specs.FinSet as set
 use Rattle.lcm_machine.specs.declared.End.{End}

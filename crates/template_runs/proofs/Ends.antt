@@ -39,8 +39,7 @@ use Rattle.overlay_machine.specs.Words.{look, is_plain, is_ret_code}
 use Rattle.overlay_machine.specs.State.{OpenFrame, OState}
 use Rattle.overlay_machine.specs.Step.{goes, ask, need, case_of, case_fetched, step_by, other_step}
 use Rattle.overlay_machine.specs.Step.{return_step, return_by, state_resumed, own_stack, with_frames}
-use Rattle.overlay_machine.specs.Step.{overlay_step}
-use Rattle.overlay_machine.specs.Step.{weight_of, weight_by}
+use Rattle.overlay_machine.specs.Step.{overlay_step, weight_of, weight_by}
 use Rattle.overlay_machine.specs.Events.{step_event, note_by, note_return, note_jump, event_after, owner_now}
 use Rattle.overlay_machine.specs.Events.{jump_seal, jumped}
 use Rattle.overlay_machine.specs.Link.{Link, IsTrusted, ranges_of}

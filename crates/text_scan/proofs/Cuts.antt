@@ -1,8 +1,7 @@
 -- A line that is cut so is read so, and back.
 use Rattle.std.proofs.Common.{◌≡◌, ℕ, zero, suc, ◌+◌, drop, length-take-le, take-append-drop, ◌<◌, ◌≤◌, Bool}
 use Rattle.std.proofs.Common.{true, false, cond, List, [], ◌∷◌, ◌++◌, length, take, Some, Option, Ok, refl}
-use Rattle.std.proofs.Common.{sym, ap, ◌∙◌, subst, arith, inl, inr}
-use Rattle.std.proofs.Common.{Result, Err, eq-eqb, length-drop}
+use Rattle.std.proofs.Common.{sym, ap, ◌∙◌, subst, arith, inl, inr, Result, Err, eq-eqb, length-drop}
 use Rattle.std.specs.Prelude.{◌==◌, nat_le, ◌⊎◌}
 use Rattle.std.specs.List.{take_while, prefix_len}
 use Rattle.std.specs.Str.Parse.{digits_value}

@@ -14,9 +14,8 @@ use Rattle.token_check.specs.declared.fault.TokenFault.TheVariants as fault
 use Rattle.token_language.specs.Tokens.{tokens_of}
 use Rattle.token_check.specs.Tokens.{Full, is_full, is_clear, equal_sets, token_at}
 use Rattle.token_check.specs.Walk.{Walked, walk_on, After, filled, emptied, let_go, joined, comes_back}
-use Rattle.token_check.specs.Walk.{to_after}
-use Rattle.token_check.specs.Walk.{expr_walk, args_walk, stmt_walk, block_walk, at_first, at_last, proc_walk}
-use Rattle.token_check.specs.Walk.{procs_walk, module_walk}
+use Rattle.token_check.specs.Walk.{to_after, expr_walk, args_walk, stmt_walk, block_walk, at_first, at_last}
+use Rattle.token_check.specs.Walk.{proc_walk, procs_walk, module_walk}
 use Rattle.token_check.specs.Typing.{Fills, Empties, Joins, ComesBack, IsClear, ExprTyped, ArgsTyped}
 use Rattle.token_check.specs.Typing.{StmtTyped, BlockTyped, ProcTyped, IsTyped}
 use Rattle.token_check.proofs.SetLemmas.{sets_same, sets_self}

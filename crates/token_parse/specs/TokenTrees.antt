@@ -9,9 +9,8 @@ use Rattle.token_language.specs.declared.module.TokenLocal.{TokenLocal}
 use Rattle.token_language.specs.declared.module.TokenLocal.TheVariants as local
 use Rattle.token_language.specs.declared.module.TokenProc.{TokenProc}
 use Rattle.token_language.specs.declared.module.TokenModuleFields.{TokenModuleFields}
-use Rattle.token_language.specs.Tree.{Expr, number, var, element, call, op}
-use Rattle.token_language.specs.Tree.{Stmt, set, set_at, do_call, if_then, if_else, while, return, halt}
-use Rattle.token_language.specs.Tree.{make, spend}
+use Rattle.token_language.specs.Tree.{Expr, number, var, element, call, op, Stmt, set, set_at, do_call}
+use Rattle.token_language.specs.Tree.{if_then, if_else, while, return, halt, make, spend}
 use Rattle.token_language.specs.View.{args_of}
 use Rattle.token_language.specs.StmtView.{block_of}
 use Rattle.proc_grammar.specs.Makes.{Makes, TokenMakes}

@@ -1,7 +1,6 @@
 -- What goes on with tokens, and what goes on without them.
-use Rattle.std.proofs.Common.{◌≡◌, sym, ◌∙◌, ap, subst, ℕ, ◌+◌, ℤ, Bool}
-use Rattle.std.proofs.Common.{true, false, if◌then◌else◌, List, length, Option}
-use Rattle.std.proofs.Common.{Some, None, slice_get, slice_set}
+use Rattle.std.proofs.Common.{◌≡◌, sym, ◌∙◌, ap, subst, ℕ, ◌+◌, ℤ, Bool, true, false, if◌then◌else◌, List}
+use Rattle.std.proofs.Common.{length, Option, Some, None, slice_get, slice_set}
 use Rattle.std.specs.Prelude.{◌==◌, ◌&&◌}
 use Rattle.std.specs.Str.{bytes_eq}
 use Rattle.source_events.specs.declared.MeaningEnd.TheVariants.{Fail}
@@ -23,8 +22,7 @@ use Rattle.proc_semantics.specs.Meaning as plain
 use Rattle.proc_semantics.specs.Meaning.{result_of, with_number, element_at, enough, given_of, is_given}
 use Rattle.token_language.specs.declared.module.TokenProc.{TokenProc}
 use Rattle.token_language.specs.declared.module.TokenModuleFields.{TokenModuleFields}
-use Rattle.token_language.specs.Tree.{Expr}
-use Rattle.token_language.specs.Tree.{Block}
+use Rattle.token_language.specs.Tree.{Expr, Block}
 use Rattle.token_language.specs.Tokens.{tokens_of}
 use Rattle.token_language.specs.Erased.{erased_expr, erased_block, erased_proc, erased}
 use Rattle.token_check.specs.Tokens.{Full, is_clear}
@@ -34,13 +32,9 @@ use Rattle.token_semantics.specs.Hands.{Hands}
 use Rattle.token_semantics.specs.Told.{Comp, or_fail}
 use Rattle.token_semantics.specs.Meaning.{Then, Along, WithArgs, Next, Wait, scope_of, Level}
 use Rattle.token_semantics.specs.Meaning.{assigned, resumed}
-use Rattle.token_semantics.proofs.Fits.{ExprFits}
-use Rattle.token_semantics.proofs.Fits.{BlockFits}
-use Rattle.token_semantics.proofs.Same.{Running, Same, ended_same}
-use Rattle.token_semantics.proofs.Same.{if_same, HandsAre, plus, with_numbers}
-use Rattle.token_semantics.proofs.Places.{each_set}
-use Rattle.token_semantics.proofs.Places.{Takes, ValueTakesNone, ValuesTakeNone}
-use Rattle.token_semantics.proofs.Places.{RegistersTakeNone}
+use Rattle.token_semantics.proofs.Fits.{ExprFits, BlockFits}
+use Rattle.token_semantics.proofs.Same.{Running, Same, ended_same, if_same, HandsAre, plus, with_numbers}
+use Rattle.token_semantics.proofs.Places.{each_set, Takes, ValueTakesNone, ValuesTakeNone, RegistersTakeNone}
 use Rattle.token_semantics.proofs.Reached.{BlockGoes}
 
 -- ---- what goes on

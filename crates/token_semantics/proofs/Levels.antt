@@ -17,8 +17,7 @@ use Rattle.proc_semantics.specs.declared.value.Value.{Value}
 use Rattle.proc_semantics.specs.declared.value.Value.TheVariants.{Num}
 use Rattle.proc_semantics.specs.declared.value.Register.{Register}
 use Rattle.proc_semantics.specs.declared.value.Activation.{Activation}
-use Rattle.proc_semantics.specs.Values.{Store, register_of}
-use Rattle.proc_semantics.specs.Values.{taken, proc_at, found, registers_fed}
+use Rattle.proc_semantics.specs.Values.{Store, register_of, taken, proc_at, found, registers_fed, World}
 use Rattle.proc_semantics.specs.Meaning as plain
 use Rattle.proc_semantics.specs.Meaning.{result_of, with_number, element_at, enough, given_of, is_given}
 use Rattle.proc_language.specs.declared.TheConstants.{MOST_TOKENS}
@@ -31,32 +30,24 @@ use Rattle.token_language.specs.Erased.{erased_block, erased_proc, erased}
 use Rattle.token_language.proofs.Offers.{block_of-stmts_in}
 use Rattle.token_check.specs.Tokens.{params_full}
 use Rattle.token_check.specs.Walk.{After, at_first}
-use Rattle.token_check.specs.Typing.{IsClear}
-use Rattle.token_check.specs.Typing.{ProcTyped, IsTyped}
+use Rattle.token_check.specs.Typing.{IsClear, ProcTyped, IsTyped}
 use Rattle.token_semantics.specs.Hands.{begun}
 use Rattle.token_semantics.specs.Told.{Comp, or_fail}
-use Rattle.token_semantics.specs.Meaning.{Then, Wait, scope_of, Level}
-use Rattle.token_semantics.specs.Meaning.{first_call, world}
-use Rattle.token_semantics.specs.Meaning.{steps, finish, proc_of_index}
-use Rattle.token_semantics.specs.Meaning.{proc_at as begun_at, left_by, on_item, level}
-use Rattle.token_semantics.proofs.Fits.{tokens_taken}
-use Rattle.token_semantics.proofs.Fits.{ProcFits}
+use Rattle.token_semantics.specs.Meaning.{Then, Wait, scope_of, Level, first_call, world, steps, finish}
+use Rattle.token_semantics.specs.Meaning.{proc_of_index, proc_at as begun_at, left_by, on_item, level}
+use Rattle.token_semantics.proofs.Fits.{tokens_taken, ProcFits}
 use Rattle.token_semantics.specs.Law.{HasNoTokens, IsAccepted}
 use Rattle.token_semantics.proofs.Resolved.{calls_fit, names_fit}
 use Rattle.token_semantics.proofs.Reached.{ProcGoes, checked_goes, tokenless_goes}
 use Rattle.token_names.specs.TokenFaults.{IsTokenResolved}
 use Rattle.token_semantics.proofs.HandLemmas.{handed_length, empty_length, handed_held, handed_full}
-use Rattle.token_semantics.proofs.Same.{Running, Same, same_more, ended_same, ticks_same, emitted}
-use Rattle.token_semantics.proofs.Same.{item_taken, place_same, HandsAre, plus, with_numbers}
-use Rattle.token_semantics.proofs.Same.{calling, leave_same}
-use Rattle.token_semantics.proofs.Places.{all_get, each_append, each_replicate, lowered_in}
-use Rattle.token_semantics.proofs.Places.{lowered_at, lookup, Takes, ValueTakesNone}
-use Rattle.token_semantics.proofs.Places.{RegistersTakeNone, taken_take, found_takes}
-use Rattle.token_semantics.proofs.Places.{fed_take}
-use Rattle.proc_semantics.specs.Values.{World}
+use Rattle.token_semantics.proofs.Same.{Running, Same, same_more, ended_same, ticks_same, emitted, item_taken}
+use Rattle.token_semantics.proofs.Same.{place_same, HandsAre, plus, with_numbers, calling, leave_same}
 use Rattle.token_semantics.proofs.Same.{numbers_more}
-use Rattle.token_semantics.proofs.Going.{RThen, RBack, RWait, RStore, RPlaces, RNext, RLevel}
-use Rattle.token_semantics.proofs.Going.{resumed_same}
+use Rattle.token_semantics.proofs.Places.{all_get, each_append, each_replicate, lowered_in, lowered_at}
+use Rattle.token_semantics.proofs.Places.{lookup, Takes, ValueTakesNone, RegistersTakeNone, taken_take}
+use Rattle.token_semantics.proofs.Places.{found_takes, fed_take}
+use Rattle.token_semantics.proofs.Going.{RThen, RBack, RWait, RStore, RPlaces, RNext, RLevel, resumed_same}
 use Rattle.token_semantics.proofs.Going.{lowered}
 use Rattle.token_semantics.proofs.Statements.{block_same, turn_same}
 

@@ -27,11 +27,9 @@ use Rattle.proc_semantics.specs.declared.value.Value.{Value}
 use Rattle.proc_semantics.specs.declared.value.Value.TheVariants.{Num, Closure, Other}
 use Rattle.proc_semantics.specs.declared.value.Register.{Register}
 use Rattle.proc_semantics.specs.Values.{pair_in, register_of, first_of, rest_of, if_there, taken, home_part}
-use Rattle.proc_semantics.specs.Values.{target}
-use Rattle.proc_semantics.specs.Values.{proc_in, proc_at, is_named, is_shared, shared_in, shared_at, found}
-use Rattle.proc_semantics.specs.Values.{has_main, main_target, pair_found, linked_by, linked, import_in}
-use Rattle.proc_semantics.specs.Values.{pair_of}
-use Rattle.proc_semantics.specs.Values.{pair_fed, registers_fed}
+use Rattle.proc_semantics.specs.Values.{target, proc_in, proc_at, is_named, is_shared, shared_in, shared_at}
+use Rattle.proc_semantics.specs.Values.{found, has_main, main_target, pair_found, linked_by, linked}
+use Rattle.proc_semantics.specs.Values.{import_in, pair_of, pair_fed, registers_fed}
 use Rattle.token_language.specs.declared.module.TokenProc.{TokenProc}
 use Rattle.token_language.specs.declared.module.TokenModuleFields.{TokenModuleFields}
 use Rattle.token_language.specs.Erased.{erased, erased_proc}

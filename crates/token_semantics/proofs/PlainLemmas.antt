@@ -19,8 +19,7 @@ use Rattle.proc_names.specs.Faults.{unless}
 use Rattle.proc_names.specs.Names.{same, variable_named, callee_named, passed_named}
 use Rattle.proc_names.specs.NameFaults as names
 use Rattle.proc_names.specs.NameFaults.{plain_faults, array_faults, registers_fit, callback_arity}
-use Rattle.proc_names.specs.NameFaults.{import_arity}
-use Rattle.proc_names.specs.NameFaults.{passed_faults, twice, names_of_items, name_faults}
+use Rattle.proc_names.specs.NameFaults.{import_arity, passed_faults, twice, names_of_items, name_faults}
 use Rattle.token_language.specs.declared.module.TokenParam.TheVariants as param
 use Rattle.token_language.specs.declared.module.TokenLocal.TheVariants as local
 use Rattle.token_language.specs.declared.module.TokenProc.{TokenProc}
@@ -28,14 +27,12 @@ use Rattle.token_language.specs.StmtView.{block_of}
 use Rattle.token_language.specs.Tokens.{param_name, local_name, param_tokens, local_tokens, tokens_of}
 use Rattle.token_language.specs.Limits.{TokensFit}
 use Rattle.token_language.specs.Erased.{erased_expr, erased_args, erased_before, erased_block, stmts_in}
-use Rattle.token_language.specs.Erased.{erased_params}
-use Rattle.token_language.specs.Erased.{erased_locals, erased_proc, erased}
+use Rattle.token_language.specs.Erased.{erased_params, erased_locals, erased_proc, erased}
 use Rattle.token_names.specs.TokenFaults.{is_token, wrong, arg_tokens, fit, fit_proc, outside_faults}
-use Rattle.token_names.specs.TokenFaults.{called_faults}
-use Rattle.token_names.specs.TokenFaults.{or_token, variable_faults, element_faults, call_faults}
-use Rattle.token_names.specs.TokenFaults.{handed_faults}
-use Rattle.token_names.specs.TokenFaults.{expr_faults, args_faults, stmt_faults, block_faults}
-use Rattle.token_names.specs.TokenFaults.{shared_faults, proc_faults, procs_faults, token_name_faults}
+use Rattle.token_names.specs.TokenFaults.{called_faults, or_token, variable_faults, element_faults}
+use Rattle.token_names.specs.TokenFaults.{call_faults, handed_faults, expr_faults, args_faults, stmt_faults}
+use Rattle.token_names.specs.TokenFaults.{block_faults, shared_faults, proc_faults, procs_faults}
+use Rattle.token_names.specs.TokenFaults.{token_name_faults}
 use Rattle.token_semantics.specs.Plain.{tokened_expr, tokened_args, tokened_stmt, tokened_block, tokened_proc}
 use Rattle.token_semantics.specs.Plain.{tokened}
 use Rattle.token_semantics.specs.Law.{PlainAreAccepted}

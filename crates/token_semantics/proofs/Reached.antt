@@ -1,8 +1,7 @@
 -- The typing of tokens where nothing is asked of code that is never reached. Checked modules keep it, and
 -- so do modules without tokens.
-use Rattle.std.proofs.Common.{◌≡◌, refl, sym, ◌∙◌, ap, ℕ, zero, suc, Bool, true, false}
-use Rattle.std.proofs.Common.{List, [], ◌∷◌, ◌++◌, Some, None, ◌⊎◌, inl, inr}
-use Rattle.std.proofs.Common.{if◌then◌else◌}
+use Rattle.std.proofs.Common.{◌≡◌, refl, sym, ◌∙◌, ap, ℕ, zero, suc, Bool, true, false, List, [], ◌∷◌, ◌++◌}
+use Rattle.std.proofs.Common.{Some, None, ◌⊎◌, inl, inr, if◌then◌else◌}
 use Rattle.std.specs.List.{list_any}
 use Rattle.proc_language.specs.declared.tree.Name.{Name}
 use Rattle.proc_names.specs.declared.fault.NameFault.{NameFault}
@@ -23,8 +22,7 @@ use Rattle.token_names.specs.TokenFaults.{handed_faults, expr_faults, args_fault
 use Rattle.token_check.specs.Tokens.{Full, is_clear, none_full, params_full, token_at}
 use Rattle.token_check.specs.Walk.{After, at_first}
 use Rattle.token_check.specs.Typing.{Fills, Empties, Joins, ComesBack, IsClear, ExprTyped, ArgsTyped}
-use Rattle.token_check.specs.Typing.{StmtTyped}
-use Rattle.token_check.specs.Typing.{BlockTyped, ProcTyped}
+use Rattle.token_check.specs.Typing.{StmtTyped, BlockTyped, ProcTyped}
 use Rattle.proc_language.specs.declared.TheConstants.{MOST_TOKENS}
 use Rattle.token_semantics.proofs.Resolved.{filled, parts}
 

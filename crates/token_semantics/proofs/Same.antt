@@ -20,8 +20,7 @@ use Rattle.token_semantics.specs.Hands.{note_spent, note_ended, spent_by, count}
 use Rattle.token_semantics.specs.Told.{TokensTold, Comp, ends, tick, ticks, emit, take_item, or_fail}
 use Rattle.token_semantics.specs.Told.{made, make_at, spent, spend_at, given, give_at, leave}
 use Rattle.token_semantics.proofs.HandLemmas.{full_of, held, look, put_full, put_length, made_held}
-use Rattle.token_semantics.proofs.HandLemmas.{taken_held}
-use Rattle.token_semantics.proofs.HandLemmas.{none_held, token_below, below, below_next, below_le}
+use Rattle.token_semantics.proofs.HandLemmas.{taken_held, none_held, token_below, below, below_next, below_le}
 use Rattle.token_semantics.proofs.HandLemmas.{count_append}
 
 -- a procedure that ended: what it got it spent or handed on, and those that ended spent it

@@ -1,7 +1,6 @@
 -- Expressions and statements with tokens do what they do without them.
-use Rattle.std.proofs.Common.{◌≡◌, refl, sym, ◌∙◌, subst, ℕ, ◌+◌, arith, pos}
-use Rattle.std.proofs.Common.{if◌then◌else◌, List, [], ◌∷◌, length, map}
-use Rattle.std.proofs.Common.{Some, None, slice_get}
+use Rattle.std.proofs.Common.{◌≡◌, refl, sym, ◌∙◌, subst, ℕ, ◌+◌, arith, pos, if◌then◌else◌, List, [], ◌∷◌}
+use Rattle.std.proofs.Common.{length, map, Some, None, slice_get}
 use Rattle.std.specs.Prelude.{All}
 use Rattle.source_events.specs.declared.MeaningEnd.TheVariants.{Halt as Halted, Fail}
 use Rattle.proc_language.specs.declared.tree.Name.{Name}
@@ -36,17 +35,13 @@ use Rattle.token_semantics.specs.Told.{ends, or_fail}
 use Rattle.token_semantics.specs.Meaning.{Then, Along, WithArgs, Next, Scope, scope_of, Level, operated}
 use Rattle.token_semantics.specs.Meaning.{assigned, behind, world, call_by, called}
 use Rattle.token_semantics.specs.Meaning.{expr, args, stmt_of, steps, turn_at}
-use Rattle.token_semantics.proofs.Fits.{tokens_given, taken_by, ExprFits, ArgsFit, StmtFits}
-use Rattle.token_semantics.proofs.Fits.{BlockFits}
+use Rattle.token_semantics.proofs.Fits.{tokens_given, taken_by, ExprFits, ArgsFit, StmtFits, BlockFits}
 use Rattle.token_semantics.specs.Law.{IsAccepted}
-use Rattle.token_semantics.proofs.Same.{Running, same_more, ended_same, ticked, emitted}
-use Rattle.token_semantics.proofs.Same.{place_same, HandsAre, plus, with_numbers, are_at}
-use Rattle.token_semantics.proofs.Same.{give_same, spend_same, make_same}
-use Rattle.token_semantics.proofs.Places.{PairTakes, ValuesTakeNone}
-use Rattle.token_semantics.proofs.Places.{registers_of}
-use Rattle.token_semantics.proofs.Places.{pair_takes}
-use Rattle.proc_semantics.specs.Values.{World}
+use Rattle.token_semantics.proofs.Same.{Running, same_more, ended_same, ticked, emitted, place_same, HandsAre}
+use Rattle.token_semantics.proofs.Same.{plus, with_numbers, are_at, give_same, spend_same, make_same}
 use Rattle.token_semantics.proofs.Same.{no_numbers_more, numbers_more}
+use Rattle.token_semantics.proofs.Places.{PairTakes, ValuesTakeNone, registers_of, pair_takes}
+use Rattle.proc_semantics.specs.Values.{World}
 use Rattle.token_semantics.proofs.Reached.{StmtGoes, BlockGoes}
 use Rattle.token_semantics.proofs.Going.{RThen, RAlong, RBack, RStore, RPlaces, RNext, RArgs, RLevel}
 use Rattle.token_semantics.proofs.Going.{number_same, choice_same, next_at, joined_next, back_again}

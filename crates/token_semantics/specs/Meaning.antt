@@ -27,8 +27,7 @@ use Rattle.proc_semantics.specs.declared.value.Value.TheVariants.{Num, Closure, 
 use Rattle.proc_semantics.specs.declared.value.Register.{Register}
 use Rattle.proc_semantics.specs.declared.value.Activation.{Activation}
 use Rattle.proc_semantics.specs.Values.{World, Store, is_zero, global_word, set_word, variable, register_of}
-use Rattle.proc_semantics.specs.Values.{taken}
-use Rattle.proc_semantics.specs.Values.{value_args, found, main_target, pair_of, registers_fed}
+use Rattle.proc_semantics.specs.Values.{taken, value_args, found, main_target, pair_of, registers_fed}
 use Rattle.proc_semantics.specs.Meaning as plain
 use Rattle.proc_semantics.specs.Meaning.{result_of, element_at, enough, given_of, is_given}
 use Rattle.token_language.specs.declared.module.TokenProc.{TokenProc}

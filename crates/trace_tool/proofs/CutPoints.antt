@@ -15,8 +15,7 @@ use Rattle.trace_tool.specs.Layout.{layout}
 use Rattle.trace_tool.specs.Told.{StopsAt, EndsOverlay}
 use Rattle.trace_tool.specs.Traces.{weight_with, Traced, stopped, traced_by, traced}
 use Rattle.trace_tool.specs.Cuts.{cut, cut_overlay, is_inside, weighed, trusted_by, trusted_in, Leads}
-use Rattle.trace_tool.specs.Cuts.{no_step}
-use Rattle.trace_tool.specs.Cuts.{and_step, CutsAreGreatest, StopsAreCuts}
+use Rattle.trace_tool.specs.Cuts.{no_step, and_step, CutsAreGreatest, StopsAreCuts}
 use Rattle.trace_tool.specs.Headline.{Matched}
 use Rattle.trace_tool.proofs.TraceTold.{StepIs, it_went, it_halted, it_failed, step_is, traced_with}
 use Rattle.trace_tool.proofs.TraceTold.{with_next}

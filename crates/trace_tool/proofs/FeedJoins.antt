@@ -20,8 +20,7 @@ use Rattle.trace_tool.specs.Lines.{Args, Line, call, ret, enter, pass, leave, ar
 use Rattle.trace_tool.specs.StepLines.{IsNoPass, AreOfStep, none_told, one_told, pass_told}
 use Rattle.trace_tool.specs.StepLines.{AreOfSteps, no_step, and_step}
 use Rattle.trace_tool.specs.Feed.{integers_in, out_of, outs_of, pairs_in, pairs_behind, item_of, items_of}
-use Rattle.trace_tool.specs.Feed.{feed_pairs}
-use Rattle.trace_tool.specs.Feed.{OutsJoin, ItemsJoin, EntriesAreItems}
+use Rattle.trace_tool.specs.Feed.{feed_pairs, OutsJoin, ItemsJoin, EntriesAreItems}
 
 pub outs_join : OutsJoin
 outs_join [] ys = refl

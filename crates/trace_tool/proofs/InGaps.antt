@@ -1,6 +1,5 @@
 -- A stretch of a run in a gap: it writes nothing.
-use Rattle.std.proofs.Common.{◌≡◌, ℕ, zero, suc, ◌+◌, ◌≤◌, Bool, true, List, refl, sym, ap, ◌∙◌, subst}
-use Rattle.std.proofs.Common.{arith}
+use Rattle.std.proofs.Common.{◌≡◌, ℕ, zero, suc, ◌+◌, ◌≤◌, Bool, true, List, refl, sym, ap, ◌∙◌, subst, arith}
 use Rattle.outside_io.specs.SinkSeen.{SinkSeen}
 use Rattle.outside_io.specs.Writes.{AddsPieces}
 use Rattle.outside_io.proofs.Offers.{pieces_none}

@@ -1,8 +1,7 @@
 -- The run of the instance: the steps of its overlay are an entry, three instructions, a call, and the return
 -- to it.
 use Rattle.std.proofs.Common.{◌≡◌, ℕ, ◌+◌, ◌-◌, pos, true, false, List, [], ◌∷◌, ◌++◌, Some, None, refl, ap}
-use Rattle.std.proofs.Common.{◌∙◌}
-use Rattle.std.proofs.Common.{arith, subst, inl}
+use Rattle.std.proofs.Common.{◌∙◌, arith, subst, inl}
 use Rattle.std.specs.Prelude.{option_map, ◌&&◌, is_some}
 use Rattle.cap_words.specs.declared.Word.{Word}
 use Rattle.cap_words.specs.declared.Word.TheVariants.{Int, Mem, Sealed}

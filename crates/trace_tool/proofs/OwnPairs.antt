@@ -1,7 +1,6 @@
 -- An `xjmp` of a return word and a word that isn't linear fails on both machines.
 use Rattle.std.proofs.Common.{◌≡◌, ◌≢◌, ℕ, ◌+◌, pos, Bool, true, false, Option, Some, None, refl, sym, ap}
-use Rattle.std.proofs.Common.{◌∙◌}
-use Rattle.std.proofs.Common.{ne_eqb}
+use Rattle.std.proofs.Common.{◌∙◌, ne_eqb}
 use Rattle.std.specs.Prelude.{◌==◌, if◌then◌else◌}
 use Rattle.cap_words.specs.declared.Word.{Word}
 use Rattle.cap_words.specs.declared.Content.TheVariants.{Mem as MemC, Seal as SealC}

@@ -1,6 +1,5 @@
 -- What lines tell of trusted code as a whole: what goes out of it, and what comes in, one after another.
-use Rattle.std.specs.Prelude.{◌≡◌, ℕ, ◌++◌, true, false, ℤ, List, [], ◌∷◌, Option, Some, None}
-use Rattle.std.specs.Prelude.{if◌then◌else◌}
+use Rattle.std.specs.Prelude.{◌≡◌, ℕ, ◌++◌, true, false, ℤ, List, [], ◌∷◌, Option, Some, None, if◌then◌else◌}
 use Rattle.cap_words.specs.declared.Word.{Word}
 use Rattle.cap_words.specs.declared.Word.TheVariants.{Int}
 use Rattle.lcm_isa.specs.declared.Reg.TheVariants.{Stk}

@@ -46,8 +46,7 @@ use Rattle.overlay_machine.specs.Step.{state_resumed, first_word, rest_words}
 use Rattle.overlay_machine.specs.Flat.{flat, beside}
 use Rattle.overlay_machine.specs.Events.{site_opened, owner_now, note_call, note_return, note_jump, note_by}
 use Rattle.overlay_machine.specs.Events.{jump_seal, shown_word, entered_event as event_entered, jumped}
-use Rattle.overlay_machine.specs.Events.{event_after}
-use Rattle.overlay_machine.specs.Events.{step_event}
+use Rattle.overlay_machine.specs.Events.{event_after, step_event}
 use Rattle.overlay_machine.specs.Agree.{ReadyFor, AtSite, AtEntry, AtReturn, FrameSound, IsKnown, AllKnown}
 use Rattle.overlay_machine.specs.Agree.{IsForeign}
 use Rattle.overlay_machine.specs.Runs.{Reached, begins, goes_on, plain_run}

@@ -1,6 +1,5 @@
 -- Safe words are closed under what instructions make of words.
-use Rattle.std.proofs.Common.{◌≡◌, inl, inr, ℕ, ◌+◌, ◌<◌, ◌≤◌, ℤ, true, List, refl, ap, arith, le-leb}
-use Rattle.std.proofs.Common.{lt-ltb}
+use Rattle.std.proofs.Common.{◌≡◌, inl, inr, ℕ, ◌+◌, ◌<◌, ◌≤◌, ℤ, true, List, refl, ap, arith, le-leb, lt-ltb}
 use Rattle.std.specs.Prelude.{None, ◌==◌, IsTrue}
 use Rattle.std.proofs.lemmas.Bool.{cases_lt, or_right}
 use Rattle.lcm_machine.proofs.Offers.{in_seals, split_bounds, below_runs}

@@ -1,7 +1,6 @@
 -- No plain instruction of an overlay step touches an address that is in a frame before and after it.
 use Rattle.std.proofs.Common.{◌≡◌, ◌≢◌, inl, inr, ℕ, ◌+◌, ◌-◌, ◌≤◌, pos, true, List, ◌∷◌, Some, None, refl}
-use Rattle.std.proofs.Common.{sym, ap, ◌∙◌}
-use Rattle.std.proofs.Common.{arith, is_some}
+use Rattle.std.proofs.Common.{sym, ap, ◌∙◌, arith, is_some}
 use Rattle.std.specs.Prelude.{slice_get}
 use Rattle.std.specs.Option.{option_or}
 use Rattle.cap_words.specs.declared.Word.{Word}

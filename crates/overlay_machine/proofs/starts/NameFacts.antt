@@ -29,9 +29,8 @@ use Rattle.trusted_border.specs.Names as names
 use Rattle.overlay_machine.specs.Link.{ranges_of}
 use Rattle.overlay_machine.specs.Linked.{SiteOf}
 use Rattle.overlay_machine.specs.Starting.{overlay_at}
-use Rattle.overlay_machine.specs.Names.{PartNamed}
-use Rattle.overlay_machine.specs.Names.{EntryNamed, declared_site, SiteNumbered, SiteTold, NamesTold}
-use Rattle.overlay_machine.specs.Names.{StartsTellNames}
+use Rattle.overlay_machine.specs.Names.{PartNamed, EntryNamed, declared_site, SiteNumbered, SiteTold}
+use Rattle.overlay_machine.specs.Names.{NamesTold, StartsTellNames}
 use Rattle.overlay_machine.proofs.starts.ListFacts.{listed_at, index_of, one_at, found_is, is_found}
 use Rattle.overlay_machine.proofs.starts.ListFacts.{only_found, any_of, position_is, is_placed}
 use Rattle.overlay_machine.proofs.starts.PartFacts.{export_within}

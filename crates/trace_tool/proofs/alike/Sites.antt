@@ -3,8 +3,7 @@ use Rattle.std.proofs.Common.{◌≡◌, inl, inr, ℕ, zero, suc, ◌+◌, ◌-
 use Rattle.std.proofs.Common.{[], ◌∷◌, length, Option, Some, None, refl, sym, ap, ◌∙◌, arith, subst, leb-true}
 use Rattle.std.proofs.Common.{le-leb, lt-ltb, eq-eqb, get_or}
 use Rattle.std.specs.Prelude.{if◌then◌else◌, ◌==◌, ◌^◌, ◌&&◌, nat_le, nat_lt, slice_get, is_some, find}
-use Rattle.std.specs.Prelude.{position}
-use Rattle.std.specs.Prelude.{option_and_then}
+use Rattle.std.specs.Prelude.{position, option_and_then}
 use Rattle.std.specs.List.{position_or_len}
 use Rattle.std.proofs.lemmas.Bool.{cases_lt, eqb-true, ltb-true, and_parts}
 use Rattle.std.proofs.lemmas.List.Sums.{fails_before_first}

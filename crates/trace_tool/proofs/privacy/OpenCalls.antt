@@ -38,8 +38,7 @@ use Rattle.trace_tool.proofs.LeftAlone.{told_of}
 use Rattle.trace_tool.proofs.alike.Calm.{id}
 use Rattle.trace_tool.proofs.alike.Sites.{site_listed}
 use Rattle.trace_tool.specs.OpenCalls.{LineTold, open_behind, RetsCloseTheNewest, after, IsOwnReturn}
-use Rattle.trace_tool.specs.OpenCalls.{ReadsOrWipes}
-use Rattle.trace_tool.specs.OpenCalls.{RangesAreLeftAlone, CallsAreKept}
+use Rattle.trace_tool.specs.OpenCalls.{ReadsOrWipes, RangesAreLeftAlone, CallsAreKept}
 use Rattle.trace_tool.proofs.privacy.OpenLemmas.{open_is, closes_newest}
 use Rattle.trace_tool.proofs.privacy.ReturnTail.{OwnTouch}
 use Rattle.trace_tool.proofs.privacy.StepOwn.{step_own}

@@ -1,7 +1,6 @@
 -- Of the plain instructions of one overlay step, whether it goes or ends, none touches an address of an open
 -- frame but the two of the frame's own return.
-use Rattle.std.proofs.Common.{◌+◌}
-use Rattle.std.proofs.Common.{◌≡◌, inl, inr, ℕ, zero, suc, ◌<◌, ◌≤◌, None, Some, refl, sym, ap, ◌∙◌}
+use Rattle.std.proofs.Common.{◌+◌, ◌≡◌, inl, inr, ℕ, zero, suc, ◌<◌, ◌≤◌, None, Some, refl, sym, ap, ◌∙◌}
 use Rattle.std.proofs.Common.{subst, arith}
 use Rattle.std.specs.Prelude.{if◌then◌else◌}
 use Rattle.std.proofs.lemmas.Bool.{cases_lt}

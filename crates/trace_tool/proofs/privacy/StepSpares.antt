@@ -1,6 +1,5 @@
 -- A call and an entry touch no address of an open frame, whether they go or fail.
-use Rattle.std.proofs.Common.{◌≡◌, ℕ, ◌≤◌, true, None, sym, ap, ◌∙◌, arith}
-use Rattle.std.proofs.Common.{is_some}
+use Rattle.std.proofs.Common.{◌≡◌, ℕ, ◌≤◌, true, None, sym, ap, ◌∙◌, arith, is_some}
 use Rattle.cap_words.specs.declared.Word.{Word}
 use Rattle.lcm_isa.specs.declared.Reg.TheVariants.{Pc, Stk}
 use Rattle.lcm_machine.specs.Maps.{State}

@@ -26,8 +26,7 @@ use Rattle.trace_tool.specs.declared.note.Note.TheVariants.{Nothing, Last, Leap}
 use Rattle.trace_tool.specs.Layout.{part_name, site_of, trusted_part, site_word}
 use Rattle.trace_tool.specs.Views.{View, view_of}
 use Rattle.trace_tool.specs.Events.{note_last, noted_by, noted, inward_after, returned, leapt_by, event_after}
-use Rattle.trace_tool.specs.Lines.{call, ret, args_of, list_of, words_seen, line_of, lines_behind}
-use Rattle.trace_tool.specs.Lines.{lines_for}
+use Rattle.trace_tool.specs.Lines.{call, ret, args_of, list_of, words_seen, line_of, lines_behind, lines_for}
 use Rattle.trace_tool.specs.EndLines.{line_at, end_line, running_text, halted_text, failed_by_text}
 use Rattle.trace_tool.specs.Runs.{Watched, if_went, watched_next, event_next, line_next}
 use Rattle.lcm_machine.specs.Blind.{SameBut, Keeps, HasNoMore, EndsAlike}

@@ -28,8 +28,7 @@ use Rattle.trace_tool.proofs.Going.{watched_run}
 use Rattle.lcm_machine.specs.Blind.{SameBut, Keeps}
 use Rattle.trace_tool.specs.Secrecy.{InRanges, StayOpen, instead, other_run, FramesAreSecret}
 use Rattle.trace_tool.proofs.secrecy.Beside.{Beside, OfNoUse, next_beside, event_goes, went_before}
-use Rattle.trace_tool.proofs.secrecy.Beside.{end_line_same}
-use Rattle.trace_tool.proofs.secrecy.Beside.{RangeIsOff, inward_same, line_next_same}
+use Rattle.trace_tool.proofs.secrecy.Beside.{end_line_same, RangeIsOff, inward_same, line_next_same}
 use Rattle.trace_tool.proofs.secrecy.OpenRanges.{open_then, LieApart, lie_apart, cell_there}
 
 abbrev id : Word → Word

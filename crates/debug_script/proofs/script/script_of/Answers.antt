@@ -1,11 +1,9 @@
-use Rattle.std.proofs.Common.{arith, rules, sym, ap, ◌∙◌, ◌≡◌, ◌<◌, ◌∷◌, [], ◌++◌, length}
-use Rattle.std.proofs.Common.{length-append, inr}
+use Rattle.std.proofs.Common.{arith, rules, sym, ap, ◌∙◌, ◌≡◌, ◌<◌, ◌∷◌, [], ◌++◌, length, length-append, inr}
 use Rattle.std.proofs.lemmas.List.Elements.{All-nil, All-push}
 use Rattle.std.proofs.lemmas.List.{nil_from_length}
 use Rattle.debug_script.specs.Commands.{Fits}
 use Rattle.debug_script.proofs.CommandLemmas.{command_is}
-use Rattle.debug_script.proofs.ScriptLemmas.{command_fits, begins, bad_line, good_line, ends}
-use Rattle.debug_script.proofs.ScriptLemmas.{bad_end}
+use Rattle.debug_script.proofs.ScriptLemmas.{command_fits, begins, bad_line, good_line, ends, bad_end}
 use Rattle.debug_script.proofs.script.script_of.Goals as goal
 
 pub loop-line-init : goal.loop-line-init

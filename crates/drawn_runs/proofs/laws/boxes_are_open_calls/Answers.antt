@@ -4,11 +4,12 @@ use Rattle.overlay_machine.specs.Keeping.{link_of}
 use Rattle.trace_tool.specs.Layout.{layout}
 use Rattle.trace_tool.specs.Runs.{written}
 use Rattle.trace_tool.specs.Cuts.{cut, cut_overlay}
+use Rattle.trace_tool.proofs.Offers.{reached_by, open_is}
 use Rattle.drawn_runs.specs.Drawn.{text_of}
 use Rattle.drawn_runs.proofs.Lines.{begins}
 use Rattle.drawn_runs.proofs.Dark.{dark_there, open_dark}
 use Rattle.drawn_runs.proofs.Boxes.{boxes_over}
-use Rattle.drawn_runs.proofs.Ranges.{open_is, reached, frames_have_ranges}
+use Rattle.drawn_runs.proofs.Ranges.{frames_have_ranges}
 use Rattle.drawn_runs.proofs.laws.boxes_are_open_calls.Goals as goal
 
 pub returns-clause-boxes : goal.returns-clause-boxes
@@ -26,7 +27,7 @@ returns-clause-boxes c = λ parts size s is steps n le.
     let open_now = open_is [] _ (written s n)
     (c.lines_are_bracketed.ensures.steps g o.state s.state.maps h.linked h.holds at (written s n) p told) in
     let frames = ((c.linked_starts_agree.ensures parts size s is).matched at p
-    (reached at (written s n) p told)).2.frames in
+    (reached_by (layout s) o.state at (written s n) p told)).2.frames in
     boxes_over c.lines_and_addresses_are_seen.ensures.columns c.open_calls_are_seen.ensures.follow
     c.one_box_each.ensures (text_of s steps) (written s n) b
     (frames_have_ranges (layout s) p.maps.cells p.calls p.frames frames) open_now)

@@ -7,8 +7,7 @@ use Rattle.file_plans.specs.declared.refusal.Stop.{Stop}
 use Rattle.std.proofs.lemmas.Result.{err_from_is_err_and}
 use Rattle.file_plans.specs.Plans.{file, unless, Comes, Meets}
 use Rattle.link_tool.specs.Parts.{loaded}
-use Rattle.link_tool.specs.Linked.{linked_image}
-use Rattle.link_tool.specs.Linked.{FollowsImage}
+use Rattle.link_tool.specs.Linked.{linked_image, FollowsImage}
 use Rattle.file_plans.proofs.Offers.{follows_meets, unless_made}
 use Rattle.link_tool.proofs.starts.file_bytes.Goals as goal
 

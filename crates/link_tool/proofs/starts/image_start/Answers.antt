@@ -6,8 +6,7 @@ use Rattle.file_plans.specs.declared.refusal.Stop.{Stop}
 use Rattle.file_plans.specs.declared.refusal.Refusal.TheVariants.{Image}
 use Rattle.file_plans.specs.Plans.{file, unless, Comes}
 use Rattle.link_tool.specs.Parts.{loaded}
-use Rattle.link_tool.specs.Linked.{linked_image}
-use Rattle.link_tool.specs.Linked.{FollowsStart, MeetsStart}
+use Rattle.link_tool.specs.Linked.{linked_image, FollowsStart, MeetsStart}
 use Rattle.file_plans.proofs.Offers.{follows_meets}
 use Rattle.link_tool.proofs.starts.image_start.Goals as goal
 

@@ -9,8 +9,7 @@ use Rattle.file_plans.specs.declared.refusal.Stop.{Stop}
 use Rattle.file_plans.specs.declared.refusal.Refusal.TheVariants.{Rule}
 use Rattle.file_plans.specs.Plans.{unless, each_at, Comes, Meets}
 use Rattle.link_tool.specs.Parts.{linked, part_at}
-use Rattle.link_tool.specs.Linked.{linked_parts}
-use Rattle.link_tool.specs.Linked.{without, FollowsImage}
+use Rattle.link_tool.specs.Linked.{linked_parts, without, FollowsImage}
 use Rattle.file_plans.proofs.Offers.{unless_gave}
 use Rattle.link_tool.proofs.Linking.{image_with, linked_comes, linked_unread, linked_stops, loaded_again}
 use Rattle.link_tool.proofs.starts.parts_bytes.Goals as goal

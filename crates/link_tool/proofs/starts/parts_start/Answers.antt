@@ -10,8 +10,7 @@ use Rattle.file_plans.specs.declared.refusal.Refusal.TheVariants.{Rule}
 use Rattle.file_plans.specs.Plans.{unless, each_at, Comes, Meets}
 use Rattle.component_linker.specs.LinkedStarts.{IsStartOf}
 use Rattle.link_tool.specs.Parts.{linked, part_at}
-use Rattle.link_tool.specs.Linked.{linked_parts}
-use Rattle.link_tool.specs.Linked.{without, FollowsStart}
+use Rattle.link_tool.specs.Linked.{linked_parts, without, FollowsStart}
 use Rattle.link_tool.proofs.Linking.{image_with, linked_comes, linked_unread, linked_stops}
 use Rattle.link_tool.proofs.starts.parts_start.Goals as goal
 

@@ -1,5 +1,4 @@
-use Rattle.std.proofs.Common.{◌+◌, pos, []}
-use Rattle.std.proofs.Common.{sym, ap, ap₂, ◌∙◌, reverse}
+use Rattle.std.proofs.Common.{◌+◌, pos, [], sym, ap, ap₂, ◌∙◌, reverse}
 use Rattle.std.specs.Option.{option_copied}
 use Rattle.std.specs.Prelude.{option_map}
 use Rattle.proc_program.specs.StepView.{block_of}

@@ -1,5 +1,4 @@
-use Rattle.std.proofs.Common.{rules, ◌≡◌, ◌∷◌, ◌++◌, sym, ap, ap₂, ◌∙◌, reverse, w64}
-use Rattle.std.proofs.Common.{to_z, of_z}
+use Rattle.std.proofs.Common.{rules, ◌≡◌, ◌∷◌, ◌++◌, sym, ap, ap₂, ◌∙◌, reverse, w64, to_z, of_z}
 use Rattle.proc_program.specs.View.{exp_of, args_of}
 use Rattle.proc_meaning.specs.declared.work.Now.TheVariants.{Eval, Value, Args}
 use Rattle.proc_meaning.specs.declared.work.Work.TheVariants.{Index, Right}

@@ -1,5 +1,4 @@
-use Rattle.std.proofs.Common.{rules, ◌≡◌, [], ◌∷◌, sym, ap, ap₂, ◌∙◌, reverse}
-use Rattle.std.proofs.Common.{w64, to_z, of_z}
+use Rattle.std.proofs.Common.{rules, ◌≡◌, [], ◌∷◌, sym, ap, ap₂, ◌∙◌, reverse, w64, to_z, of_z}
 use Rattle.source_events.specs.declared.OutArg.TheVariants.{Int}
 use Rattle.source_events.specs.declared.OutEvent.TheVariants.{LeaveOut}
 use Rattle.proc_semantics.specs.declared.value.Value.TheVariants.{Num}

@@ -1,6 +1,5 @@
 use Rattle.std.specs.Prelude.{if◌then◌else◌}
-use Rattle.std.proofs.Common.{rules, ◌≡◌, ◌∷◌, Some, sym, ap, ◌∙◌, reverse, w64, to_z}
-use Rattle.std.proofs.Common.{of_z}
+use Rattle.std.proofs.Common.{rules, ◌≡◌, ◌∷◌, Some, sym, ap, ◌∙◌, reverse, w64, to_z, of_z}
 use Rattle.proc_meaning.specs.declared.work.Now.TheVariants as now
 use Rattle.proc_semantics.specs.Told.{fails}
 use Rattle.proc_semantics.specs.Meaning.{resumed, call_wait}

@@ -1,5 +1,4 @@
-use Rattle.std.proofs.Common.{rules, ◌≡◌, [], ◌∷◌, ◌++◌, sym, ap, ap₂, ◌∙◌, reverse, w64}
-use Rattle.std.proofs.Common.{to_z, of_z}
+use Rattle.std.proofs.Common.{rules, ◌≡◌, [], ◌∷◌, ◌++◌, sym, ap, ap₂, ◌∙◌, reverse, w64, to_z, of_z}
 use Rattle.std.proofs.lemmas.Result.{IfOk-weaker}
 use Rattle.proc_program.specs.View.{args_of}
 use Rattle.proc_program.specs.StepView.{block_of}
@@ -7,8 +6,7 @@ use Rattle.proc_semantics.specs.declared.value.Value.TheVariants.{Num}
 use Rattle.proc_meaning.specs.declared.work.Now.TheVariants as now
 use Rattle.proc_meaning.specs.declared.work.Work.TheVariants.{Operate, SetElement}
 use Rattle.proc_semantics.specs.Values.{set_word, global_word}
-use Rattle.proc_semantics.specs.Meaning.{assigned, element_at, result_of, with_place}
-use Rattle.proc_semantics.specs.Meaning.{with_number}
+use Rattle.proc_semantics.specs.Meaning.{assigned, element_at, result_of, with_place, with_number}
 use Rattle.proc_meaning.specs.Rest.{with_value, call_with, chosen, tested, after, back}
 use Rattle.proc_meaning.proofs.Works.{pushed, kept}
 use Rattle.proc_meaning.proofs.steps.give_to.Goals as goal

@@ -1,8 +1,7 @@
 use Rattle.std.proofs.Common.{◌+◌, sym, ◌∙◌, ap, List, drop, map, not}
-use Rattle.proc_names.specs.Faults.{first, earlier}
+use Rattle.proc_names.specs.Faults.{first, earlier, unless}
 use Rattle.proc_names.specs.NameFaults.{again}
 use Rattle.proc_names.specs.Names.{same}
-use Rattle.proc_names.specs.Faults.{unless}
 use Rattle.proc_language.specs.declared.tree.Name.{Name}
 use Rattle.proc_names.specs.declared.fault.NameFault.{NameFault}
 use Rattle.proc_names.specs.declared.fault.NameFault.TheVariants.{Twice}

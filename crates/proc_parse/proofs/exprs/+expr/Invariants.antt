@@ -1,5 +1,4 @@
-use Rattle.std.proofs.Common.{◌≡◌, ◌≤◌, ◌+◌, ◌*◌, ◌-◌}
-use Rattle.std.proofs.Common.{true, length}
+use Rattle.std.proofs.Common.{◌≡◌, ◌≤◌, ◌+◌, ◌*◌, ◌-◌, true, length}
 use Rattle.proc_parse.specs.Loops.{terms_behind, in_all}
 use Rattle.proc_grammar.specs.Grammar.{behind_arg}
 use Rattle.proc_grammar.specs.Lexemes.{sign, comma}

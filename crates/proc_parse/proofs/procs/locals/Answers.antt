@@ -1,5 +1,4 @@
-use Rattle.std.proofs.Common.{◌∙◌, ◌<◌, sym, ap, arith, true, length, [], ◌∷◌}
-use Rattle.std.proofs.Common.{length-append, subst}
+use Rattle.std.proofs.Common.{◌∙◌, ◌<◌, sym, ap, arith, true, length, [], ◌∷◌, length-append, subst}
 use Rattle.std.proofs.lemmas.Result.{err_from_is_err_and}
 use Rattle.proc_language.specs.declared.TheConstants.{MOST_LOCALS}
 use Rattle.proc_grammar.specs.Grammar.{behind_local}

@@ -1,5 +1,4 @@
-use Rattle.std.proofs.Common.{sym, ◌∙◌, ap, ◌==◌}
-use Rattle.std.proofs.Common.{position}
+use Rattle.std.proofs.Common.{sym, ◌∙◌, ap, ◌==◌, position}
 use Rattle.std.specs.FinSet as set
 use Rattle.step_back.proofs.StopLemmas.{not_found, found, is_there, none_removed, set_removed, kept_removed}
 use Rattle.step_back.proofs.stops.Stops.remove.Goals as goal
