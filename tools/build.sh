@@ -60,6 +60,8 @@ tell() {
 
 # Shows the end of what rt said of what could not be proved or built, and ends the build.
 end_failed() {
+    log=$out/build.log
+    mv -f "$room/log" "$log"
     failed=$(sed -n 's/^rt: \([a-z0-9_]*\).* NOT PROVED.*/\1/p' "$log" | head -n 1)
     sed '/^statements /d; /^rt: .* NOT PROVED/q' "$log" | tail -n 20 >&2
     echo "$name: ${failed:-$name} could not be built; all that the build said of it is in $log" >&2
@@ -69,10 +71,9 @@ end_failed() {
 # Proves what has to be proved, builds the program, and notes what it was made from.
 build() {
     needs_kit
-    log=$out/build.log
     begun=$(date +%H:%M)
     prover=
-    mkdir -p "$out" && : >"$log" || stop "can't write in $out"
+    mkdir -p "$out" && [ -w "$out" ] || stop "can't write in $out"
     room=$(mktemp -d "${TMPDIR:-/var/tmp}/$name.XXXXXX") || stop "can't make a folder"
     trap 'end_build 130' HUP INT TERM
     files crates.txt HANDLES crates >"$room/files"
@@ -84,13 +85,15 @@ build() {
     echo "$name: proving the $left crates of the program, but for those that are proved already$long" >&2
     # (as root, rt runs a program as nobody, below its folder for temporary files)
     chmod 711 "$room"
-    (cd "$copy" && exec env TMPDIR="$room/tmp" rt ci) >"$log" 2>&1 &
+    : >"$room/log"
+    (cd "$copy" && exec env TMPDIR="$room/tmp" rt ci) >"$room/log" 2>&1 &
     prover=$!
-    tail -n +1 -f --pid="$prover" "$log" | tell &
+    tail -n +1 -f --pid="$prover" "$room/log" | tell &
     wait "$prover" 2>/dev/null || end_failed
     prover=
     wait
-    cp "$copy/crates/$name/out/$name" "$out/$name.new" && mv -f "$out/$name.new" "$out/$name" &&
+    mv -f "$room/log" "$out/build.log"
+    cp "$copy/crates/$name/out/$name" "$out/$name.$$" && mv -f "$out/$name.$$" "$out/$name" &&
         files "crates/$name/out/$name" | cat "$room/files" - >"$built" || end_build 126
     rm -rf "$room"
     trap - HUP INT TERM
