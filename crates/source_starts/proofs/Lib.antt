@@ -13,6 +13,7 @@ pub mod Stores
 pub mod Mains
 pub mod Halves
 pub mod ModulePairs
+pub mod SlotPairs
 pub mod FedPairs
 pub mod Sourced
 pub mod Standings

@@ -7,13 +7,11 @@ pub use Rattle.source_starts.proofs.Worlds.{names_same, part_of_home, same_names
 pub use Rattle.source_starts.proofs.Exports.{one_offset}
 -- what imports name among linked parts, whose names differ
 pub use Rattle.source_starts.proofs.Linking.{Names, imported_names, same_part}
--- the imports of a compiled module
-pub use Rattle.source_starts.proofs.Slots.{import_at, own_at}
 -- what the overlay of a linked start of sources has in its cells
 pub use Rattle.source_starts.proofs.StartWords.{data_in}
 -- where the names of shared procedures lead, and the names of imports
 pub use Rattle.source_starts.proofs.Targets.{proc_of}
 -- pairs of sealed words of linked parts
 pub use Rattle.source_starts.proofs.Halves.{closure_foreign, open_foreign}
--- what the data of compiled modules hold at a linked start
-pub use Rattle.source_starts.proofs.ModulePairs.{words_of}
+-- the slots of linked sources hold the pairs that they name
+pub use Rattle.source_starts.proofs.SlotPairs.{import_words, own_words}

@@ -1,6 +1,8 @@
 -- From what the overlay shows to what the plain machine holds: a word that stays is flattened as before.
 use Rattle.std.proofs.Common.{◌≡◌, ◌⊎◌, inl, inr, ℕ, ◌+◌, ◌<◌, ◌≤◌, pos, List, Option, Some, None, refl, sym}
-use Rattle.std.proofs.Common.{ap, ◌∙◌, subst, arith}
+use Rattle.std.proofs.Common.{ap, ◌∙◌, subst, arith, true, false, not}
+use Rattle.std.specs.Prelude.{is_some}
+use Rattle.std.proofs.lemmas.Bool.{and_parts}
 use Rattle.cap_words.specs.declared.Word.{Word}
 use Rattle.cap_words.specs.declared.Word.TheVariants.{Int}
 use Rattle.lcm_machine.specs.declared.Place.TheVariants.{Cell}
@@ -9,6 +11,7 @@ use Rattle.lcm_machine.specs.Cells.{cell}
 use Rattle.lcm_machine.specs.Mapped.{mapped_or}
 use Rattle.lcm_machine.specs.Run.{plain}
 use Rattle.component_linker.specs.Parts.{PartSeen}
+use Rattle.component_linker.specs.Regions.{in_regions}
 use Rattle.component_linker.specs.Standing.{placed}
 use Rattle.component_linker.specs.Started.{StartSeen}
 use Rattle.component_linker.specs.LinkedStarts.{IsLinkedStart}
@@ -18,7 +21,7 @@ use Rattle.overlay_machine.specs.State.{OpenFrame, OState, framed, frame_of}
 use Rattle.overlay_machine.specs.Step.{goes, overlay_step, weight_of}
 use Rattle.overlay_machine.specs.Runs.{Reached}
 use Rattle.overlay_machine.specs.Flat.{flat, beside, flat_data, IsFlat}
-use Rattle.overlay_machine.specs.Link.{Link}
+use Rattle.overlay_machine.specs.Link.{Link, has_cell, regions}
 use Rattle.overlay_machine.specs.Linked.{Linked}
 use Rattle.overlay_machine.specs.Invariant.{Invariant}
 use Rattle.overlay_machine.specs.Safe.{IsMet}
@@ -30,7 +33,7 @@ use Rattle.template_runs.specs.Public.{IsFreeAt}
 use Rattle.template_runs.specs.Border.{IsTidied}
 use Rattle.source_laws.specs.Secrets.{HasCome, begins, comes, Until, still_there, one_more, LetsGo}
 use Rattle.source_laws.specs.Secrets.{LeavesNothing, ComesFrom, RanLast, at_start, outside}
-use Rattle.source_starts.specs.PlainSecrets.{PlainShowsNoMore, PlainRunsLeaveNothing}
+use Rattle.source_starts.specs.PlainSecrets.{InReach, PlainShowsNoMore, PlainRunsLeaveNothing}
 use Rattle.source_starts.specs.Sources.{SourcesLeaveNothing, linked_at}
 
 module _ (g : Link) (linked : Linked g) (s : StartSeen) (same : g.layout ≡ layout s)
@@ -75,6 +78,17 @@ module _ (g : Link) (linked : Linked g) (s : StartSeen) (same : g.layout ≡ lay
 
   -- ---- words
 
+  -- a cell that is there is in no frame
+  no_frame : (i : ℕ) (o : OState) → Matched s i o → (a : ℕ) (x : OWord) → cell o.maps.cells a ≡ Some x
+      → framed o.frames a ≡ None
+  no_frame i o r a x e = by (framed o.frames a) refl (sym ((holds i o r).1.there a) ∙ ap is_some e)
+    where
+      by : (f : Option OWord) → framed o.frames a ≡ f → has_cell g o.frames a ≡ true → f ≡ None
+      by None k h = refl
+      by (Some v) k h =
+          absurd (let n = (and_parts (in_regions a (regions g)) (not (is_some (framed o.frames a))) h).1 in
+          let bad : false ≡ true = ap (λ y. not (is_some y)) (sym k) ∙ n in cc)
+
   module _ (o q : OState) (i : ℕ) (r : Matched s i o) (t : Trail i o q) where
     flat_same : (a : ℕ) (w : OWord) → cell o.maps.cells a ≡ Some w → cell q.maps.cells a ≡ Some w
         → flat (layout s) o.frames w ≡ flat (layout s) q.frames w
@@ -91,7 +105,7 @@ module _ (g : Link) (linked : Linked g) (s : StartSeen) (same : g.layout ≡ lay
         ap (flat_data (layout s)) (there ∙ sym mq.1)
 
     -- a cell that keeps its word is flattened alike
-    pub cell_stays : (a : ℕ) (x : OWord) (w : Word) → cell q.maps.cells a ≡ Some x
+    cell_stays : (a : ℕ) (x : OWord) (w : Word) → cell q.maps.cells a ≡ Some x
         → cell o.maps.cells a ≡ Some x
         → cell (plain t.at s.state).maps.cells a ≡ Some w → cell (plain i s.state).maps.cells a ≡ Some w
     cell_stays a x w e eo there =
@@ -104,18 +118,22 @@ module _ (g : Link) (linked : Linked g) (s : StartSeen) (same : g.layout ≡ lay
         fo.cells a ∙ ap (λ y. mapped_or (flat (layout s) o.frames) y (beside (layout s) o.frames a)) eo
         ∙ ap Some (flat_same a x eo e ∙ k)
 
-    cells_told : IsTidied g o q → (a : ℕ) (w : Word) → IsFreeAt g a → framed q.frames a ≡ None
-        → cell (plain t.at s.state).maps.cells a ≡ Some w
-        → (cell (plain i s.state).maps.cells a ≡ Some w)
+    -- so its word was in reach before
+    pub was_in_reach : (a : ℕ) (x : OWord) (w : Word) → IsFreeAt g a → cell q.maps.cells a ≡ Some x
+        → cell o.maps.cells a ≡ Some x → cell (plain t.at s.state).maps.cells a ≡ Some w → InReach g s i o a w
+    was_in_reach a x w free e eo there = (free, no_frame i o r a x eo, cell_stays a x w e eo there)
+
+    cells_told : IsTidied g o q → (a : ℕ) (w : Word) → InReach g s t.at q a w
+        → InReach g s i o a w
         ⊎ ((w ≡ Int (pos 0)) × (g.layout.stack.base ≤ a) × (a ≤ g.layout.stack.end))
     unfolding beside flat
-    cells_told tidied a w free out there = by (cell q.maps.cells a) refl
+    cells_told tidied a w (free, out, there) = by (cell q.maps.cells a) refl
       where
         fq : IsFlat (layout s) q (plain t.at s.state).maps
         fq = (head.agrees.matched t.at q t.matched).1
 
         by : (x : Option OWord) → cell q.maps.cells a ≡ x
-            → (cell (plain i s.state).maps.cells a ≡ Some w)
+            → InReach g s i o a w
             ⊎ ((w ≡ Int (pos 0)) × (g.layout.stack.base ≤ a) × (a ≤ g.layout.stack.end))
         by None e =
             absurd (let n : None ≡ Some w =
@@ -127,9 +145,9 @@ module _ (g : Link) (linked : Linked g) (s : StartSeen) (same : g.layout ≡ lay
             sym (fq.cells a
             ∙ ap (λ y. mapped_or (flat (layout s) q.frames) y (beside (layout s) q.frames a)) e) ∙ there in
             let k : flat (layout s) q.frames x ≡ w = cc in
-            elim (tidied a x free e) as (λ _. (cell (plain i s.state).maps.cells a ≡ Some w)
+            elim (tidied a x free e) as (λ _. InReach g s i o a w
             ⊎ ((w ≡ Int (pos 0)) × (g.layout.stack.base ≤ a) × (a ≤ g.layout.stack.end))) [
-              | inl eo ↦ inl (cell_stays a x w e eo there)
+              | inl eo ↦ inl (was_in_reach a x w free e eo there)
               | inr z ↦ inr (sym k ∙ ap (flat (layout s) q.frames) z.0, z.1, z.2)
             ]
 

@@ -14,7 +14,7 @@ use Rattle.component_linker.specs.Standing.{placed}
 use Rattle.component_linker.specs.Started.{StartSeen}
 use Rattle.component_linker.specs.LinkedStarts.{IsLinkedStart}
 use Rattle.overlay_machine.specs.declared.words.OWord.{OWord}
-use Rattle.overlay_machine.specs.State.{OState, framed}
+use Rattle.overlay_machine.specs.State.{OState}
 use Rattle.overlay_machine.specs.Step.{goes, overlay_step}
 use Rattle.overlay_machine.specs.Runs.{Reached}
 use Rattle.overlay_machine.specs.Flat.{flat, beside, IsFlat}
@@ -27,14 +27,14 @@ use Rattle.trace_tool.specs.Layout.{layout}
 use Rattle.trace_tool.specs.Headline.{Headline, Matched, HeadlineHolds}
 use Rattle.proc_semantics.specs.Marked.{Thing}
 use Rattle.template_runs.specs.Runs.{is_inside}
-use Rattle.template_runs.specs.Public.{IsFreeAt}
 use Rattle.template_runs.specs.Border.{Wiped, low_at}
 use Rattle.source_laws.specs.Seen.{Back, Shown}
 use Rattle.source_laws.specs.Wiped.{TellsSince, none_yet, and_then, last_outside}
 use Rattle.source_starts.specs.Wiped.{WipedCellsAreTold}
+use Rattle.source_starts.specs.PlainSecrets.{InReach}
 use Rattle.source_starts.specs.PlainWiped.{PlainWiped, PlainRunsWipe}
 use Rattle.source_starts.specs.Sources.{linked_at}
-use Rattle.source_starts.proofs.PlainSecrets.{Trail, trail_step, here, cell_stays}
+use Rattle.source_starts.proofs.PlainSecrets.{Trail, trail_step, here, was_in_reach}
 
 module _ (g : Link) (linked : Linked g) (s : StartSeen) (same : g.layout ≡ layout s)
     (holds : (j : ℕ) (p : OState) → Matched s j p → (u : State Word) × Invariant g p u)
@@ -83,7 +83,7 @@ module _ (g : Link) (linked : Linked g) (s : StartSeen) (same : g.layout ≡ lay
     end = w.end;
     stk = m.1.regs Stk ∙ ap (flat (layout s) q.frames) w.stk;
     wiped = λ a lo hi. wiped a lo hi (cell q.maps.cells a) refl;
-    kept = λ a v free out far there. kept a v free out far there (cell q.maps.cells a) refl;
+    kept = λ a v far reach. kept a v far reach (cell q.maps.cells a) refl;
   }
     where
       x : Since b p
@@ -110,16 +110,14 @@ module _ (g : Link) (linked : Linked g) (s : StartSeen) (same : g.layout ≡ lay
           m.1.cells a ∙ ap (λ z. mapped_or (flat (layout s) q.frames) z (beside (layout s) q.frames a)) e
           ∙ ap (λ z. Some (flat (layout s) q.frames z)) (w.cells.wiped a v lo hi e)
 
-      kept : (a : ℕ) (v : Word) → IsFreeAt g a → framed q.frames a ≡ None
-          → IsOutsideRange a (low_at g.layout.stack.base w.end low) w.end
-          → cell (plain y.at s.state).maps.cells a ≡ Some v → (c : Option OWord) → cell q.maps.cells a ≡ c
-          → cell (plain x.at s.state).maps.cells a ≡ Some v
-      kept a v free out far there None e =
+      kept : (a : ℕ) (v : Word) → IsOutsideRange a (low_at g.layout.stack.base w.end low) w.end
+          → InReach g s y.at q a v → (c : Option OWord) → cell q.maps.cells a ≡ c → InReach g s x.at b a v
+      kept a v far (free, out, there) None e =
           absurd (let n : None ≡ Some v = sym (m.1.cells a
           ∙ ap (λ z. mapped_or (flat (layout s) q.frames) z (beside (layout s) q.frames a)) e
           ∙ ap (λ z. mapped_or (flat (layout s) q.frames) z None) out) ∙ there in cc)
-      kept a v free out far there (Some z) e =
-          cell_stays g linked s same holds head b q x.at x.matched y a z v e
+      kept a v far (free, out, there) (Some z) e =
+          was_in_reach g linked s same holds head b q x.at x.matched y a z v free e
           (w.cells.kept a z free far e) there
 
 pub start_wipes : StartsBegin

@@ -1,5 +1,6 @@
 pub mod Sources
 pub mod Words
+pub mod Named
 pub mod PlainWords
 pub mod RunMeans
 pub mod PlainSecrets

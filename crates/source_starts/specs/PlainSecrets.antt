@@ -19,10 +19,15 @@ use Rattle.template_runs.specs.Public.{IsFreeAt}
 use Rattle.source_laws.specs.Secrets.{LetsGo, RanLast}
 use Rattle.source_starts.specs.Sources.{AreSources, linked_at}
 
+-- a word that code outside can reach after so many instructions, where the overlay is in a state: that of a
+-- cell that is no trusted part's own and in no frame of an open call
+abbrev pub InReach : Link → StartSeen → ℕ → OState → ℕ → Word → Type 0
+InReach g s n p a w =
+    IsFreeAt g a × (framed p.frames a ≡ None) × (cell (plain n s.state).maps.cells a ≡ Some w)
+
 -- After so many instructions code outside ran last, or the run began in trusted code, and after so many
--- trusted code has let go. Then the registers are those of the overlay, flattened; and each cell that is no
--- trusted part's own and in no frame of an open call is as it was after the first ones, or is a stack cell
--- that holds 0.
+-- trusted code has let go. Then the registers are those of the overlay, flattened; and each word in reach was
+-- in reach after the first ones, at the same address, or is 0 in a stack cell.
 pub record PlainShowsNoMore (g : Link) (s : StartSeen) (o q : OState) : Type 0 where
   pub last : OState
   pub ran : RanLast s o last
@@ -34,9 +39,8 @@ pub record PlainShowsNoMore (g : Link) (s : StartSeen) (o q : OState) : Type 0 w
   pub went : (plain to s.state).end ≡ None
   pub registers : (d : Reg)
       → reg (plain to s.state).maps.regs d ≡ flat (layout s) q.frames (reg q.maps.regs d)
-  pub cells : (a : ℕ) (w : Word) → IsFreeAt g a → framed q.frames a ≡ None
-      → cell (plain to s.state).maps.cells a ≡ Some w
-      → (cell (plain from s.state).maps.cells a ≡ Some w)
+  pub cells : (a : ℕ) (w : Word) → InReach g s to q a w
+      → InReach g s from last a w
       ⊎ ((w ≡ Int (pos 0)) × (g.layout.stack.base ≤ a) × (a ≤ g.layout.stack.end))
 
 -- of each point at which linked sources let go of control

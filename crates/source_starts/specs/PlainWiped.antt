@@ -11,7 +11,7 @@ use Rattle.component_linker.specs.Parts.{PartSeen}
 use Rattle.component_linker.specs.Started.{StartSeen}
 use Rattle.component_linker.specs.LinkedStarts.{IsStartOf}
 use Rattle.overlay_machine.specs.declared.words.OWord.{OWord}
-use Rattle.overlay_machine.specs.State.{OState, framed}
+use Rattle.overlay_machine.specs.State.{OState}
 use Rattle.overlay_machine.specs.Step.{goes, overlay_step}
 use Rattle.overlay_machine.specs.Starting.{overlay_at}
 use Rattle.overlay_machine.specs.Link.{Link}
@@ -21,15 +21,15 @@ use Rattle.proc_language.specs.declared.module.ModuleFields.{ModuleFields}
 use Rattle.proc_program.specs.Lower.{part_of}
 use Rattle.proc_semantics.specs.Marked.{Thing}
 use Rattle.template_runs.specs.Runs.{is_inside}
-use Rattle.template_runs.specs.Public.{IsFreeAt}
 use Rattle.template_runs.specs.Border.{low_at}
 use Rattle.source_laws.specs.Seen.{Back, Shown}
 use Rattle.source_laws.specs.Wiped.{TellsSince, WipedTold}
 use Rattle.source_starts.specs.Sources.{AreSources, linked_at}
+use Rattle.source_starts.specs.PlainSecrets.{InReach}
 
 -- After so many instructions code outside ran last, or the run began in trusted code, and after so many it
 -- has let go: stk is the stack up to an end, its cells from the lowest wiped one to that end hold 0, and each
--- other cell that is no trusted part's own and in no frame of an open call is as it was after the first ones.
+-- word in reach in another cell was in reach there after the first ones.
 pub record PlainWiped (g : Link) (s : StartSeen) (low : Option ℕ) (b q : OState) : Type 0 where
   pub from : ℕ
   pub to : ℕ
@@ -41,9 +41,8 @@ pub record PlainWiped (g : Link) (s : StartSeen) (low : Option ℕ) (b q : OStat
   pub stk : reg (plain to s.state).maps.regs Stk ≡ Mem (stack_cap g.layout.stack.base end end)
   pub wiped : (a : ℕ) → low_at g.layout.stack.base end low ≤ a → a ≤ end
       → cell (plain to s.state).maps.cells a ≡ Some (Int (pos 0))
-  pub kept : (a : ℕ) (w : Word) → IsFreeAt g a → framed q.frames a ≡ None
-      → IsOutsideRange a (low_at g.layout.stack.base end low) end
-      → cell (plain to s.state).maps.cells a ≡ Some w → cell (plain from s.state).maps.cells a ≡ Some w
+  pub kept : (a : ℕ) (w : Word) → IsOutsideRange a (low_at g.layout.stack.base end low) end
+      → InReach g s to q a w → InReach g s from b a w
 
 -- the lowest wiped cell is the one that the refined meaning tells of
 pub record PlainWipedTold (modules : List ModuleFields) (g : Link) (size : ℕ) (s : StartSeen)

@@ -12,6 +12,7 @@ use Rattle.source_laws.specs.Secrets.{LetsGo, LeavesNothing}
 use Rattle.source_laws.specs.Words.{WhenceTold}
 use Rattle.source_starts.specs.Sources.{AreSources, linked_at}
 use Rattle.source_starts.specs.Words.{slots}
+use Rattle.source_starts.specs.Named.{SlotsAreNamed}
 use Rattle.source_starts.specs.PlainSecrets.{PlainShowsNoMore}
 use Rattle.source_starts.specs.PlainWiped.{PlainWipedAlways}
 use Rattle.source_starts.specs.PlainWords.{PlainWordsTold}
@@ -27,6 +28,8 @@ pub record ShowsNothingElse (modules : List ModuleFields) (parts : List PartSeen
   pub wiped : PlainWipedAlways modules parts size s
   -- and so is whom they call, with which words and from where
   pub words : WhenceTold (slots modules (placed parts size) s) (map part_of modules) size s
+  -- the pairs of imports and own procedures being those that the sources name
+  pub named : SlotsAreNamed modules (placed parts size) s
   -- also of the plain machine
   pub plain_words : PlainWordsTold modules parts size s
 

@@ -9,6 +9,7 @@ ghost use Rattle.source_laws.specs.Sources.{MeansAlways};
 ghost use Rattle.source_starts.specs.Sources.{AreSources, SourcesLeaveNothing};
 ghost use Rattle.source_starts.specs.PlainWords.{PlainRunsTellWords};
 ghost use Rattle.source_starts.specs.Words.{SourcesTellWords};
+ghost use Rattle.source_starts.specs.Named.{SlotsNamed};
 ghost use Rattle.source_starts.specs.PlainSecrets.{PlainRunsLeaveNothing};
 ghost use Rattle.source_starts.specs.PlainWiped.{PlainRunsWipe};
 ghost use Rattle.source_starts.specs.Shown.{SourcesShowNothingElse};
@@ -98,6 +99,18 @@ pub fn sources_tell_words()
     pairs_are_the_overlays();
 }
 
+/// The pairs by which linked sources call, and which they hand over, are those that they name.
+///
+/// Let the trusted parts of a link be the components of some modules, in their order. Then the pair of an
+/// import of a module, which is the one that stands in its part's data at the start, is that of the export of
+/// the import's name in the linked part of its part's name; and the pair of an own procedure is that of the
+/// export of its name in the module's own part.
+pub fn slots_are_named()
+    ensures { SlotsNamed }
+{
+    starts_begin();
+}
+
 /// The cells that linked sources have wiped where they let go of control are those that their refined meaning
 /// tells of.
 ///
@@ -116,8 +129,9 @@ pub fn wiped_cells_are_told()
 
 /// The same of the plain machine: after so many instructions code outside ran last, or the run began in
 /// trusted code, and after so many it has let go of control. Then the registers are those that
-/// `sources_leave_nothing` tells, and each cell that is no trusted part's own and in no frame of an open call
-/// is as it was after the first ones, or is a cell of the stack that holds 0.
+/// `sources_leave_nothing` tells, and each word in reach, which is that of a cell that is no trusted part's
+/// own and in no frame of an open call, was in reach after the first ones, in that cell, or is 0 in a cell of
+/// the stack. So no word of a frame whose call was closed since stays in reach.
 pub fn plain_runs_leave_nothing()
     ensures { PlainRunsLeaveNothing }
 {
@@ -129,8 +143,8 @@ pub fn plain_runs_leave_nothing()
 
 /// The same of the plain machine: after so many instructions code outside ran last, or the run began in
 /// trusted code, and after so many it has let go of control. Then stk is the stack up to an end, its cells
-/// from the lowest wiped one, of which the refined meaning tells, to that end hold 0, and each other cell
-/// that is no trusted part's own and in no frame of an open call is as it was after the first ones.
+/// from the lowest wiped one, of which the refined meaning tells, to that end hold 0, and each word in reach
+/// in another cell was in reach there after the first ones.
 pub fn plain_runs_wipe()
     ensures { PlainRunsWipe }
 {
@@ -159,6 +173,7 @@ pub fn sources_show_nothing_else()
     plain_runs_leave_nothing();
     plain_runs_wipe();
     sources_tell_words();
+    slots_are_named();
     plain_runs_tell_words();
 }
 

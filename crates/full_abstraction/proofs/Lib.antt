@@ -1,0 +1,6 @@
+mod Observed
+mod Equivalence
+mod TwoParts
+mod TwoStarts
+mod TwoRuns
+mod Apart

@@ -1,0 +1,47 @@
+-- The pairs that linked sources have are those that they name.
+use Rattle.std.specs.Prelude.{◌≡◌, ℕ, List, slice_get, Some}
+use Rattle.component_file.specs.declared.component.Import.{Import}
+use Rattle.component_linker.specs.Parts.{PartSeen}
+use Rattle.component_linker.specs.Start.{Exported, imported, code_half, data_half}
+use Rattle.component_linker.specs.Standing.{placed}
+use Rattle.component_linker.specs.Started.{StartSeen}
+use Rattle.component_linker.specs.LinkedStarts.{IsStartOf}
+use Rattle.overlay_machine.specs.declared.words.OWord.{OWord}
+use Rattle.overlay_machine.specs.declared.words.OWord.TheVariants.{Plain}
+use Rattle.proc_language.specs.declared.module.ModuleFields.{ModuleFields}
+use Rattle.proc_language.specs.declared.module.ModuleImport.{ModuleImport}
+use Rattle.proc_language.specs.declared.module.Proc.{Proc}
+use Rattle.proc_semantics.specs.Marked.{PairHalf, CodeHalf, DataHalf}
+use Rattle.source_starts.specs.Sources.{AreSources}
+use Rattle.source_starts.specs.Words.{slots}
+
+-- an import of a name from a part of a name
+abbrev pub by_name : List ℕ → List ℕ → Import
+by_name part name = record { part = part; name = name; slot = 0 }
+
+-- a half of an export's pair
+abbrev pub exported_half : Exported → PairHalf → OWord
+exported_half e CodeHalf = Plain (code_half e)
+exported_half e DataHalf = Plain (data_half e)
+
+-- two words are the pair of the export of a name in the linked part of a name
+abbrev pub IsPairNamed : List PartSeen → List ℕ → List ℕ → (PairHalf → OWord) → Type 0
+IsPairNamed parts part name words =
+    (e : Exported) × (imported parts (by_name part name) ≡ Some e)
+    × ((x : PairHalf) → words x ≡ exported_half e x)
+
+-- the pair of each import of a source is that of the export that it names, in the part that it names; and the
+-- pair of each procedure is that of the export of its name in its own part
+pub record SlotsAreNamed (modules : List ModuleFields) (parts : List PartSeen) (s : StartSeen) : Type 0 where
+  pub imports : (i k : ℕ) (m : ModuleFields) (n : ModuleImport) → slice_get modules i ≡ Some m
+      → slice_get m.imports k ≡ Some n
+      → IsPairNamed parts n.part.text n.name.text ((slots modules parts s).imported i k)
+  pub own : (i j : ℕ) (m : ModuleFields) (p : Proc) → slice_get modules i ≡ Some m
+      → slice_get m.procs j ≡ Some p
+      → IsPairNamed parts m.name.text p.name.text ((slots modules parts s).own i j)
+
+-- of every start of linked sources, among its parts where they are placed
+abbrev pub SlotsNamed : Type 0
+SlotsNamed =
+    (modules : List ModuleFields) (parts : List PartSeen) (size : ℕ) (s : StartSeen) → IsStartOf parts size s
+    → AreSources modules parts → SlotsAreNamed modules (placed parts size) s
