@@ -34,6 +34,7 @@ module _ (all : StartLaws) (seed : ℕ) (old : Outside) (ended : Status) (new : 
         linked_start = x.1;
         calls = all.calls (placed i.parts i.stack) i.stack x.0 x.1;
         secret = all.secret (placed i.parts i.stack) i.stack x.0 x.1;
+        confined = all.confined (placed i.parts i.stack) i.stack x.0 x.1;
         headline = all.headline (placed i.parts i.stack) i.stack x.0 x.1;
         status_is = h.status_is;
         written = h.written;

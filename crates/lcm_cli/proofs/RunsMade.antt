@@ -24,6 +24,7 @@ use Rattle.audited_runs.specs.Audited.{RunsPass}
 use Rattle.command_words.specs.Fits.{Fits}
 use Rattle.trace_tool.specs.OpenCalls.{OpenCallsAreKept}
 use Rattle.trace_tool.specs.Secrecy.{OpenFramesAreSecret}
+use Rattle.confinement.specs.Confined.{AllCodeOutsideIsConfined}
 use Rattle.trace_tool.specs.Headline.{HeadlineHolds}
 use Rattle.trace_tool.specs.declared.run.RunEnd.{RunEnd}
 use Rattle.trace_tool.specs.declared.run.RunEnd.TheVariants as run_end
@@ -85,10 +86,12 @@ refused_none why a ended x e r = no_run why (subst IsRunStatus (e ∙ ap (λ (b 
 pub record StartLaws : Type 0 where
   pub calls : OpenCallsAreKept
   pub secret : OpenFramesAreSecret
+  pub confined : AllCodeOutsideIsConfined
   pub headline : HeadlineHolds
 
-pub all_of : OpenCallsAreKept → OpenFramesAreSecret → HeadlineHolds → StartLaws
-all_of calls secret headline = record { calls = calls; secret = secret; headline = headline }
+pub all_of : OpenCallsAreKept → OpenFramesAreSecret → AllCodeOutsideIsConfined → HeadlineHolds → StartLaws
+all_of calls secret confined headline =
+    record { calls = calls; secret = secret; confined = confined; headline = headline }
 
 -- what came of the image, and the start of its parts
 abbrev pub started : StartLaws → (l : Linked) (old seen : FilesSeen) (i : ImageSeen) (start : StartSeen)
@@ -104,6 +107,7 @@ started all l old seen i start c s =
       linked_start = s;
       calls = all.calls (placed i.parts i.stack) i.stack start s;
       secret = all.secret (placed i.parts i.stack) i.stack start s;
+      confined = all.confined (placed i.parts i.stack) i.stack start s;
       headline = all.headline (placed i.parts i.stack) i.stack start s;
     }
 

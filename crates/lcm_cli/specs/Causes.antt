@@ -52,6 +52,7 @@ use Rattle.trace_tool.specs.declared.run.RunEnd.TheVariants as run_end
 use Rattle.trace_tool.specs.Runs.{written, run_text, end_of}
 use Rattle.trace_tool.specs.OpenCalls.{CallsAreKept}
 use Rattle.trace_tool.specs.Secrecy.{FramesAreSecret}
+use Rattle.confinement.specs.Confined.{StartIsConfined}
 use Rattle.trace_tool.specs.Headline.{Headline}
 use Rattle.trace_tool.specs.Layout.{layout}
 use Rattle.trace_tool.specs.Traces.{trace_of, trace_text}
@@ -415,9 +416,10 @@ LinkedCame (what.Image name) old parts size new =
 
 -- the words or the image made parts that keep the rules, and this is the start that they link to. Its calls
 -- are kept: each ret line closes the newest open call, whose range only its own return uses till then. Their
--- frames are secret: whatever is in them, the machine runs the same till then. And it has the headline: the
--- plain run agrees with the run of the start's overlay, its calls and returns are bracketed, and its frames
--- are private.
+-- frames are secret: whatever is in them, the machine runs the same till then. Code outside is confined: it
+-- touches nothing of a trusted part, and enters one at an export or a return point alone. And the start has
+-- the headline: the plain run agrees with the run of its overlay, its calls and returns are bracketed, and
+-- its frames are private.
 pub record Started (l : Linked) (old new : FilesSeen) : Type 0 where
   pub parts : List PartSeen
   pub size : ℕ
@@ -427,6 +429,7 @@ pub record Started (l : Linked) (old new : FilesSeen) : Type 0 where
   pub linked_start : IsStartOf parts size start
   pub calls : CallsAreKept start
   pub secret : FramesAreSecret start
+  pub confined : StartIsConfined parts size start
   pub headline : Headline start
 
 -- the parts of the start are what the plan makes of these bytes
@@ -452,8 +455,8 @@ pub record RunGiven (l : Linked) (steps : ℕ) (read : List (List ℕ)) (old : O
   pub kept_is : new.kept ≡ Some (plain steps from.start.state)
 
 -- the load of a seed links, and the plain run of its start gave the status, the text and the machine: its
--- totals where it halted, and else its end line. The start's calls are kept, its frames are secret, and it
--- has the headline.
+-- totals where it halted, and else its end line. The start's calls are kept, its frames are secret, code
+-- outside is confined, and it has the headline.
 pub record LoadGiven (seed : ℕ) (old : Outside) (status : Status) (new : Outside) : Type 0 where
   pub image : ImageSeen
   pub made : load_image (load_of seed) ≡ Made image
@@ -461,6 +464,7 @@ pub record LoadGiven (seed : ℕ) (old : Outside) (status : Status) (new : Outsi
   pub linked_start : IsStartOf image.parts image.stack start
   pub calls : CallsAreKept start
   pub secret : FramesAreSecret start
+  pub confined : StartIsConfined image.parts image.stack start
   pub headline : Headline start
   pub status_is : status ≡ end_status (end_of (last_step (plain load_steps start.state)))
   pub written : Adds old.sink (totals_text (load_of seed) start load_steps) new.sink

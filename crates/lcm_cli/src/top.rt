@@ -30,6 +30,7 @@ use cap_words::Items;
 use command_words::laws::commands_fit;
 use command_words::{FileName, Steps, WordsFault, command_of};
 use component_linker::Start;
+use confinement::laws::code_outside_is_confined;
 use debug_script::Script;
 use debug_tool::laws::commands_remember;
 use debug_tool::{DebugFault, debug};
@@ -305,8 +306,10 @@ pub fn stk_main<F: Files, S: Sink>(
 
     // What a run writes, answers and hands over, and what holds of its start. Its calls are kept: each ret
     // line closes the newest open call, whose range only its own return uses till then. Their frames are
-    // secret: whatever is in them, the machine runs the same till then. And it has the headline: the plain
-    // machine agrees with the overlay, returns are bracketed, frames are private. The text passes an audit.
+    // secret: whatever is in them, the machine runs the same till then. Code outside is confined: it touches
+    // nothing of a trusted part, and enters one at an export or a return point alone. And the start has the
+    // headline: the plain machine agrees with the overlay, returns are bracketed, frames are private. The
+    // text passes an audit.
     ensures ran { (l : Linked) (steps : ℕ)
         → asked_in (texts words.now.items) ≡ Some (Links l (link_deed.Run steps))
         → IsRunStatus result → OfBytes (RunGiven l steps) (asked_in (texts words.now.items))
@@ -405,6 +408,7 @@ pub fn stk_main<F: Files, S: Sink>(
     the_headline();
     open_calls_are_kept();
     frames_are_secret();
+    code_outside_is_confined();
     reports_bound_runs();
     reports_bound_influence();
     commands_remember();

@@ -64,7 +64,7 @@ pushed = set_cell one_pushed 117 (Plain g_data)
 one_pushed_same : IsSame one_pushed
 one_pushed_same = set_above M 118 (Plain g_code) at_start (omega arith)
 
-pushed_same : IsSame pushed
+pub pushed_same : IsSame pushed
 pushed_same = set_above one_pushed 117 (Plain g_data) one_pushed_same (omega arith)
 
 still117 : cell one_pushed 117 ≡ Some zero_
@@ -340,7 +340,7 @@ o27 = state
     (maps (regs_with (Plain (Mem (own_code (behind 0)))) (RetCode 0) zero_ (Plain (Mem (stack 118 116)))
     (Plain (Mem (own_data 90))) (Plain g_code) (Plain g_data)) given_back) [] 1
 
-still : cell taken 104 ≡ Some (Plain (as_word (Xjmp Rcode Rdata)))
+pub still : cell taken 104 ≡ Some (Plain (as_word (Xjmp Rcode Rdata)))
 unfolding start_cell part_word entry_code call_code return_code
 still =
     cell-without_out pushed 116 118 104 (inl (omega arith))

@@ -9,3 +9,4 @@ pub mod Run
 pub mod Held
 pub mod Lows
 pub mod Shows
+pub mod Entering

@@ -123,13 +123,13 @@ no_pairs = Nothing ∷ Nothing ∷ Nothing ∷ []
 abbrev stack_word : Word
 stack_word = Mem (stack 118 118)
 
-abbrev frame_words : List Word
+abbrev pub frame_words : List Word
 frame_words = Mem (own_data 90) ∷ g_data ∷ g_code ∷ []
 
-abbrev enter_line : Line
+abbrev pub enter_line : Line
 enter_line = enter (116 ∷ []) (102 ∷ []) stack_word zeros way.Out
 
-abbrev call_line : Line
+abbrev pub call_line : Line
 call_line = call false (116 ∷ []) 0 116 118 zeros frame_words
 
 abbrev ret_line : Line
@@ -179,7 +179,7 @@ leave_told = record { lines = refl; outs = refl; items = refl }
 
 -- ---- all steps
 
-to_enter : Comes 7 [] [] [] enters.o7
+pub to_enter : Comes 7 [] [] [] enters.o7
 to_enter =
     let r0 = tells begins enters.step0 no_event in
     let r1 = tells r0 enters.step1 no_event in
@@ -189,7 +189,7 @@ to_enter =
     let r5 = tells r4 enters.step5 no_event in
     tells r5 enters.step6 no_event
 
-entered : Comes 8 (enter_line ∷ []) [] (enter_item ∷ []) enters.o8
+pub entered : Comes 8 (enter_line ∷ []) [] (enter_item ∷ []) enters.o8
 entered = tells to_enter enters.step7 enter_told
 
 pub to_call : Comes 44 (enter_line ∷ []) [] (enter_item ∷ []) calls.o25
@@ -212,7 +212,7 @@ to_call =
     let r15 = tells r14 calls.step23 no_event in
     tells r15 calls.step24 no_event
 
-called : Comes (44 + CALL_WORDS) (enter_line ∷ call_line ∷ []) (call_out ∷ []) (enter_item ∷ []) calls.o26
+pub called : Comes (44 + CALL_WORDS) (enter_line ∷ call_line ∷ []) (call_out ∷ []) (enter_item ∷ []) calls.o26
 called = tells to_call calls.call_made call_told
 
 answered : Comes (44 + SITE_WORDS + 1) (enter_line ∷ call_line ∷ ret_line ∷ []) (call_out ∷ [])

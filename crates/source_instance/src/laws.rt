@@ -1,6 +1,7 @@
 //! That the theorem of sources speaks of something. These functions do nothing; their contracts are the laws.
 ghost use Rattle.source_instance.specs.There.{SourceThere};
 ghost use Rattle.source_instance.specs.Shows.{SourceShows};
+ghost use Rattle.source_instance.specs.Entered.{EnteredThere};
 
 use source_laws::laws::each_lets_go;
 use source_starts::laws::{plain_runs_wipe, sources_leave_nothing, sources_mean};
@@ -30,4 +31,15 @@ pub fn a_source_shows_no_more()
     each_lets_go();
     sources_leave_nothing();
     plain_runs_wipe();
+}
+
+/// In the same run the part that isn't trusted is code outside, by the words of the law on it
+/// (`confinement::laws::code_outside_is_confined`). Its eighth instruction comes from no trusted part's code,
+/// and the next one from the module's, where that exports its procedure. And so it comes back by the call of
+/// the procedure, which is open then.
+pub fn code_outside_enters()
+    ensures { EnteredThere }
+{
+    the_headline();
+    start_lines_agree();
 }

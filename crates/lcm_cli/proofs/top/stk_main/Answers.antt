@@ -20,7 +20,7 @@ pub returns-clause-ran : goal.returns-clause-ran
 returns-clause-ran g c = λ l steps e r a.
     runs
     (all_of c.open_calls_are_kept.ensures.kept c.frames_are_secret.ensures.secret
-    c.the_headline.ensures.holds)
+    c.code_outside_is_confined.ensures c.the_headline.ensures.holds)
     c.runs_pass.ensures
     (asked_in (texts c.args.words.now.items)) (c.commands_fit.ensures (texts c.args.words.now.items)) _ _ _
     a l steps e r
@@ -29,7 +29,7 @@ pub returns-clause-traced : goal.returns-clause-traced
 returns-clause-traced g c = λ l steps e r a.
     traces
     (all_of c.open_calls_are_kept.ensures.kept c.frames_are_secret.ensures.secret
-    c.the_headline.ensures.holds)
+    c.code_outside_is_confined.ensures c.the_headline.ensures.holds)
     c.a_start_has_one_overlay.ensures
     (asked_in (texts c.args.words.now.items)) _ _ _ a l steps e r
 
@@ -37,7 +37,7 @@ pub returns-clause-reached : goal.returns-clause-reached
 returns-clause-reached g c = λ l e r a.
     reaches
     (all_of c.open_calls_are_kept.ensures.kept c.frames_are_secret.ensures.secret
-    c.the_headline.ensures.holds)
+    c.code_outside_is_confined.ensures c.the_headline.ensures.holds)
     c.reports_bound_runs.ensures.bound
     c.reports_bound_influence.ensures.influence
     (asked_in (texts c.args.words.now.items)) _ _ _ a l e r
@@ -46,7 +46,7 @@ pub returns-clause-debugged : goal.returns-clause-debugged
 returns-clause-debugged g c = λ l script e r a.
     debugs
     (all_of c.open_calls_are_kept.ensures.kept c.frames_are_secret.ensures.secret
-    c.the_headline.ensures.holds)
+    c.code_outside_is_confined.ensures c.the_headline.ensures.holds)
     c.commands_remember.ensures
     (asked_in (texts c.args.words.now.items)) _ _ _ a l script e r
 
@@ -58,14 +58,14 @@ pub returns-clause-run_cut : goal.returns-clause-run_cut
 returns-clause-run_cut g c = λ l steps e r a.
     run_cut
     (all_of c.open_calls_are_kept.ensures.kept c.frames_are_secret.ensures.secret
-    c.the_headline.ensures.holds)
+    c.code_outside_is_confined.ensures c.the_headline.ensures.holds)
     (asked_in (texts c.args.words.now.items)) _ _ _ a l steps e r
 
 pub returns-clause-trace_cut : goal.returns-clause-trace_cut
 returns-clause-trace_cut g c = λ l steps e r a.
     trace_cut
     (all_of c.open_calls_are_kept.ensures.kept c.frames_are_secret.ensures.secret
-    c.the_headline.ensures.holds)
+    c.code_outside_is_confined.ensures c.the_headline.ensures.holds)
     (asked_in (texts c.args.words.now.items)) _ _ _ a l steps e r
 
 pub returns-clause-usage : goal.returns-clause-usage
@@ -86,7 +86,7 @@ returns-clause-meant g c = λ words size fuel feed e r a.
 pub returns-clause-generated : goal.returns-clause-generated
 returns-clause-generated g c = loads
     (all_of c.open_calls_are_kept.ensures.kept c.frames_are_secret.ensures.secret
-    c.the_headline.ensures.holds)
+    c.code_outside_is_confined.ensures c.the_headline.ensures.holds)
     (asked_in (texts c.args.words.now.items)) _ _ _ (rw c.as_slice.ensures.value at c.answer.ensures)
 
 pub returns-clause-sourced : goal.returns-clause-sourced
@@ -95,7 +95,7 @@ returns-clause-sourced g c = λ words stack steps e sources a.
     (record {
       starts =
           all_of c.open_calls_are_kept.ensures.kept c.frames_are_secret.ensures.secret
-          c.the_headline.ensures.holds;
+          c.code_outside_is_confined.ensures c.the_headline.ensures.holds;
       pass = c.runs_pass.ensures;
       sources = record {
         limits = c.sources_are_modules.ensures.limits;
@@ -117,7 +117,7 @@ returns-clause-compiled g c = λ l steps e a.
     (record {
       starts =
           all_of c.open_calls_are_kept.ensures.kept c.frames_are_secret.ensures.secret
-          c.the_headline.ensures.holds;
+          c.code_outside_is_confined.ensures c.the_headline.ensures.holds;
       pass = c.runs_pass.ensures;
       sources = record {
         limits = c.sources_are_modules.ensures.limits;

@@ -1,0 +1,11 @@
+mod Jumping
+mod Pairs
+mod Returning
+mod Calling
+mod Coming
+mod Areas
+mod Told
+mod Here
+mod Doors
+mod Stays
+mod Confining

@@ -1,0 +1,25 @@
+//! What code outside can't do. This function does nothing; its contract is the law.
+ghost use Rattle.confinement.specs.Confined.{AllCodeOutsideIsConfined};
+
+use authority_report::laws::words_bound_runs;
+use overlay_machine::laws::{a_start_has_one_overlay, linked_starts_agree, starts_begin};
+use trace_tool::laws::{lines_are_bracketed, the_headline};
+
+/// Code outside is confined, told of the plain machine alone, of every linked start.
+///
+/// Where an instruction comes from an address in no trusted part's code, it touches addresses of untrusted
+/// parts and of the stack alone: none of a trusted part's code, data or linear area, and none in the range
+/// of a call that is open. Where an instruction of a trusted part comes behind it, that is the first of an
+/// export, with the part's own data, or the one behind the call of a site, with the range of a call of that
+/// site which is open, and which is the newest where the words of the return all go. No cell of a trusted
+/// part's code ever changes, and no cell of the part does by an instruction of code outside.
+pub fn code_outside_is_confined()
+    ensures { AllCodeOutsideIsConfined }
+{
+    starts_begin();
+    a_start_has_one_overlay();
+    linked_starts_agree();
+    lines_are_bracketed();
+    the_headline();
+    words_bound_runs();
+}
