@@ -2,21 +2,26 @@
 use Rattle.std.proofs.Common.{[], ◌∷◌, refl}
 use Rattle.proc_templates.specs.Compiled.{compiled}
 use Rattle.context_laws.specs.Meanings.{SameMeaningsAreNotToldApart}
+use Rattle.context_laws.specs.Ends.{SameMeaningsEndAlike}
 use Rattle.context_instance.specs.Doubles.{sums, keeps, TwoWays}
 use Rattle.context_instance.proofs.Modules.{limits, limits_too, resolved, resolved_too, differ}
-use Rattle.context_instance.proofs.Same.{mean_the_same}
+use Rattle.context_instance.proofs.Same.{mean_the_same, end_the_same}
 use Rattle.context_instance.proofs.Links.{parts_of}
 use Rattle.context_instance.proofs.Beginnings.{main, sums_start, keeps_start, sums_starts, keeps_starts}
 use Rattle.context_instance.proofs.Beginnings.{sums_sources, keeps_sources, sums_main, keeps_main, beside}
 
-pub two_ways : SameMeaningsAreNotToldApart → TwoWays
-two_ways law = record {
+pub two_ways : SameMeaningsAreNotToldApart → SameMeaningsEndAlike → TwoWays
+two_ways law alike = record {
   limits = (limits, limits_too);
   resolved = (resolved, resolved_too);
   differ = differ;
   same = mean_the_same;
+  ends = end_the_same;
   apart = λ parts parts' size s s' is is' src src' b m e f u.
       law (sums ∷ []) (keeps ∷ []) parts parts' size s s' is is' src src' b m e f u (mean_the_same size);
+  alike = λ parts parts' size s s' is is' src src' b.
+      alike (sums ∷ []) (keeps ∷ []) parts parts' size s s' is is' src src' b (mean_the_same size)
+      (end_the_same size);
   there = record {
     parts = parts_of (compiled sums);
     parts_too = parts_of (compiled keeps);

@@ -27,7 +27,7 @@ M = marked Whence ℕ whences
 abbrev pub Comp : Type 0
 Comp = tagged.Comp Whence ℕ
 
-abbrev Things : Type 0
+abbrev pub Things : Type 0
 Things = List (Thing Whence ℕ)
 
 abbrev lowered : Option ℕ → ℕ → ℕ
@@ -36,7 +36,7 @@ lowered low n = tagged.lower Whence ℕ low n
 abbrev pub tick : Comp → Comp
 tick = tagged.tick Whence ℕ
 
-abbrev first_thing : ℕ → Item → Thing Whence ℕ
+abbrev pub first_thing : ℕ → Item → Thing Whence ℕ
 first_thing k i = record {
   item = i;
   words = tagged.CameWord k 0 ∷ tagged.CameWord k 1 ∷ tagged.CameWord k 2 ∷ tagged.CameWord k 3 ∷ [];
@@ -44,14 +44,14 @@ first_thing k i = record {
 }
 
 -- no event is told, under any fuel
-abbrev Silent : Comp → Type 0
+abbrev pub Silent : Comp → Type 0
 Silent m = (low : Option ℕ) (f : ℕ) (feed : Things) → (m low f feed).events ≡ []
 
 tick_silent : (m : Comp) → Silent m → Silent (tick m)
 tick_silent m s low zero feed = refl
 tick_silent m s low (suc f) feed = s low f feed
 
-ticks_silent : (n : ℕ) (m : Comp) → Silent m → Silent (repeated tick n m)
+pub ticks_silent : (n : ℕ) (m : Comp) → Silent m → Silent (repeated tick n m)
 ticks_silent zero m s = s
 ticks_silent (suc n) m s = tick_silent (repeated tick n m) (ticks_silent n m s)
 
@@ -104,10 +104,10 @@ module _ (U : Program) (Q : Procedure) (name : List ℕ) (one : U.procs ≡ Q �
   abbrev pub W : World
   W = U ∷ []
 
-  abbrev it : Target
+  abbrev pub it : Target
   it = target 0 0
 
-  proc_is : proc_at W it ≡ Some Q
+  pub proc_is : proc_at W it ≡ Some Q
   proc_is = ap (λ ps. slice_get ps 0) one
 
   -- ---- whom names lead to
@@ -119,7 +119,7 @@ module _ (U : Program) (Q : Procedure) (name : List ℕ) (one : U.procs ≡ Q �
   found_by p n true true ea eb = rw (ea, one, shared, named, eb) refl
   found_by p n true false ea eb = rw (ea, one, shared, named, eb) refl
 
-  found_is : (p n : List ℕ) → found W p n ≡ (if is_it U.name name p n then Some it else None)
+  pub found_is : (p n : List ℕ) → found W p n ≡ (if is_it U.name name p n then Some it else None)
   found_is p n = found_by p n (bytes_eq p U.name) (bytes_eq n name) refl refl
 
   -- ---- runs that tell nothing

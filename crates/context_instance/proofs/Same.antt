@@ -1,4 +1,4 @@
--- Both modules mean the same.
+-- Both modules mean the same, and end the same way.
 use Rattle.std.proofs.Common.{◌≡◌, ℕ, ◌+◌, ◌-◌, ℤ, pos, List, [], ◌∷◌, map, length, Option, Some, None}
 use Rattle.std.proofs.Common.{Bool, true, false, refl, sym, ap, ◌∙◌, arith}
 use Rattle.std.specs.Prelude.{slice_index_or, if◌then◌else◌}
@@ -17,13 +17,16 @@ use Rattle.proc_semantics.specs.Told.{repeated}
 use Rattle.proc_semantics.specs.Values.{World, Store, main_target}
 use Rattle.proc_semantics.specs.Rules.{Then, Level, result_of, with_number, enough, body_of, finish, start}
 use Rattle.proc_semantics.specs.Rules.{level}
-use Rattle.proc_semantics.specs.Marked.{Event, Leaves, Whence, Frame, numbered_items, event_to}
+use Rattle.source_events.specs.declared.MeaningEnd.{MeaningEnd}
+use Rattle.proc_semantics.specs.Marked.{Event, Leaves, Whence, Frame, numbered_items, event_to, refined}
 use Rattle.context_laws.specs.Meanings.{Name, name_of, observed, MeanTheSame}
+use Rattle.context_laws.specs.Ends.{EndTheSame}
 use Rattle.context_instance.specs.Doubles.{sums, keeps}
 use Rattle.context_instance.proofs.Means.{M, tick, tell, tell_item, tell_left, tell_number, tell_value}
 use Rattle.context_instance.proofs.Means.{tell_back, is_it, told, Told}
+use Rattle.context_instance.proofs.Ends.{ends, end_of}
 
-abbrev first : List Procedure → Procedure
+abbrev pub first : List Procedure → Procedure
 first [] = record { name = []; shared = false; callbacks = []; locals = 0; need = 0; body = [] }
 first (p ∷ ps) = p
 
@@ -144,7 +147,7 @@ unfolding main_target
 no_main_too = refl
 
 -- what is observed of a module without main, by what is told of it
-observed_is : (W : World) (size : ℕ) (feed : List Item) (f : ℕ) (es : List (Event Whence ℕ))
+pub observed_is : (W : World) (size : ℕ) (feed : List Item) (f : ℕ) (es : List (Event Whence ℕ))
     → main_target W ≡ None
     → ((level M W (f + length (numbered_items 0 feed) + 1)).wait None (map (λ (u : Program). u.globals) W)
     None f
@@ -158,7 +161,7 @@ observed_is W size feed f es none e =
     (numbered_items 0 feed)).events) none ∙ e)
 
 pub mean_the_same : (size : ℕ) → MeanTheSame (map part_of (sums ∷ [])) (map part_of (keeps ∷ [])) size
-mean_the_same size feed =
+mean_the_same size feed fits =
     let a = sums_told feed 0 ([] ∷ []) in
     let b = keeps_told feed 0 (one_word (pos 0)) (pos 0, refl) in (
       a.0 + a.1 + b.0 + b.1,
@@ -170,4 +173,33 @@ mean_the_same size feed =
           (observed_is (V ∷ []) size feed f (tell V.name (102 ∷ []) (first V.procs).need 0 feed) no_main_too
           (b.2 (f + length (numbered_items 0 feed) + 1) f (omega (arith, le)) (omega (arith, le)))
           ∙ tell_named (name_of (V ∷ [])) V.name (102 ∷ []) (first V.procs).need 0 feed),
+    )
+
+-- ---- how they end
+
+-- of a module without main
+pub end_is : (W : World) (size : ℕ) (feed : List Item) (f : ℕ) (e : MeaningEnd) → main_target W ≡ None
+    → ((level M W (f + length (numbered_items 0 feed) + 1)).wait None (map (λ (u : Program). u.globals) W)
+    None f
+    (numbered_items 0 feed)).end ≡ e
+    → (refined W size feed f).end ≡ e
+end_is W size feed f e none x =
+    ap (λ t.
+    (start M W (level M W (f + length (numbered_items 0 feed) + 1)) size t
+    (map (λ (u : Program). u.globals) W) None f
+    (numbered_items 0 feed)).end) none ∙ x
+
+pub end_the_same : (size : ℕ) → EndTheSame (map part_of (sums ∷ [])) (map part_of (keeps ∷ [])) size
+end_the_same size feed fits =
+    let a = ends U (first U.procs) (102 ∷ []) refl refl refl refl (λ st. Unit {0}) 4 (λ v st. st)
+    (λ v st i. i) (λ l f v k st h i. sums_body l f v k st) feed 0 ([] ∷ []) tt in
+    let b = ends V (first V.procs) (102 ∷ []) refl refl refl refl Holds 10 (λ v st. one_word v)
+    (λ v st i. (v, refl)) keeps_body feed 0 (one_word (pos 0)) (pos 0, refl) in (
+      a.0 + a.1 + b.0 + b.1,
+      λ f le.
+          end_is (U ∷ []) size feed f (end_of U.name (102 ∷ []) (first U.procs).need feed) no_main
+          (a.2 (f + length (numbered_items 0 feed) + 1) f (omega (arith, le)) (omega (arith, le)))
+          ∙ sym
+          (end_is (V ∷ []) size feed f (end_of V.name (102 ∷ []) (first V.procs).need feed) no_main_too
+          (b.2 (f + length (numbered_items 0 feed) + 1) f (omega (arith, le)) (omega (arith, le)))),
     )

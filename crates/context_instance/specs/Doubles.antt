@@ -16,6 +16,7 @@ use Rattle.proc_program.specs.Lower.{part_of}
 use Rattle.proc_templates.specs.Compiled.{compiled}
 use Rattle.source_starts.specs.Sources.{AreSources, linked_at}
 use Rattle.context_laws.specs.Meanings.{MeanTheSame, AreBeside, DoesTheSame}
+use Rattle.context_laws.specs.Ends.{EndTheSame, RunsEndAlike}
 
 abbrev pub named : ℕ → Name
 named letter = record { text = letter ∷ []; at = 0 }
@@ -103,13 +104,15 @@ pub record LinksBeside : Type 0 where
   pub main_too : main_of (placed parts_too size) ≡ Some main
   pub untrusted : main.part.trusted ≡ false
 
--- Both are modules whose names are resolved, and their components differ; but they mean the same, so that
--- they can't be told apart, whatever untrusted parts are linked beside them; and there are links of both.
+-- Both are modules whose names are resolved, and their components differ; but they mean the same and end the
+-- same way, so that they can't be told apart and whole runs end alike, whatever untrusted parts are linked
+-- beside them; and there are links of both.
 pub record TwoWays : Type 0 where
   pub limits : IsModule sums × IsModule keeps
   pub resolved : (name_faults sums ≡ []) × (name_faults keeps ≡ [])
   pub differ : compiled sums ≢ compiled keeps
   pub same : (size : ℕ) → MeanTheSame (map part_of (sums ∷ [])) (map part_of (keeps ∷ [])) size
+  pub ends : (size : ℕ) → EndTheSame (map part_of (sums ∷ [])) (map part_of (keeps ∷ [])) size
   pub apart : (parts parts' : List PartSeen) (size : ℕ) (s s' : StartSeen) → IsStartOf parts size s
       → IsStartOf parts' size s' → AreSources (sums ∷ []) parts → AreSources (keeps ∷ []) parts'
       → AreBeside (linked_at parts size s) (linked_at parts' size s')
@@ -119,4 +122,7 @@ pub record TwoWays : Type 0 where
       (overlay_at s').state
       × DoesTheSame (linked_at parts' size s') (linked_at parts size s) (overlay_at s').state
       (overlay_at s).state
+  pub alike : (parts parts' : List PartSeen) (size : ℕ) (s s' : StartSeen) → IsStartOf parts size s
+      → IsStartOf parts' size s' → AreSources (sums ∷ []) parts → AreSources (keeps ∷ []) parts'
+      → AreBeside (linked_at parts size s) (linked_at parts' size s') → RunsEndAlike s s'
   pub there : LinksBeside

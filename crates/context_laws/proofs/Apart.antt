@@ -36,7 +36,7 @@ writes : (m : Exported) → m.part.trusted ≡ false → (code_of m).perm ≡ Rx
 writes m u e = let k : (if m.part.trusted then Rx else Rwx) ≡ Rwx = rw u refl in cc
 
 pub mean_back : (w v : World) (size : ℕ) → MeanTheSame w v size → MeanTheSame v w size
-mean_back w v size same feed = ((same feed).0, λ f le. sym ((same feed).1 f le))
+mean_back w v size same feed fits = ((same feed fits).0, λ f le. sym ((same feed fits).1 f le))
 
 pub beside_back : (g h : Link) → AreBeside g h → AreBeside h g
 beside_back g h b = record {
@@ -48,8 +48,8 @@ beside_back g h b = record {
 module _ (begin : StartsBegin) (agree : StartsAgree) (leaves : SourcesLeaveNothing) (words : SourcesTellWords)
     (wipes : WipedCellsAreTold) (means : SourcesMeanAll) where
   -- where main is untrusted, so is the code that runs first
-  main_outside : (parts : List PartSeen) (size : ℕ) (s : StartSeen) → IsStartOf parts size s → (m : Exported)
-      → main_of (placed parts size) ≡ Some m → m.part.trusted ≡ false
+  pub main_outside : (parts : List PartSeen) (size : ℕ) (s : StartSeen) → IsStartOf parts size s
+      → (m : Exported) → main_of (placed parts size) ≡ Some m → m.part.trusted ≡ false
       → is_inside (layout s) (overlay_at s).state ≡ false
   unfolding faces start_regs
   main_outside parts size s is m e u =

@@ -122,13 +122,13 @@ module _ (begin : StartsBegin) (agree : StartsAgree) (leaves : SourcesLeaveNothi
 
       tells_more : TellsMore W' size s' (means modules' parts' size s' is' src') [] []
       tells_more = (
-        told.enough + (same []).0,
+        told.enough + (same [] tt).0,
         λ f le. (
             let x = told.event f (omega (arith, le)) in
             let y = observed_at begin agree leaves words wipes means modules modules' parts parts' size s s'
             is
             is' src src'
-            names by_names same [] f 0 (omega (arith, le)) x.0 x.1 in
+            names by_names same [] tt f 0 (omega (arith, le)) x.0 x.1 in
             told_too begin agree leaves words wipes means modules modules' parts parts' size s s' is is' src
             src' names
             by_names same [] f 0 y.0 y.1),
@@ -174,7 +174,7 @@ module _ (begin : StartsBegin) (agree : StartsAgree) (leaves : SourcesLeaveNothi
       gb = let u = until_reached H lh O' hh O' Q 0 Reached.begins fb.until in (_, goes_on u.1 fb.lets)
 
       abbrev F : ℕ
-      F = told.enough + told_b.enough + (same []).0 + told.wiped.enough + told_b.wiped.enough
+      F = told.enough + told_b.enough + (same [] tt).0 + told.wiped.enough + told_b.wiped.enough
 
       record Both : Type 0 where
         pub one : Event Whence ℕ
@@ -194,7 +194,7 @@ module _ (begin : StartsBegin) (agree : StartsAgree) (leaves : SourcesLeaveNothi
           let y = told_b.event F (omega arith) in
           let z = observed_at begin agree leaves words wipes means modules modules' parts parts' size s s' is
           is' src src'
-          names by_names same [] F 0 (omega arith) x.0 x.1 in
+          names by_names same [] tt F 0 (omega arith) x.0 x.1 in
           let at : Some z.0 ≡ Some y.0 = sym z.1 ∙ y.1 in
           let one : z.0 ≡ y.0 = cc in
           record {
@@ -281,6 +281,10 @@ module _ (begin : StartsBegin) (agree : StartsAgree) (leaves : SourcesLeaveNothi
             alike = al.0;
             below = al.1;
           }
+
+      pub first_met : (ds : Calls) × (p' : OState) × Point begin agree leaves words wipes means modules
+          modules' parts parts' size s s' is is' src src' names by_names same ds after p'
+      first_met = (cross.0, B.after, point)
 
       behind : Behind A
       behind = (

@@ -13,6 +13,7 @@ pub mod Itself
 pub mod Open
 pub mod Jumps
 pub mod Told
+pub mod Feeds
 pub mod History
 pub mod Naming
 pub mod Progress
@@ -22,3 +23,6 @@ pub mod Meanings
 pub mod Beside
 pub mod Apart
 pub mod Arrivals
+pub mod Stands
+pub mod Mains
+pub mod Ends

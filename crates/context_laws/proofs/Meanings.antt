@@ -55,8 +55,8 @@ use Rattle.context_laws.specs.Related.{both_fail, both_stay, both_come}
 use Rattle.context_laws.specs.Lockstep.{Round, IsRound, Path, SameCrossing, by_call, by_leave, SameWiped}
 use Rattle.context_laws.specs.Lockstep.{InStep, at_end, round, Holds, Tidies, AreBelow}
 use Rattle.context_laws.specs.Lockstep as spec
-use Rattle.context_laws.specs.Meanings.{name_of, observed, MeanTheSame, GoByNames, item_by, items_in}
-use Rattle.context_laws.specs.Meanings.{SameMeaningsGoInStep}
+use Rattle.context_laws.specs.Meanings.{name_of, observed, FeedFits, MeanTheSame, GoByNames, item_by}
+use Rattle.context_laws.specs.Meanings.{items_in, SameMeaningsGoInStep}
 use Rattle.context_laws.proofs.Counts.{step_rises, until_reached}
 use Rattle.context_laws.proofs.Arrive.{in_region_of, arrive_alike}
 use Rattle.context_laws.proofs.Whole.{alike_step, runs_outside, below_later, below_after, after_a, after_b}
@@ -65,6 +65,7 @@ use Rattle.context_laws.proofs.Starts.{placed_alike}
 use Rattle.context_laws.proofs.Open.{CallsAlike, has_sites, met, step_kept, until_kept, calls_kept}
 use Rattle.context_laws.proofs.Open.{calls_more}
 use Rattle.context_laws.proofs.Told.{items_same}
+use Rattle.context_laws.proofs.Feeds.{feed_fits}
 use Rattle.context_laws.proofs.History.{AllAlike, all_both, all_more, same_items, things_alike, back_alike}
 use Rattle.context_laws.proofs.Naming.{IsNamed, is_named, named_same}
 use Rattle.context_laws.proofs.Progress.{IsCalm, calm_since, tells_of, goes_out, TellsMore}
@@ -144,13 +145,14 @@ module _ (begin : StartsBegin) (agree : StartsAgree) (leaves : SourcesLeaveNothi
   -- ---- what is observed
 
   -- an event of the one is one of the other by the same name
-  pub observed_at : (xs : List Item) (f n : ℕ) → (same xs).0 ≤ f → (x : Event Whence ℕ)
+  pub observed_at : (xs : List Item) (fits : FeedFits xs) (f n : ℕ) → (same xs fits).0 ≤ f
+      → (x : Event Whence ℕ)
       → slice_get (refined W size xs f).events n ≡ Some x
       → (y : Event Whence ℕ) × (slice_get (refined W' size xs f).events n ≡ Some y)
       × (event_to (name_of W) (λ (k : ℕ). k) x ≡ event_to (name_of W') (λ (k : ℕ). k) y)
-  observed_at xs f n le x e =
+  observed_at xs fits f n le x e =
       let at : slice_get (observed W' size xs f) n ≡ Some (event_to (name_of W) (λ (k : ℕ). k) x) =
-      ap (λ z. slice_get z n) (sym ((same xs).1 f le))
+      ap (λ z. slice_get z n) (sym ((same xs fits).1 f le))
       ∙ slice_get-map (event_to (name_of W) (λ (k : ℕ). k)) (refined W size xs f).events n
       ∙ ap (option_map (event_to (name_of W) (λ (k : ℕ). k))) e in
       let y = map_get (event_to (name_of W') (λ (k : ℕ). k)) (refined W' size xs f).events n _ at in
@@ -193,7 +195,7 @@ module _ (begin : StartsBegin) (agree : StartsAgree) (leaves : SourcesLeaveNothi
       (q' : OState) × (bs : List Round) × Path (layout s') n p' bs q' × InStep G H names cs as_ bs q q'
       × (items_in (layout s) as_ q ≡ items_in (layout s') bs q')
 
-  steps_alike : (cs : Calls) (p p' : OState) → Point cs p p' → StepsAlike G H names cs p p'
+  pub steps_alike : (cs : Calls) (p p' : OState) → Point cs p p' → StepsAlike G H names cs p p'
   steps_alike cs p p' k =
       alike_step G H names lg lh O O' hg hh tg th cs k.i k.j p p' k.reached k.reached' k.outside k.outside'
       k.alike k.below
@@ -220,7 +222,7 @@ module _ (begin : StartsBegin) (agree : StartsAgree) (leaves : SourcesLeaveNothi
       absurd (let bad : true ≡ false = sym im ∙ ap (is_inside (layout s)) (goes_same m q (sym x ∙ e)) ∙ i
       in cc)
 
-  stays : (cs : Calls) (p p' q : OState) (k : Point cs p p') → overlay_step (layout s) p ≡ goes q
+  pub stays : (cs : Calls) (p p' q : OState) (k : Point cs p p') → overlay_step (layout s) p ≡ goes q
       → is_inside (layout s) q ≡ false
       → (q' : OState) × (overlay_step (layout s') p' ≡ goes q') × (is_inside (layout s') q' ≡ false)
       × Point cs q q'
@@ -262,7 +264,7 @@ module _ (begin : StartsBegin) (agree : StartsAgree) (leaves : SourcesLeaveNothi
 
   -- ---- a round
 
-  comes_too : (cs : Calls) (p p' q : OState) → StepsAlike G H names cs p p'
+  pub comes_too : (cs : Calls) (p p' q : OState) → StepsAlike G H names cs p p'
       → overlay_step (layout s) p ≡ goes q
       → is_inside (layout s) q ≡ true → (q' : OState) × (overlay_step (layout s') p' ≡ goes q')
       × (is_inside (layout s') q' ≡ true) × ComesAlike G H names cs p q p' q'
@@ -328,7 +330,7 @@ module _ (begin : StartsBegin) (agree : StartsAgree) (leaves : SourcesLeaveNothi
       (ap (seen.event_outs (layout s) q) e.event, ap (seen.event_outs (layout s') q') e.event_other)
 
   -- what trusted code shows where it lets go
-  shows_g : (i : ℕ) (r : Round) → Reached (layout s) O i r.before → IsRound (layout s) r
+  pub shows_g : (i : ℕ) (r : Round) → Reached (layout s) O i r.before → IsRound (layout s) r
       → Shows (layout s) r.last r.after
   shows_g i r reached ir =
       ((leaves modules parts size s is src).shows r.entered r.last r.after
@@ -340,7 +342,7 @@ module _ (begin : StartsBegin) (agree : StartsAgree) (leaves : SourcesLeaveNothi
         gone = ir.gone;
       })).registers
 
-  shows_h : (j : ℕ) (r : Round) → Reached (layout s') O' j r.before → IsRound (layout s') r
+  pub shows_h : (j : ℕ) (r : Round) → Reached (layout s') O' j r.before → IsRound (layout s') r
       → Shows (layout s') r.last r.after
   shows_h j r reached ir =
       ((leaves modules' parts' size s' is' src').shows r.entered r.last r.after
@@ -471,47 +473,60 @@ module _ (begin : StartsBegin) (agree : StartsAgree) (leaves : SourcesLeaveNothi
       (omega (arith, lt, up))
       (step_kept H lh O' hh u.0 r.last r.after u.1 ir.lets n f (omega (arith, lt, up, more)) e))
 
+  -- code outside comes in, in both
+  module _ (cs : Calls) (p p' q : OState) (k : Point cs p p') (e : overlay_step (layout s) p ≡ goes q)
+      (q' : OState) (e' : overlay_step (layout s') p' ≡ goes q') (c : ComesAlike G H names cs p q p' q')
+    where
+      abbrev pub Fed : Things
+      Fed = k.xs ++ seen.event_items (layout s) q (step_event (layout s) p q)
+
+      abbrev pub FedToo : Things
+      FedToo = k.xs' ++ seen.event_items (layout s') q' (step_event (layout s') p' q')
+
+      all_came : AllAlike G H names cs Fed FedToo
+      all_came = all_both G H names cs k.xs k.xs' _ _ k.all
+          (things_alike G H names lg lh ng nh cs p q p' q' k.alike.newest c
+          (come_items cs p p' k q q' e e' c))
+
+      pub one_feed : feed Fed ≡ feed FedToo
+      one_feed = same_items G H names cs Fed FedToo all_came
+
+      pub came : TellsSince (layout s) O k.es Fed p q
+      came =
+          subst (λ z. TellsSince (layout s) O k.es Fed (last_outside z k.b p) q) k.outside
+          (subst (λ z. TellsSince (layout s) O z Fed (last_outside (is_inside (layout s) p) k.b p) q)
+          (ap (λ z. k.es ++ z) (silent cs p q p' q' c).0 ∙ append-nil k.es) (and_then k.since e))
+
+      pub came_too : TellsSince (layout s') O' k.es' FedToo p' q'
+      came_too =
+          subst (λ z. TellsSince (layout s') O' k.es' FedToo (last_outside z k.b' p') q') k.outside'
+          (subst
+          (λ z. TellsSince (layout s') O' z FedToo (last_outside (is_inside (layout s') p') k.b' p') q')
+          (ap (λ z. k.es' ++ z) (silent cs p q p' q' c).1 ∙ append-nil k.es') (and_then k.since' e'))
+
   module _ (cs : Calls) (a : Round) (p' : OState) (k : Point cs a.before p') (ia : IsRound (layout s) a)
       (q' : OState) (e' : overlay_step (layout s') p' ≡ goes q') (i' : is_inside (layout s') q' ≡ true)
       (c : ComesAlike G H names cs a.before a.entered p' q') where
-    abbrev new : Things
-    new = seen.event_items (layout s) a.entered (step_event (layout s) a.before a.entered)
-
-    abbrev new' : Things
-    new' = seen.event_items (layout s') q' (step_event (layout s') p' q')
-
     abbrev xs : Things
-    xs = k.xs ++ new
+    xs = Fed cs a.before p' a.entered k ia.comes q' e' c
 
     abbrev ys : Things
-    ys = k.xs' ++ new'
-
-    items : event_items (layout s) (flat_view (layout s) a.entered) (step_event (layout s) a.before a.entered)
-        ≡ event_items (layout s') (flat_view (layout s') q') (step_event (layout s') p' q')
-    items = come_items cs a.before p' k a.entered q' ia.comes e' c
+    ys = FedToo cs a.before p' a.entered k ia.comes q' e' c
 
     all_in : AllAlike G H names cs xs ys
-    all_in = all_both G H names cs k.xs k.xs' new new' k.all
-        (things_alike G H names lg lh ng nh cs a.before a.entered p' q' k.alike.newest c items)
+    all_in = all_came cs a.before p' a.entered k ia.comes q' e' c
 
     same_feed : feed xs ≡ feed ys
-    same_feed = same_items G H names cs xs ys all_in
+    same_feed = one_feed cs a.before p' a.entered k ia.comes q' e' c
 
-    came : TellsSince (layout s) O k.es xs a.before a.entered
-    came =
-        subst (λ z. TellsSince (layout s) O k.es xs (last_outside z k.b a.before) a.entered) k.outside
-        (subst
-        (λ z. TellsSince (layout s) O z xs (last_outside (is_inside (layout s) a.before) k.b a.before)
-        a.entered)
-        (ap (λ z. k.es ++ z) (silent cs a.before a.entered p' q' c).0 ∙ append-nil k.es)
-        (and_then k.since ia.comes))
+    came_in : TellsSince (layout s) O k.es xs a.before a.entered
+    came_in = came cs a.before p' a.entered k ia.comes q' e' c
 
-    came' : TellsSince (layout s') O' k.es' ys p' q'
-    came' =
-        subst (λ z. TellsSince (layout s') O' k.es' ys (last_outside z k.b' p') q') k.outside'
-        (subst (λ z. TellsSince (layout s') O' z ys (last_outside (is_inside (layout s') p') k.b' p') q')
-        (ap (λ z. k.es' ++ z) (silent cs a.before a.entered p' q' c).1 ∙ append-nil k.es')
-        (and_then k.since' e'))
+    came_in' : TellsSince (layout s') O' k.es' ys p' q'
+    came_in' = came_too cs a.before p' a.entered k ia.comes q' e' c
+
+    fits : FeedFits (feed xs)
+    fits = feed_fits (layout s) O k.es xs a.before a.entered came_in
 
     abbrev Told : Type 0
     Told = RoundTold G W size s refl (slots modules (placed parts size) s) (words modules parts size s is src)
@@ -520,16 +535,16 @@ module _ (begin : StartsBegin) (agree : StartsAgree) (leaves : SourcesLeaveNothi
     told : Told
     told = round_told G W size s refl (slots modules (placed parts size) s)
         (words modules parts size s is src)
-        (wipes modules parts size s is src) k.es xs a.before a.entered a.last a.after came ia.until ia.lets
+        (wipes modules parts size s is src) k.es xs a.before a.entered a.last a.after came_in ia.until ia.lets
         ia.gone (shows_g k.i a k.reached ia)
 
     -- the other lets go too
     tells_more : TellsMore W' size s' (means modules' parts' size s' is' src') k.es' ys
     tells_more = (
-      told.enough + (same (feed xs)).0,
+      told.enough + (same (feed xs) fits).0,
       λ f le. (
           let x = told.event f (omega (arith, le)) in
-          let y = observed_at (feed xs) f (length k.es) (omega (arith, le)) x.0 x.1 in
+          let y = observed_at (feed xs) fits f (length k.es) (omega (arith, le)) x.0 x.1 in
           let len = told_too (feed xs) f (length k.es) y.0 y.1 in
           let n = k.count in
           let m : length (meaning W' size (feed xs) f).events ≡ length (meaning W' size (feed ys) f).events =
@@ -537,10 +552,10 @@ module _ (begin : StartsBegin) (agree : StartsAgree) (leaves : SourcesLeaveNothi
           omega (arith, len, n, m)),
     )
 
-    other : (b : Round) × IsRound (layout s') b × (b.before ≡ p') × (b.entered ≡ q')
+    pub other : (b : Round) × IsRound (layout s') b × (b.before ≡ p') × (b.entered ≡ q')
     other =
         let g = goes_out W' size s' (means modules' parts' size s' is' src') k.es' ys q'
-        (tells_of (layout s') O' k.es' ys p' q' came') i' tells_more in (
+        (tells_of (layout s') O' k.es' ys p' q' came_in') i' tells_more in (
           record { before = p'; entered = q'; last = g.0; after = g.1 },
           record { outside = k.outside'; comes = e'; until = g.2; lets = g.3; gone = g.4 },
           refl,
@@ -564,7 +579,7 @@ module _ (begin : StartsBegin) (agree : StartsAgree) (leaves : SourcesLeaveNothi
 
       came_b : TellsSince (layout s') O' k.es' ys b.before b.entered
       came_b = subst (λ z. TellsSince (layout s') O' k.es' ys z b.entered) (sym eb)
-          (subst (TellsSince (layout s') O' k.es' ys p') (sym ee) came')
+          (subst (TellsSince (layout s') O' k.es' ys p') (sym ee) came_in')
 
       reached_b : Reached (layout s') O' k.j b.before
       reached_b = subst (Reached (layout s') O' k.j) (sym eb) k.reached'
@@ -581,7 +596,7 @@ module _ (begin : StartsBegin) (agree : StartsAgree) (leaves : SourcesLeaveNothi
       gb = after_b G H names lg lh O O' hg hh tg th cs a b k.i k.j k.reached reached_b ia ib kb.below
 
       abbrev F : ℕ
-      F = told.enough + told_b.enough + (same (feed xs)).0 + told.wiped.enough + told_b.wiped.enough
+      F = told.enough + told_b.enough + (same (feed xs) fits).0 + told.wiped.enough + told_b.wiped.enough
 
       -- the event of both
       record Both : Type 0 where
@@ -600,7 +615,7 @@ module _ (begin : StartsBegin) (agree : StartsAgree) (leaves : SourcesLeaveNothi
       both =
           let x = told.event F (omega arith) in
           let y = told_b.event F (omega arith) in
-          let z = observed_at (feed xs) F (length k.es) (omega arith) x.0 x.1 in
+          let z = observed_at (feed xs) fits F (length k.es) (omega arith) x.0 x.1 in
           let at : Some z.0 ≡ Some y.0 = sym z.1
           ∙ ap (λ u. slice_get (refined W' size u F).events (length k.es)) same_feed
           ∙ ap (slice_get (refined W' size (feed ys) F).events) k.count ∙ y.1 in
@@ -681,11 +696,14 @@ module _ (begin : StartsBegin) (agree : StartsAgree) (leaves : SourcesLeaveNothi
             cross.0 cross.1;
       }
 
+      pub met_again : (ds : Calls) × Point ds a.after b.after
+      met_again = (cross.0, behind)
+
       items_b : event_items (layout s) (flat_view (layout s) a.entered)
           (step_event (layout s) a.before a.entered)
           ≡ event_items (layout s') (flat_view (layout s') b.entered)
           (step_event (layout s') b.before b.entered)
-      items_b = items
+      items_b = come_items cs a.before p' k a.entered q' ia.comes e' c
           ∙ sym (ap (λ z. event_items (layout s') (flat_view (layout s') z) (step_event (layout s') p' z)) ee)
           ∙ sym
           (ap (λ z. event_items (layout s') (flat_view (layout s') b.entered)

@@ -1,9 +1,11 @@
--- Where a meaning tells one event more than a run has shown, trusted code lets go of control.
-use Rattle.std.proofs.Common.{◌≡◌, ◌⊎◌, inl, inr, ℕ, zero, suc, ◌+◌, ◌*◌, ◌≤◌, List, [], ◌∷◌, ◌++◌, map}
+-- Where a meaning tells one event more than a run has shown, trusted code lets go of control; where it ends
+-- with no more, so does trusted code.
+use Rattle.std.proofs.Common.{◌≡◌, ◌⊎◌, inl, inr, ℕ, zero, suc, ◌+◌, ◌*◌, ◌≤◌, ℤ, List, [], ◌∷◌, ◌++◌, map}
 use Rattle.std.proofs.Common.{length, Option, Some, None, Bool, true, false, refl, sym, ap, ◌∙◌, subst, arith}
+use Rattle.cap_words.specs.declared.Word.TheVariants.{Int}
 use Rattle.std.specs.Prelude.{is_some, option_map, if◌then◌else◌}
 use Rattle.std.proofs.lemmas.List.{append-nil, length-append, length-map}
-use Rattle.lcm_isa.specs.declared.Reg.TheVariants.{Pc}
+use Rattle.lcm_isa.specs.declared.Reg.TheVariants.{Pc, A0}
 use Rattle.lcm_machine.specs.Row.{faces, cell_faces, fetch}
 use Rattle.lcm_machine.specs.Places.{reg}
 use Rattle.call_sequence.specs.declared.TheConstants.{CALL_WORDS, RETURN_WORDS}
@@ -30,6 +32,8 @@ use Rattle.proc_semantics.specs.Meaning.{meaning}
 use Rattle.proc_semantics.specs.Marked.{Thing}
 use Rattle.source_events.specs.declared.OutEvent.{OutEvent}
 use Rattle.source_events.specs.declared.Item.{Item}
+use Rattle.source_events.specs.declared.MeaningEnd.{MeaningEnd}
+use Rattle.source_events.specs.declared.MeaningEnd.TheVariants.{Halt as Halted, Fail as Fails, OutOfFuel}
 use Rattle.source_laws.specs.Seen.{Shown, Back}
 use Rattle.source_laws.specs.Seen as seen
 use Rattle.source_laws.specs.Trace as lines
@@ -262,46 +266,83 @@ module _ (world : World) (size : ℕ) (s : StartSeen) (means : MeansAlways world
       let b = length-append xs rest in
       omega (arith, a, b, f, le)
 
+  abbrev Outs : List Shown → List OutEvent
+  Outs es = map (λ (x : Shown). x.event) es
+
+  abbrev Items : List (Thing OWord Back) → List Item
+  Items is = map (λ (x : Thing OWord Back). x.item) is
+
+  -- what the meaning says so many steps later
+  said_at : (es : List Shown) (is : List (Thing OWord Back)) (p : OState) → Tells L O es is p → (n : ℕ)
+      (q : OState) → Far L p n q → (v : ℕ) × MeansAt world size L v (Outs es) (Items is) q × (n ≤ v)
+  said_at es is p t n q f =
+      let k = shows_of L O es is p t in
+      let z = far_shows L O (Outs es) (Items is) p q n k.0 k.1 f k.2 in
+      (z.1, means z.0 z.1 (Outs es) (Items is) q z.2, z.3)
+
   pub goes_out : (es : List Shown) (is : List (Thing OWord Back)) (p : OState) → Tells L O es is p
       → is_inside L p ≡ true → TellsMore es is
       → (q m : OState) × Until L p q × (overlay_step L q ≡ goes m) × (is_inside L m ≡ false)
   goes_out es is p t i told = by (fate L p (told.0 * 200 + 1) i)
     where
-      Outs : List OutEvent
-      Outs = map (λ (x : Shown). x.event) es
-
-      at : (n : ℕ) (q : OState) → Far L p n q → (v : ℕ)
-          × MeansAt world size L v Outs (map (λ x. x.item) is) q × (n ≤ v)
-      at n q f =
-          let k = shows_of L O es is p t in
-          let z = far_shows L O Outs (map (λ x. x.item) is) p q n k.0 k.1 f k.2 in
-          (z.1, means z.0 z.1 Outs (map (λ x. x.item) is) q z.2, z.3)
-
-      long : (f : ℕ) → told.0 ≤ f
-          → length Outs + 1 ≤ length (meaning world size (map (λ x. x.item) is) f).events
+      long : (f : ℕ) → told.0 ≤ f → length (Outs es) + 1 ≤ length (meaning world size (Items is) f).events
       long f le =
           let a = told.1 f le in
           let b = length-map es (λ (x : Shown). x.event) in
           omega (arith, a, b)
 
-      never : (f : ℕ) → told.0 ≤ f → (meaning world size (map (λ x. x.item) is) f).events ≡ Outs → ⊥
+      never : (f : ℕ) → told.0 ≤ f → (meaning world size (Items is) f).events ≡ Outs es → ⊥
       never f le e = let a = long f le in let b = ap length e in omega (arith, a, b)
 
       by : Fate L p (told.0 * 200 + 1)
           → (q m : OState) × Until L p q × (overlay_step L q ≡ goes m) × (is_inside L m ≡ false)
       by (lets_go n q m f e g) = (q, m, far_until L p q n f, e, g)
       by (ended n q f (inl e)) =
-          let k = at n q f in
+          let k = said_at es is p t n q f in
           let h = k.1.halts (until_inside L p q (far_until L p q n f)) e in
           absurd (never (told.0 + h.2.enough) (omega arith)
           (h.2.told (told.0 + h.2.enough) (omega arith)))
       by (ended n q f (inr e)) =
-          let k = at n q f in
+          let k = said_at es is p t n q f in
           let h = k.1.fails (until_inside L p q (far_until L p q n f)) e in
           absurd (never (told.0 + h.0.enough) (omega arith)
           (h.0.told (told.0 + h.0.enough) (omega arith)))
       by (goes_on q f) =
-          let k = at (told.0 * 200 + 1) q f in
+          let k = said_at es is p t (told.0 * 200 + 1) q f in
           let lt = k.2 in
           let h = k.1.slow told.0 (omega (arith, lt)) in
-          absurd (prefix_short _ Outs h.1.0 (length Outs) h.1.1 refl (long told.0 (omega arith)))
+          absurd (prefix_short _ (Outs es) h.1.0 (length (Outs es)) h.1.1 refl (long told.0 (omega arith)))
+
+  -- the meaning of these items ends so, under every large enough fuel
+  abbrev pub EndsSo : List (Thing OWord Back) → MeaningEnd → Type 0
+  EndsSo is e = (enough : ℕ) × ((f : ℕ) → enough ≤ f → (meaning world size (Items is) f).end ≡ e)
+
+  -- trusted code comes to such an end
+  pub data ComesTo (p : OState) (e : MeaningEnd) : Type 0 where
+    to_halt : (q : OState) (v : ℤ) → Until L p q → overlay_step L q ≡ halts → (flat_view L q).reg A0 ≡ Int v
+        → e ≡ Halted v → ComesTo p e
+    to_fail : (q : OState) → Until L p q → overlay_step L q ≡ fails → e ≡ Fails → ComesTo p e
+
+  -- where it doesn't let go
+  pub comes_to : (es : List Shown) (is : List (Thing OWord Back)) (p : OState) → Tells L O es is p
+      → is_inside L p ≡ true → (e : MeaningEnd) → EndsSo is e → (e ≡ OutOfFuel → ⊥)
+      → ((q m : OState) → Until L p q → overlay_step L q ≡ goes m → is_inside L m ≡ false → ⊥) → ComesTo p e
+  comes_to es is p t i e so some never = by (fate L p (so.0 * 200 + 1) i)
+    where
+      by : Fate L p (so.0 * 200 + 1) → ComesTo p e
+      by (lets_go n q m f g out) = absurd (never q m (far_until L p q n f) g out)
+      by (ended n q f (inl g)) =
+          let u = far_until L p q n f in
+          let h = (said_at es is p t n q f).1.halts (until_inside L p q u) g in
+          to_halt q h.0 u g h.1
+          (sym (so.1 (so.0 + h.2.enough) (omega arith)) ∙ h.2.ends (so.0 + h.2.enough) (omega arith))
+      by (ended n q f (inr g)) =
+          let u = far_until L p q n f in
+          let h = (said_at es is p t n q f).1.fails (until_inside L p q u) g in
+          to_fail q u g
+          (sym (so.1 (so.0 + h.0.enough) (omega arith)) ∙ h.0.ends (so.0 + h.0.enough) (omega arith))
+      by (goes_on q f) =
+          let k = said_at es is p t (so.0 * 200 + 1) q f in
+          let lt = k.2 in
+          let h = k.1.slow so.0 (omega (arith, lt)) in
+          absurd (some (sym (so.1 so.0 (omega arith)) ∙ h.0))

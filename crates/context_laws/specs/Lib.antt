@@ -4,3 +4,4 @@ pub mod Contexts
 pub mod Sources
 pub mod Itself
 pub mod Meanings
+pub mod Ends

@@ -1,6 +1,6 @@
 -- Sources that mean the same, and that no code outside can tell them apart.
 use Rattle.std.specs.Prelude.{◌≡◌, ◌⊎◌, ◌↔◌, ℕ, ◌≤◌, ◌==◌, true, false, List, [], ◌∷◌, ◌++◌, map, find}
-use Rattle.std.specs.Prelude.{Option, Some, None, if◌then◌else◌}
+use Rattle.std.specs.Prelude.{Option, Some, None, ℤ, if◌then◌else◌}
 use Rattle.std.specs.List.{Contains}
 use Rattle.component_file.specs.declared.component.Import.{Import}
 use Rattle.component_file.specs.declared.component.Export.{Export}
@@ -27,7 +27,8 @@ use Rattle.proc_program.specs.declared.program.Procedure.{Procedure}
 use Rattle.proc_program.specs.declared.program.ProgramImport.{ProgramImport as Imported}
 use Rattle.proc_program.specs.Lower.{part_of as program_of}
 use Rattle.source_events.specs.declared.Item.{Item}
-use Rattle.proc_semantics.specs.Values.{World, home_part, proc_in, import_in}
+use Rattle.source_events.specs.declared.Item.TheVariants.{Enter, Ret}
+use Rattle.proc_semantics.specs.Values.{World, fits_64, home_part, proc_in, import_in}
 use Rattle.proc_semantics.specs.Rules.{part_name_of}
 use Rattle.proc_semantics.specs.Marked.{PairHalf, Whence, OwnWord, ImportWord, CameWord, Event, refined}
 use Rattle.proc_semantics.specs.Marked.{report_to}
@@ -65,10 +66,25 @@ name_of world (CameWord k j) = Came k j
 abbrev pub observed : World → ℕ → List Item → ℕ → List (Event Name ℕ)
 observed world stack feed fuel = (report_to (name_of world) (λ k. k) (refined world stack feed fuel)).events
 
--- on each feed the same is observed, under every large enough fuel
+-- an integer, where there is one, has 64 bits
+abbrev pub NumberFits : Option ℤ → Type 0
+NumberFits None = Unit {0}
+NumberFits (Some z) = fits_64 z ≡ true
+
+abbrev pub NumbersFit : List (Option ℤ) → Type 0
+NumbersFit [] = Unit {0}
+NumbersFit (v ∷ vs) = NumberFits v × NumbersFit vs
+
+-- the integers of a feed have 64 bits, as those have that come in to a run
+abbrev pub FeedFits : List Item → Type 0
+FeedFits [] = Unit {0}
+FeedFits (Enter part name left ints pairs back ∷ is) = NumbersFit ints × FeedFits is
+FeedFits (Ret part site base v ∷ is) = NumberFits v × FeedFits is
+
+-- on each such feed the same is observed, under every large enough fuel
 abbrev pub MeanTheSame : World → World → ℕ → Type 0
 MeanTheSame world world' stack =
-    (feed : List Item) → (enough : ℕ)
+    (feed : List Item) → FeedFits feed → (enough : ℕ)
     × ((f : ℕ) → enough ≤ f → observed world stack feed f ≡ observed world' stack feed f)
 
 -- ---- names of exports and sites

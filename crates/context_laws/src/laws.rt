@@ -5,6 +5,7 @@ ghost use Rattle.context_laws.specs.Itself.{AlikeToItself};
 ghost use Rattle.context_laws.specs.Lockstep.{RunInStep};
 ghost use Rattle.context_laws.specs.Meanings.{SameMeaningsAreNotToldApart, SameMeaningsGoInStep};
 ghost use Rattle.context_laws.specs.Meanings.{SameMeaningsLetGo};
+ghost use Rattle.context_laws.specs.Ends.{SameMeaningsEndAlike};
 ghost use Rattle.context_laws.specs.Related.{SameNames, OutsideStepsAlike};
 ghost use Rattle.context_laws.specs.Sources.{FirstArrivalsAlike, PlacedStartsAlike, SourcesAgainstContexts};
 ghost use Rattle.context_laws.specs.Sources.{SourcesInStep, StartsAlike, WholeRunsInStep};
@@ -13,6 +14,7 @@ use overlay_machine::laws::{linked_starts_agree, starts_begin};
 use source_starts::laws::{
     sources_leave_nothing, sources_mean, sources_tell_words, wiped_cells_are_told,
 };
+use trace_tool::laws::{cuts_are_greatest, the_headline};
 
 /// A step of code outside does the same in two runs of linked parts, from states that are alike to it: both
 /// halt, both fail, both stay outside in states that are alike again, or both come in, to twins of exports
@@ -129,6 +131,28 @@ pub fn same_meanings_go_in_step()
     sources_tell_words();
     wiped_cells_are_told();
     sources_mean();
+}
+
+/// Sources that mean the same and end the same way can be put in each other's place: whole plain runs end
+/// alike.
+///
+/// Take two lists of modules, linked with the same untrusted parts in the same places, whichever part has
+/// main, and let the refined meanings of both tell the same on each feed whose integers have 64 bits, as
+/// above, and end the same way on it: by `halt` with one value, by a failure, with nothing left in the feed,
+/// or not at all. Then the plain run of the one link halts if and only if that of the other does, both with
+/// the same word in a0, or with a sealed one in both; it fails if and only if the other fails; and it runs
+/// forever if and only if the other does.
+pub fn same_meanings_end_alike()
+    ensures { SameMeaningsEndAlike }
+{
+    starts_begin();
+    linked_starts_agree();
+    sources_leave_nothing();
+    sources_tell_words();
+    wiped_cells_are_told();
+    sources_mean();
+    the_headline();
+    cuts_are_greatest();
 }
 
 /// That it speaks of something: each state at which code outside runs is alike to itself.

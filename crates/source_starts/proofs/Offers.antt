@@ -1,8 +1,12 @@
 -- What the crates above cite: lemmas over the definitions of `specs/`, by what they are of.
 
 -- which module is which trusted part, and how the modules' names lead to it
-pub use Rattle.source_starts.proofs.Worlds.{Aligned, Home, NamesApart, aligned, home_of, names_apart}
-pub use Rattle.source_starts.proofs.Worlds.{names_same, part_of_home, same_names}
+pub use Rattle.source_starts.proofs.Worlds.{NamesApart, aligned, home_of, names_apart}
+pub use Rattle.source_starts.proofs.Worlds.{names_same, same_names}
+-- one part alone has main
+pub use Rattle.source_starts.proofs.Mains.{one_main}
+-- where a plain run has ended, the overlay's step at the greatest matched point ends so
+pub use Rattle.source_starts.proofs.RunEnds.{fails_there, halts_there}
 -- the exports of a compiled module are its procedures, each at its offset
 pub use Rattle.source_starts.proofs.Exports.{one_offset}
 -- what imports name among linked parts, whose names differ

@@ -1,0 +1,172 @@
+-- Modules that halt with different values mean the same, and don't end the same way.
+use Rattle.std.proofs.Common.{◌≡◌, ℕ, zero, suc, ◌+◌, ◌-◌, ◌≤◌, pos, List, [], ◌∷◌, map, length, Option, Some}
+use Rattle.std.proofs.Common.{None, refl, sym, ap, ◌∙◌, subst, arith}
+use Rattle.cap_words.specs.Names as names
+use Rattle.source_events.specs.declared.Item.{Item}
+use Rattle.source_events.specs.declared.Item.TheVariants.{Enter, Ret}
+use Rattle.source_events.specs.declared.FeedBack.TheVariants as way
+use Rattle.source_events.specs.declared.MeaningEnd.TheVariants.{Halt as Halted}
+use Rattle.proc_language.specs.Words.{is_source_name, is_reserved}
+use Rattle.proc_language.specs.Limits.{IsModule}
+use Rattle.proc_names.specs.Names.{variable_named, callee_named, passed_named}
+use Rattle.proc_names.specs.NameFaults.{name_faults}
+use Rattle.proc_program.specs.declared.program.Program.{Program}
+use Rattle.proc_program.specs.declared.program.Procedure.{Procedure}
+use Rattle.proc_program.specs.Lower.{part_of}
+use Rattle.proc_semantics.specs.declared.value.Target.{Target}
+use Rattle.proc_semantics.specs.Told.{repeated}
+use Rattle.proc_semantics.specs.Values.{World, Store, target, found, proc_at, main_target, taken}
+use Rattle.proc_semantics.specs.Rules.{Then, Level, enough, with_place, body_of, begin, proc_of, entered}
+use Rattle.proc_semantics.specs.Rules.{by_item, level}
+use Rattle.proc_semantics.specs.Marked.{Thing, Whence, Frame, Regs, numbered_items, refined}
+use Rattle.proc_semantics.specs.Marked as tagged
+use Rattle.context_laws.specs.Meanings.{observed}
+use Rattle.context_instance.specs.Halts.{halts, EndsCount}
+use Rattle.context_instance.proofs.Means.{M, Silent, tick, ticks_silent}
+use Rattle.context_instance.proofs.Same.{first, observed_is, end_is}
+
+abbrev U : ℕ → Program
+U n = part_of (halts n)
+
+abbrev W : ℕ → World
+W n = U n ∷ []
+
+abbrev Q : ℕ → Procedure
+Q n = first (U n).procs
+
+no_main : (n : ℕ) → main_target (W n) ≡ None
+unfolding main_target
+no_main n = refl
+
+-- ---- nothing is told
+
+body_is : (n home left : ℕ) (l : Level M) (rs : Regs Whence ℕ) (k : Then M) (st : Store)
+    → body_of M (W n) l (M.frame home left (Q n) rs) (Q n) (taken [] (Q n).callbacks (M.registers rs)) k st
+    ≡ repeated tick 2 (tagged.ends Whence ℕ (Halted (pos n)))
+body_is n home left l rs k st = refl
+
+begin_silent : (n home : ℕ) (l : Level M) (left : Option ℕ) (rs : Regs Whence ℕ) (k : Then M) (st : Store)
+    → Silent (begin M (W n) l home (Q n) left rs k st)
+begin_silent n home l left rs k st = by (enough (Q n).need left)
+  where
+    by : (o : Option ℕ) → Silent (with_place M o (λ left. M.beginning left (Q n).need
+        (body_of M (W n) l (M.frame home left (Q n) rs) (Q n) (taken [] (Q n).callbacks (M.registers rs)) k
+        st)))
+    by None = λ low f feed. refl
+    by (Some m) = λ low f feed.
+        subst Silent (sym (body_is n home m l rs k st))
+        (ticks_silent 2 (tagged.ends Whence ℕ (Halted (pos n))) (λ low f feed. refl))
+        (Some (tagged.lower Whence ℕ low (m - (Q n).need))) f feed
+
+-- there is no other procedure
+one_proc : (n home j : ℕ) (p : Procedure) → proc_at (W n) (target home j) ≡ Some p → Q n ≡ p
+one_proc n zero zero p e = let z : Some (Q n) ≡ Some p = e in cc
+one_proc n zero (suc j) p e = absurd (let z : None ≡ Some p = e in cc)
+one_proc n (suc home) j p e = absurd (let z : None ≡ Some p = e in cc)
+
+proc_silent : (n d : ℕ) (t : Target) (left : Option ℕ) (rs : Regs Whence ℕ) (k : Then M) (st : Store)
+    → Silent ((level M (W n) d).proc t left rs k st)
+proc_silent n zero t left rs k st = λ low f feed. refl
+proc_silent n (suc d) t left rs k st = by (proc_at (W n) t) refl
+  where
+    by : (o : Option Procedure) → proc_at (W n) t ≡ o
+        → Silent (proc_of M (W n) (level M (W n) d) t.home o left rs k st)
+    by None e = λ low f feed. refl
+    by (Some p) e =
+        subst (λ q. Silent (proc_of M (W n) (level M (W n) d) t.home (Some q) left rs k st))
+        (one_proc n t.home t.proc p e)
+        (ticks_silent (1 + (Q n).need) _ (begin_silent n t.home (level M (W n) d) left rs k st))
+
+item_silent : (n d : ℕ) (st : Store) (x : Thing Whence ℕ) (i : Item)
+    → Silent (by_item M (W n) (level M (W n) d) None st x i)
+item_silent n d st x (Ret part site base v) = λ low f feed. refl
+item_silent n d st x (Enter p m left ints pairs back) = by (found (W n) p m)
+  where
+    by : (o : Option Target) → Silent (entered M (W n) (level M (W n) d) None o x.entry left
+        (M.fed (W n) x ints pairs) back st)
+    by None = λ low f feed. refl
+    by (Some t) = proc_silent n d t left (M.fed (W n) x ints pairs) _ st
+
+wait_silent : (n d : ℕ) (st : Store) → Silent ((level M (W n) d).wait None st)
+wait_silent n zero st low f feed = refl
+wait_silent n (suc d) st low f [] = refl
+wait_silent n (suc d) st low f (x ∷ feed) = item_silent n d st x x.item low f feed
+
+nothing_observed : (n size : ℕ) (feed : List Item) (f : ℕ) → observed (W n) size feed f ≡ []
+nothing_observed n size feed f =
+    observed_is (W n) size feed f [] (no_main n)
+    (wait_silent n (f + length (numbered_items 0 feed) + 1) (map (λ (u : Program). u.globals) (W n)) None f
+    (numbered_items 0 feed))
+
+-- ---- how they end
+
+-- f is entered, with as many words as it needs
+abbrev entry : List Item
+entry = Enter (116 ∷ []) (102 ∷ []) (Some (Q 1).need) [] [] way.Out ∷ []
+
+ends_there : (n d f : ℕ) (st : Store)
+    → ((level M (W n) (suc (suc (suc d)))).wait None st None
+    (suc (suc (suc (suc (suc (suc (suc (suc (suc (suc f)))))))))) (numbered_items 0 entry)).end
+    ≡ Halted (pos n)
+unfolding found
+ends_there n d f st = refl
+
+ends_so : (n size f : ℕ) → 10 ≤ f → (refined (W n) size entry f).end ≡ Halted (pos n)
+ends_so n size f le =
+    let deep : f + length (numbered_items 0 entry) + 1 ≡ suc (suc (suc (f - 1))) = omega (arith, le) in
+    let fuel : f ≡ suc (suc (suc (suc (suc (suc (suc (suc (suc (suc (f - 10)))))))))) = omega (arith, le) in
+    end_is (W n) size entry f (Halted (pos n)) (no_main n)
+    (ap (λ d. ((level M (W n) d).wait None (map (λ (u : Program). u.globals) (W n)) None f
+    (numbered_items 0 entry)).end) deep
+    ∙ ap (λ g. ((level M (W n) (suc (suc (suc (f - 1))))).wait None
+    (map (λ (u : Program). u.globals) (W n)) None g (numbered_items 0 entry)).end) fuel
+    ∙ ends_there n (f - 1) (f - 10) (map (λ (u : Program). u.globals) (W n)))
+
+limits : (n : ℕ) → n ≤ 2147483647 → IsModule (halts n)
+unfolding is_source_name is_reserved names.is_name
+limits n le = record {
+  name = refl;
+  code = omega arith;
+  data_base = omega arith;
+  closure = omega arith;
+  returns = (omega arith, omega arith, omega arith);
+  stack = omega arith;
+  imports = (omega arith, tt);
+  globals = (omega arith, tt);
+  some = omega arith;
+  procs = (
+    omega arith,
+    (
+      record {
+        name = refl;
+        params = tt;
+        registers = omega arith;
+        locals = (omega arith, tt);
+        body = (omega (arith, le), tt);
+      },
+      tt,
+    ),
+  );
+}
+
+resolved : (n : ℕ) → name_faults (halts n) ≡ []
+unfolding callee_named passed_named variable_named
+resolved n = refl
+
+pub ends_count : EndsCount
+ends_count = record {
+  limits = (limits 1 (omega arith), limits 2 (omega arith));
+  resolved = (resolved 1, resolved 2);
+  same = λ size feed fits. (
+    0,
+    λ f le.
+        nothing_observed 1 size feed f ∙ sym (nothing_observed 2 size feed f),
+  );
+  ends = λ size e. (
+      let z = e entry (tt, tt) in
+      let f = z.0 + 10 in
+      let h : Halted (pos 1) ≡ Halted (pos 2) =
+      sym (ends_so 1 size f (omega arith)) ∙ z.1 f (omega arith) ∙ ends_so 2 size f (omega arith) in
+      cc
+      );
+}

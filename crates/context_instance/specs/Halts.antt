@@ -1,0 +1,42 @@
+-- Modules that mean the same and don't end the same way.
+use Rattle.std.specs.Prelude.{◌≡◌, ℕ, false, true, [], ◌∷◌, map}
+use Rattle.proc_language.specs.declared.module.ModuleFields.{ModuleFields}
+use Rattle.proc_language.specs.Tree.{number, halt}
+use Rattle.proc_language.specs.Limits.{IsModule}
+use Rattle.proc_names.specs.NameFaults.{name_faults}
+use Rattle.proc_program.specs.Lower.{part_of}
+use Rattle.context_laws.specs.Meanings.{MeanTheSame}
+use Rattle.context_laws.specs.Ends.{EndTheSame}
+use Rattle.context_instance.specs.Doubles.{named}
+
+-- module t; export proc f() { halt n; }
+abbrev pub halts : ℕ → ModuleFields
+halts n = record {
+  at = 0;
+  name = named 116;
+  code = 1;
+  data_base = 200;
+  closure = 10;
+  returns = 12;
+  return_count = 0;
+  stack = 300;
+  movable = false;
+  imports = [];
+  globals = [];
+  procs = record {
+    at = 0;
+    shared = true;
+    name = named 102;
+    params = [];
+    locals = [];
+    body = halt 0 (number 0 n) ∷ [];
+  } ∷ [];
+}
+
+-- two of them are modules whose names are resolved; nothing is observed of either on any feed, so they mean
+-- the same; and they don't end the same way
+pub record EndsCount : Type 0 where
+  pub limits : IsModule (halts 1) × IsModule (halts 2)
+  pub resolved : (name_faults (halts 1) ≡ []) × (name_faults (halts 2) ≡ [])
+  pub same : (size : ℕ) → MeanTheSame (map part_of (halts 1 ∷ [])) (map part_of (halts 2 ∷ [])) size
+  pub ends : (size : ℕ) → EndTheSame (map part_of (halts 1 ∷ [])) (map part_of (halts 2 ∷ [])) size → ⊥

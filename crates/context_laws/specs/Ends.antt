@@ -1,0 +1,81 @@
+-- Sources that mean the same and end alike, and that whole runs of their links end alike.
+use Rattle.std.specs.Prelude.{◌≡◌, ◌⊎◌, ◌↔◌, ℕ, ◌≤◌, ℤ, List, map, Some, None}
+use Rattle.cap_words.specs.declared.Word.{Word}
+use Rattle.cap_words.specs.declared.Word.TheVariants.{Int, Sealed}
+use Rattle.lcm_isa.specs.declared.Reg.TheVariants.{A0}
+use Rattle.lcm_machine.specs.declared.FailCause.{FailCause}
+use Rattle.lcm_machine.specs.declared.End.TheVariants.{Halted, Failed}
+use Rattle.lcm_machine.specs.Places.{reg}
+use Rattle.lcm_machine.specs.Run.{plain}
+use Rattle.component_linker.specs.Parts.{PartSeen}
+use Rattle.component_linker.specs.Started.{StartSeen}
+use Rattle.component_linker.specs.LinkedStarts.{IsStartOf}
+use Rattle.proc_language.specs.declared.module.ModuleFields.{ModuleFields}
+use Rattle.proc_program.specs.Lower.{part_of as program_of}
+use Rattle.source_events.specs.declared.Item.{Item}
+use Rattle.proc_semantics.specs.Values.{World}
+use Rattle.proc_semantics.specs.Marked.{refined}
+use Rattle.source_starts.specs.Sources.{AreSources, linked_at}
+use Rattle.context_laws.specs.Meanings.{FeedFits, MeanTheSame, AreBeside}
+
+-- ---- meanings
+
+-- On each feed whose integers have 64 bits both end the same way, under every large enough fuel: by `halt`
+-- with one value, by a failure, with nothing left in the feed, or out of fuel.
+abbrev pub EndTheSame : World → World → ℕ → Type 0
+EndTheSame world world' stack =
+    (feed : List Item) → FeedFits feed → (enough : ℕ)
+    × ((f : ℕ) → enough ≤ f → (refined world stack feed f).end ≡ (refined world' stack feed f).end)
+
+-- ---- plain runs
+
+-- after some instructions it has halted, with this word in a0
+pub record PlainHalts (s : StartSeen) (w : Word) : Type 0 where
+  pub after : ℕ
+  pub halted : (plain after s.state).end ≡ Some Halted
+  pub value : reg (plain after s.state).maps.regs A0 ≡ w
+
+-- it has failed
+pub record PlainFails (s : StartSeen) : Type 0 where
+  pub after : ℕ
+  pub cause : FailCause
+  pub at : ℤ
+  pub failed : (plain after s.state).end ≡ Some (Failed cause at)
+
+-- after any number of instructions it hasn't ended
+abbrev pub RunsForever : StartSeen → Type 0
+RunsForever s = (n : ℕ) → (plain n s.state).end ≡ None
+
+-- a word under a seal
+abbrev pub IsSealed : Word → Type 0
+IsSealed (Sealed n x) = Unit {0}
+IsSealed _ = ⊥
+
+-- the same word, or a sealed one in both
+abbrev pub SameResult : Word → Word → Type 0
+SameResult w v = (w ≡ v) ⊎ (IsSealed w × IsSealed v)
+
+-- as the one run ends, so does the other
+pub record EndsToo (s s' : StartSeen) : Type 0 where
+  pub halts : (w : Word) → PlainHalts s w → (v : Word) × PlainHalts s' v × SameResult w v
+  pub fails : PlainFails s → PlainFails s'
+
+-- the one halts if and only if the other does, with the same result; it fails if and only if the other fails,
+-- and runs forever if and only if the other does
+pub record RunsEndAlike (s s' : StartSeen) : Type 0 where
+  pub there : EndsToo s s'
+  pub back : EndsToo s' s
+  pub integers : (z : ℤ) → PlainHalts s (Int z) ↔ PlainHalts s' (Int z)
+  pub forever : RunsForever s ↔ RunsForever s'
+
+-- ---- the law
+
+-- Two lists of sources that mean the same and end the same way, beside the same untrusted parts in their
+-- places: the plain runs of both links end alike, whichever part has main.
+abbrev pub SameMeaningsEndAlike : Type 0
+SameMeaningsEndAlike =
+    (modules modules' : List ModuleFields) (parts parts' : List PartSeen) (size : ℕ) (s s' : StartSeen)
+    → IsStartOf parts size s → IsStartOf parts' size s' → AreSources modules parts
+    → AreSources modules' parts' → AreBeside (linked_at parts size s) (linked_at parts' size s')
+    → MeanTheSame (map program_of modules) (map program_of modules') size
+    → EndTheSame (map program_of modules) (map program_of modules') size → RunsEndAlike s s'
