@@ -70,7 +70,8 @@ pub record Links (c : ComponentFields) (n d : ℕ) : Type 0 where
   pub room : NoneIsBroken (l10 (parts_of c) ∷ [])
   pub main_is : main_of (parts_of c) ≡ Some main
   pub still : c.movable ≡ false
-  pub no_sites : c.sites ≡ []
+  pub sites : List Site
+  pub sites_are : AreSites (parts_of c) sites
   pub code_base : c.code_base ≡ 1
   pub data_base : c.data_base ≡ 200
   pub code_long : length c.code ≡ n
@@ -79,6 +80,29 @@ pub record Links (c : ComponentFields) (n d : ℕ) : Type 0 where
   pub stack_is : stack_span (parts_of c) 8 ≡ Some stack
   pub regions : regions_of (parts_of c) 8 ≡ regions_are n d
   pub spans : AreSpans 0 (map region_span (regions_of (parts_of c) 8))
+
+-- a module that calls nothing has no sites
+pub without_sites : (c : ComponentFields) → c.sites ≡ [] → AreSites (parts_of c) []
+without_sites c none = record {
+  ascend = λ i j x lt le. absurd (omega (arith, lt, le));
+  all = λ s. (λ m. absurd (contains_none s m), λ i. absurd (no_site s i));
+}
+  where
+    no_site : (s : Site) → IsSite (parts_of c) s → ⊥
+    no_site s i = by s.part i.of i.of_is i.trusted i.offset_is
+      where
+        by : (k : ℕ) (p : PartSeen) → slice_get (parts_of c) k ≡ Some p → p.trusted ≡ true
+            → slice_get p.component.sites s.index ≡ Some i.offset → ⊥
+        by zero p at t e =
+            let k : record { component = c; trusted = true } ≡ p = cc in
+            let z : None ≡ Some i.offset = sym (ap (λ xs. slice_get xs s.index) none)
+            ∙ ap (λ (x : PartSeen). slice_get x.component.sites s.index) k ∙ e in
+            cc
+        by (suc zero) p at t e =
+            let k : other ≡ p = cc in
+            let bad : false ≡ true = ap (λ (x : PartSeen). x.trusted) k ∙ t in
+            cc
+        by (suc (suc k)) p at t e = cc
 
 pub one_links : Links (compiled sums) 71 2
 unfolding regions_of number_of entry_code call_code return_code component_of frame_of laid_of lay_proc
@@ -94,7 +118,8 @@ one_links = record {
       (first_broken_in rule_at (l10 (parts_of (compiled sums)) ∷ [])));
   main_is = refl;
   still = refl;
-  no_sites = refl;
+  sites = [];
+  sites_are = without_sites (compiled sums) refl;
   code_base = refl;
   data_base = refl;
   code_long = refl;
@@ -119,7 +144,8 @@ two_links = record {
       (first_broken_in rule_at (l10 (parts_of (compiled keeps)) ∷ [])));
   main_is = refl;
   still = refl;
-  no_sites = refl;
+  sites = [];
+  sites_are = without_sites (compiled keeps) refl;
   code_base = refl;
   data_base = refl;
   code_long = refl;
@@ -150,35 +176,13 @@ module _ (c : ComponentFields) (n d : ℕ) (is : Links c n d) where
       count = 0;
       end = None;
     };
-    sites = [];
+    sites = is.sites;
     owners = owners_of c other.component;
     stack = stack;
   }
 
   made : linked.Linked P 8
   made = are_linked P 8 each is.links
-
-  no_site : (s : Site) → IsSite P s → ⊥
-  no_site s i = by s.part i.of i.of_is i.trusted i.offset_is
-    where
-      by : (k : ℕ) (p : PartSeen) → slice_get P k ≡ Some p → p.trusted ≡ true
-          → slice_get p.component.sites s.index ≡ Some i.offset → ⊥
-      by zero p at t e =
-          let k : record { component = c; trusted = true } ≡ p = cc in
-          let z : None ≡ Some i.offset = sym (ap (λ xs. slice_get xs s.index) is.no_sites)
-          ∙ ap (λ (x : PartSeen). slice_get x.component.sites s.index) k ∙ e in
-          cc
-      by (suc zero) p at t e =
-          let k : other ≡ p = cc in
-          let bad : false ≡ true = ap (λ (x : PartSeen). x.trusted) k ∙ t in
-          cc
-      by (suc (suc k)) p at t e = cc
-
-  sites_are : AreSites P []
-  sites_are = record {
-    ascend = λ i j x lt le. absurd (omega (arith, lt, le));
-    all = λ s. (λ m. absurd (contains_none s m), λ i. absurd (no_site s i));
-  }
 
   is_start : IsStart P 8 start.state
   is_start = record {
@@ -194,7 +198,7 @@ module _ (c : ComponentFields) (n d : ℕ) (is : Links c n d) where
   starts : Starts P 8 start
   starts = record {
     state = is_start;
-    sites = sites_are;
+    sites = is.sites_are;
     owners = owners_are c other.component (let b = is.code_base in omega (arith, b));
     stack = is.stack_is;
   }
@@ -332,26 +336,34 @@ sums_sources = record { limits = (limits, tt); resolved = (resolved, tt); compil
 pub keeps_sources : AreSources (keeps ∷ []) (parts_of (compiled keeps))
 keeps_sources = record { limits = (limits_too, tt); resolved = (resolved_too, tt); compiled = refl }
 
-pub sums_main : main_of (placed (parts_of (compiled sums)) 8) ≡ Some main
-sums_main = ap main_of (placed_same (compiled sums) 71 2 one_links) ∙ one_links.main_is
-
-pub keeps_main : main_of (placed (parts_of (compiled keeps)) 8) ≡ Some main
-keeps_main = ap main_of (placed_same (compiled keeps) 109 3 two_links) ∙ two_links.main_is
+-- the adversary has main in both
+pub main_there : (c : ComponentFields) (n d : ℕ) → Links c n d → main_of (placed (parts_of c) 8) ≡ Some main
+main_there c n d is = ap main_of (placed_same c n d is) ∙ is.main_is
 
 same_places : (c e : ComponentFields) → SameUntrusted (parts_of c) (parts_of e)
 same_places c e = (inr (refl, refl), (inl (refl, refl), tt))
 
-pub beside : AreBeside (linked_at (parts_of (compiled sums)) 8 sums_start)
-    (linked_at (parts_of (compiled keeps)) 8 keeps_start)
-beside = record {
-  places = subst (λ ps. SameUntrusted ps (placed (parts_of (compiled keeps)) 8))
-      (sym (placed_same (compiled sums) 71 2 one_links))
-      (subst (SameUntrusted (parts_of (compiled sums))) (sym (placed_same (compiled keeps) 109 3 two_links))
-      (same_places (compiled sums) (compiled keeps)));
-  stack = ap stack_base_of (placed_same (compiled sums) 71 2 one_links) ∙ one_links.stack_base
-      ∙ sym two_links.stack_base ∙ sym (ap stack_base_of (placed_same (compiled keeps) 109 3 two_links));
+pub beside_of : (c e : ComponentFields) (n d k l : ℕ) (is : Links c n d) (are : Links e k l) → n ≤ 199
+    → d ≤ 50 → k ≤ 199 → l ≤ 50
+    → AreBeside (linked_at (parts_of c) 8 (start c n d is)) (linked_at (parts_of e) 8 (start e k l are))
+beside_of c e n d k l is are small few small_too few_too = record {
+  places = subst (λ ps. SameUntrusted ps (placed (parts_of e) 8)) (sym (placed_same c n d is))
+      (subst (SameUntrusted (parts_of c)) (sym (placed_same e k l are)) (same_places c e));
+  stack = ap stack_base_of (placed_same c n d is) ∙ is.stack_base ∙ sym are.stack_base
+      ∙ sym (ap stack_base_of (placed_same e k l are));
   free = λ a r t. (
-      let x = high (compiled sums) 71 2 one_links (omega arith) (omega arith) a r in
-      let y = high (compiled keeps) 109 3 two_links (omega arith) (omega arith) a t in
+      let x = high c n d is small few a r in
+      let y = high e k l are small_too few_too a t in
       (λ f. y.1 (x.0 f), λ f. x.1 (y.0 f)));
 }
+
+pub sums_main : main_of (placed (parts_of (compiled sums)) 8) ≡ Some main
+sums_main = main_there (compiled sums) 71 2 one_links
+
+pub keeps_main : main_of (placed (parts_of (compiled keeps)) 8) ≡ Some main
+keeps_main = main_there (compiled keeps) 109 3 two_links
+
+pub beside : AreBeside (linked_at (parts_of (compiled sums)) 8 sums_start)
+    (linked_at (parts_of (compiled keeps)) 8 keeps_start)
+beside = beside_of (compiled sums) (compiled keeps) 71 2 109 3 one_links two_links (omega arith) (omega arith)
+    (omega arith) (omega arith)

@@ -6,3 +6,4 @@ pub mod Halts
 pub mod Apart
 pub mod Links
 pub mod Beginnings
+pub mod Offers

@@ -1,0 +1,42 @@
+-- The law: two ways to call a callback are one to code outside.
+use Rattle.std.proofs.Common.{[], ◌∷◌, refl}
+use Rattle.proc_templates.specs.Compiled.{compiled}
+use Rattle.context_laws.specs.Meanings.{SameMeaningsAreNotToldApart}
+use Rattle.context_laws.specs.Ends.{SameMeaningsEndAlike}
+use Rattle.callback_instance.specs.Passes.{passes, stores, TwoPassers}
+use Rattle.callback_instance.proofs.Modules.{limits, limits_too, resolved, resolved_too, differ}
+use Rattle.context_instance.proofs.Offers.{parts_of, main}
+use Rattle.callback_instance.proofs.Links.{passes_start, stores_start, passes_starts, stores_starts, beside}
+use Rattle.callback_instance.proofs.Links.{passes_sources, stores_sources, passes_main, stores_main}
+use Rattle.callback_instance.proofs.Means.{mean_the_same, end_the_same, calls}
+
+pub two_passers : SameMeaningsAreNotToldApart → SameMeaningsEndAlike → TwoPassers
+two_passers law alike = record {
+  limits = (limits, limits_too);
+  resolved = (resolved, resolved_too);
+  differ = differ;
+  calls = calls;
+  same = mean_the_same;
+  ends = end_the_same;
+  apart = λ parts parts' size s s' is is' src src' b m e f u.
+      law (passes ∷ []) (stores ∷ []) parts parts' size s s' is is' src src' b m e f u (mean_the_same size);
+  alike = λ parts parts' size s s' is is' src src' b.
+      alike (passes ∷ []) (stores ∷ []) parts parts' size s s' is is' src src' b (mean_the_same size)
+      (end_the_same size);
+  there = record {
+    parts = parts_of (compiled passes);
+    parts_too = parts_of (compiled stores);
+    size = 8;
+    start = passes_start;
+    start_too = stores_start;
+    is = passes_starts;
+    is_too = stores_starts;
+    sources = passes_sources;
+    sources_too = stores_sources;
+    beside = beside;
+    main = main;
+    main_is = passes_main;
+    main_too = stores_main;
+    untrusted = refl;
+  };
+}

@@ -1,0 +1,5 @@
+pub mod Modules
+pub mod Passing
+pub mod Means
+pub mod Links
+pub mod Apart

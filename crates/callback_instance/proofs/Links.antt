@@ -1,0 +1,155 @@
+-- Both modules link with the adversary that the other two link with.
+use Rattle.std.proofs.Common.{◌≡◌, true, [], ◌∷◌, map, Some, Ok, refl, arith, subst, rules}
+use Rattle.lcm_isa.specs.Numbers.{number_of}
+use Rattle.component_file.specs.Limits.{IsComponent}
+use Rattle.component_check.specs.declared.rule.Group.TheVariants.{C}
+use Rattle.component_check.specs.RuleText.{broken_at}
+use Rattle.component_check.specs.Verdict.{check_from}
+use Rattle.component_check.specs.Rules.{rules_c, c1, c2, c3, c4, c5, c6, c7, c8, c9, c10, c11, c12}
+use Rattle.call_sequence.specs.Sequences.{call_code, return_code, entry_code}
+use Rattle.component_linker.specs.Pairs.{IsFirstBrokenIn, by_part}
+use Rattle.component_linker.specs.Links.{rules_l, rule_at, l1, l2, l3, l4, l5, l6, l7, l8, l9, l10}
+use Rattle.component_linker.specs.Regions.{regions_of}
+use Rattle.component_linker.specs.Standing.{placed}
+use Rattle.component_linker.specs.Start.{main_of}
+use Rattle.component_linker.specs.Started.{StartSeen}
+use Rattle.component_linker.specs.LinkedStarts.{IsStartOf}
+use Rattle.component_linker.proofs.Offers.{first_broken_in, no_rule, site_of, sites_are}
+use Rattle.proc_names.specs.Names.{variable_named, callee_named}
+use Rattle.proc_program.specs.Lower.{part_of}
+use Rattle.proc_program.proofs.Offers.{part_fits}
+use Rattle.proc_templates.specs.Items.{put, instrs}
+use Rattle.proc_templates.specs.Templates.{before_epilogue}
+use Rattle.proc_templates.specs.Compiled.{frame_of, laid_of, lay_proc, code_words, data_count, first_data}
+use Rattle.proc_templates.specs.Compiled.{exports_of, imports_of, component_of, compiled}
+use Rattle.proc_templates.specs.Kept.{FitsComponent}
+use Rattle.proc_templates.proofs.Offers.{names_differ, limits_kept, keeps_flow}
+use Rattle.source_starts.specs.Sources.{AreSources, linked_at}
+use Rattle.context_laws.specs.Meanings.{AreBeside}
+use Rattle.context_instance.proofs.Offers.{other, parts_of, main, Links, start, is_start_of, main_there}
+use Rattle.context_instance.proofs.Offers.{beside_of}
+use Rattle.callback_instance.specs.Passes.{passes, stores}
+use Rattle.callback_instance.proofs.Modules.{limits, limits_too, resolved, resolved_too}
+
+-- ---- the components
+
+passes_fits : FitsComponent (part_of passes)
+unfolding code_words data_count variable_named callee_named
+passes_fits = record { limits = part_fits passes limits; code = omega arith; data_words = omega arith }
+
+stores_fits : FitsComponent (part_of stores)
+unfolding code_words data_count variable_named callee_named
+stores_fits = record { limits = part_fits stores limits_too; code = omega arith; data_words = omega arith }
+
+one_limits : IsComponent (compiled passes)
+one_limits = limits_kept (part_of passes) passes_fits (names_differ passes resolved) (omega arith)
+
+two_limits : IsComponent (compiled stores)
+two_limits = limits_kept (part_of stores) stores_fits (names_differ stores resolved_too) (omega arith)
+
+one_checked : check_from (broken_at C) 1 (rules_c (compiled passes) true) ≡ Ok tt
+unfolding c1 c2 c3 c4 c5 c6 c7 c8 c9 c10 c11 c12 number_of entry_code call_code return_code component_of
+    frame_of
+    laid_of lay_proc before_epilogue put instrs first_data exports_of imports_of variable_named callee_named
+one_checked = refl
+
+two_checked : check_from (broken_at C) 1 (rules_c (compiled stores) true) ≡ Ok tt
+unfolding c1 c2 c3 c4 c5 c6 c7 c8 c9 c10 c11 c12 number_of entry_code call_code return_code component_of
+    frame_of
+    laid_of lay_proc before_epilogue put instrs first_data exports_of imports_of variable_named callee_named
+two_checked = refl
+
+one_linked : check_from rule_at 1 (map by_part (rules_l (parts_of (compiled passes)) 8)) ≡ Ok tt
+unfolding l1 l2 l3 l4 l5 l6 l7 l8 l9 number_of entry_code call_code return_code component_of frame_of
+    laid_of lay_proc before_epilogue put instrs first_data exports_of imports_of variable_named callee_named
+one_linked = refl
+
+two_linked : check_from rule_at 1 (map by_part (rules_l (parts_of (compiled stores)) 8)) ≡ Ok tt
+unfolding l1 l2 l3 l4 l5 l6 l7 l8 l9 number_of entry_code call_code return_code component_of frame_of
+    laid_of lay_proc before_epilogue put instrs first_data exports_of imports_of variable_named callee_named
+two_linked = refl
+
+-- ---- what is asked of them; each has one site
+
+pub one_links : Links (compiled passes) 137 2
+unfolding regions_of number_of entry_code call_code return_code component_of frame_of laid_of lay_proc
+    before_epilogue put instrs first_data exports_of imports_of variable_named callee_named l10
+one_links = record {
+  fits = one_limits;
+  rules = no_rule (compiled passes) true one_checked;
+  kept = keeps_flow (part_of passes) passes_fits;
+  links = subst (IsFirstBrokenIn rule_at (rules_l (parts_of (compiled passes)) 8)) one_linked
+      (first_broken_in rule_at (rules_l (parts_of (compiled passes)) 8));
+  room = (let e : check_from rule_at 1 (map by_part (l10 (parts_of (compiled passes)) ∷ [])) ≡ Ok tt = refl in
+      subst (IsFirstBrokenIn rule_at (l10 (parts_of (compiled passes)) ∷ [])) e
+      (first_broken_in rule_at (l10 (parts_of (compiled passes)) ∷ [])));
+  main_is = refl;
+  still = refl;
+  sites = site_of (compiled passes) 80 ∷ [];
+  sites_are = sites_are (compiled passes) other.component 80 refl;
+  code_base = refl;
+  data_base = refl;
+  code_long = refl;
+  data_long = refl;
+  stack_base = refl;
+  stack_is = refl;
+  regions = refl;
+  spans = search (rules, arith);
+}
+
+pub two_links : Links (compiled stores) 143 3
+unfolding regions_of number_of entry_code call_code return_code component_of frame_of laid_of lay_proc
+    before_epilogue put instrs first_data exports_of imports_of variable_named callee_named l10
+two_links = record {
+  fits = two_limits;
+  rules = no_rule (compiled stores) true two_checked;
+  kept = keeps_flow (part_of stores) stores_fits;
+  links = subst (IsFirstBrokenIn rule_at (rules_l (parts_of (compiled stores)) 8)) two_linked
+      (first_broken_in rule_at (rules_l (parts_of (compiled stores)) 8));
+  room = (let e : check_from rule_at 1 (map by_part (l10 (parts_of (compiled stores)) ∷ [])) ≡ Ok tt = refl in
+      subst (IsFirstBrokenIn rule_at (l10 (parts_of (compiled stores)) ∷ [])) e
+      (first_broken_in rule_at (l10 (parts_of (compiled stores)) ∷ [])));
+  main_is = refl;
+  still = refl;
+  sites = site_of (compiled stores) 86 ∷ [];
+  sites_are = sites_are (compiled stores) other.component 86 refl;
+  code_base = refl;
+  data_base = refl;
+  code_long = refl;
+  data_long = refl;
+  stack_base = refl;
+  stack_is = refl;
+  regions = refl;
+  spans = search (rules, arith);
+}
+
+-- ---- the starts
+
+abbrev pub passes_start : StartSeen
+passes_start = start (compiled passes) 137 2 one_links
+
+abbrev pub stores_start : StartSeen
+stores_start = start (compiled stores) 143 3 two_links
+
+pub passes_starts : IsStartOf (parts_of (compiled passes)) 8 passes_start
+passes_starts = is_start_of (compiled passes) 137 2 one_links
+
+pub stores_starts : IsStartOf (parts_of (compiled stores)) 8 stores_start
+stores_starts = is_start_of (compiled stores) 143 3 two_links
+
+pub passes_sources : AreSources (passes ∷ []) (parts_of (compiled passes))
+passes_sources = record { limits = (limits, tt); resolved = (resolved, tt); compiled = refl }
+
+pub stores_sources : AreSources (stores ∷ []) (parts_of (compiled stores))
+stores_sources = record { limits = (limits_too, tt); resolved = (resolved_too, tt); compiled = refl }
+
+pub passes_main : main_of (placed (parts_of (compiled passes)) 8) ≡ Some main
+passes_main = main_there (compiled passes) 137 2 one_links
+
+pub stores_main : main_of (placed (parts_of (compiled stores)) 8) ≡ Some main
+stores_main = main_there (compiled stores) 143 3 two_links
+
+pub beside : AreBeside (linked_at (parts_of (compiled passes)) 8 passes_start)
+    (linked_at (parts_of (compiled stores)) 8 stores_start)
+beside = beside_of (compiled passes) (compiled stores) 137 2 143 3 one_links two_links (omega arith)
+    (omega arith) (omega arith) (omega arith)

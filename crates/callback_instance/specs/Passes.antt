@@ -1,0 +1,143 @@
+-- Two modules that pass a number to a callback, in two ways.
+use Rattle.std.specs.Prelude.{◌≡◌, ◌≢◌, ℕ, pos, false, true, [], ◌∷◌, List, map, Some, None}
+use Rattle.component_linker.specs.Parts.{PartSeen}
+use Rattle.component_linker.specs.Standing.{placed}
+use Rattle.component_linker.specs.Start.{Exported, main_of}
+use Rattle.component_linker.specs.Started.{StartSeen}
+use Rattle.component_linker.specs.LinkedStarts.{IsStartOf}
+use Rattle.overlay_machine.specs.Starting.{overlay_at}
+use Rattle.proc_language.specs.declared.tree.Name.{Name}
+use Rattle.proc_language.specs.declared.tree.Op.TheVariants.{Plus}
+use Rattle.proc_language.specs.declared.module.ModuleFields.{ModuleFields}
+use Rattle.proc_language.specs.declared.module.Proc.{Proc}
+use Rattle.proc_language.specs.Tree.{Stmt, var, op, call, value, no_args, set, return}
+use Rattle.proc_language.specs.Limits.{IsModule}
+use Rattle.proc_names.specs.NameFaults.{name_faults}
+use Rattle.proc_program.specs.Lower.{part_of}
+use Rattle.proc_templates.specs.Compiled.{compiled}
+use Rattle.source_events.specs.declared.Item.{Item}
+use Rattle.source_events.specs.declared.Item.TheVariants.{Enter, Ret}
+use Rattle.source_events.specs.declared.FeedPair.TheVariants as fed
+use Rattle.source_events.specs.declared.FeedBack.TheVariants as way
+use Rattle.proc_semantics.specs.Marked.{Event, Calls, Leaves, Number}
+use Rattle.source_starts.specs.Sources.{AreSources, linked_at}
+use Rattle.context_laws.specs.Meanings.{Came, observed, MeanTheSame, AreBeside, DoesTheSame}
+use Rattle.context_laws.specs.Meanings as observing
+use Rattle.context_laws.specs.Ends.{EndTheSame, RunsEndAlike}
+
+abbrev pub lettered : ℕ → Name
+lettered letter = record { text = letter ∷ []; at = 0 }
+
+-- x, p and g
+abbrev pub the_number : Name
+the_number = lettered 120
+
+abbrev pub the_callback : Name
+the_callback = lettered 112
+
+abbrev pub the_global : Name
+the_global = lettered 103
+
+-- export proc f(x, p/1) with a body
+abbrev pub passer : List Stmt → Proc
+passer body = record {
+  at = 0;
+  shared = true;
+  name = lettered 102;
+  params = record { name = the_number; arity = None } ∷ record { name = the_callback; arity = Some 1 } ∷ [];
+  locals = [];
+  body = body;
+}
+
+-- module t; export proc f(x, p/1) { return p(x + x); }
+abbrev pub passes : ModuleFields
+passes = record {
+  at = 0;
+  name = lettered 116;
+  code = 1;
+  data_base = 200;
+  closure = 10;
+  returns = 12;
+  return_count = 1;
+  stack = 300;
+  movable = false;
+  imports = [];
+  globals = [];
+  procs = passer
+      (return 0 (call 0 the_callback (value (op 0 Plus (var 0 the_number) (var 0 the_number)) no_args)) ∷ [])
+      ∷ [];
+}
+
+-- module t; global g; export proc f(x, p/1) { g = x; return p(g + x); }
+abbrev pub stores : ModuleFields
+stores = record {
+  at = 0;
+  name = lettered 116;
+  code = 1;
+  data_base = 200;
+  closure = 10;
+  returns = 12;
+  return_count = 1;
+  stack = 300;
+  movable = false;
+  imports = [];
+  globals = record { at = 0; name = the_global; length = None; initial = None } ∷ [];
+  procs = passer
+      (set 0 the_global (var 0 the_number)
+      ∷ return 0 (call 0 the_callback (value (op 0 Plus (var 0 the_global) (var 0 the_number)) no_args)) ∷ [])
+      ∷ [];
+}
+
+-- code outside enters f with 3, a pair of its own and 20 words of the stack, to which it will leave; then the
+-- call of the callback is answered with 9
+abbrev pub asked : List Item
+asked = Enter (116 ∷ []) (102 ∷ []) (Some 20) (Some (pos 3) ∷ []) (fed.Nothing ∷ fed.Out ∷ []) way.Out
+    ∷ Ret (116 ∷ []) 0 313 (Some (pos 9)) ∷ []
+
+-- the callback is called with 6, by the pair that came with the first item; and f leaves with 9
+abbrev pub called_and_left : List (Event observing.Name ℕ)
+called_and_left =
+    Calls (116 ∷ []) 0 313 (Some 14) (Some (Came 0 1)) (Some (Came 0 2))
+    (Number (pos 6) ∷ Number (pos 0) ∷ Number (pos 0) ∷ Number (pos 0) ∷ [])
+    ∷ Leaves (116 ∷ []) (pos 9) (Some 13) 0 ∷ []
+
+-- links of both, beside each other, with the same main, which is untrusted
+pub record PassersBeside : Type 0 where
+  pub parts : List PartSeen
+  pub parts_too : List PartSeen
+  pub size : ℕ
+  pub start : StartSeen
+  pub start_too : StartSeen
+  pub is : IsStartOf parts size start
+  pub is_too : IsStartOf parts_too size start_too
+  pub sources : AreSources (passes ∷ []) parts
+  pub sources_too : AreSources (stores ∷ []) parts_too
+  pub beside : AreBeside (linked_at parts size start) (linked_at parts_too size start_too)
+  pub main : Exported
+  pub main_is : main_of (placed parts size) ≡ Some main
+  pub main_too : main_of (placed parts_too size) ≡ Some main
+  pub untrusted : main.part.trusted ≡ false
+
+-- Both are modules whose names are resolved, and their components differ; the first calls out, on some feed;
+-- but they mean the same and end the same way, so that they can't be told apart, and whole plain runs end
+-- alike, whatever untrusted parts are linked beside them; and there are links of both.
+pub record TwoPassers : Type 0 where
+  pub limits : IsModule passes × IsModule stores
+  pub resolved : (name_faults passes ≡ []) × (name_faults stores ≡ [])
+  pub differ : compiled passes ≢ compiled stores
+  pub calls : (size : ℕ) → observed (map part_of (passes ∷ [])) size asked 40 ≡ called_and_left
+  pub same : (size : ℕ) → MeanTheSame (map part_of (passes ∷ [])) (map part_of (stores ∷ [])) size
+  pub ends : (size : ℕ) → EndTheSame (map part_of (passes ∷ [])) (map part_of (stores ∷ [])) size
+  pub apart : (parts parts' : List PartSeen) (size : ℕ) (s s' : StartSeen) → IsStartOf parts size s
+      → IsStartOf parts' size s' → AreSources (passes ∷ []) parts → AreSources (stores ∷ []) parts'
+      → AreBeside (linked_at parts size s) (linked_at parts' size s')
+      → (m : Exported) → main_of (placed parts size) ≡ Some m → main_of (placed parts' size) ≡ Some m
+      → m.part.trusted ≡ false
+      → DoesTheSame (linked_at parts size s) (linked_at parts' size s') (overlay_at s).state
+      (overlay_at s').state
+      × DoesTheSame (linked_at parts' size s') (linked_at parts size s) (overlay_at s').state
+      (overlay_at s).state
+  pub alike : (parts parts' : List PartSeen) (size : ℕ) (s s' : StartSeen) → IsStartOf parts size s
+      → IsStartOf parts' size s' → AreSources (passes ∷ []) parts → AreSources (stores ∷ []) parts'
+      → AreBeside (linked_at parts size s) (linked_at parts' size s') → RunsEndAlike s s'
+  pub there : PassersBeside

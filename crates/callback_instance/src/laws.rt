@@ -1,0 +1,16 @@
+//! That sources which call out can mean the same. This function does nothing; its contract is the law.
+ghost use Rattle.callback_instance.specs.Passes.{TwoPassers};
+
+use context_laws::laws::{same_meanings_are_not_told_apart, same_meanings_end_alike};
+
+/// Two modules that share a procedure which calls its callback with the double of its number, and gives back
+/// the answer, the one by a sum, the other over a global. Both are modules whose names are resolved; their
+/// components differ; a feed has them call and answer; and they mean the same and end the same way. So, linked
+/// with the same untrusted parts in the same places, whole plain runs end alike, and where one of these parts
+/// has main, no code outside can tell them apart; and there are such links of both.
+pub fn two_passers_are_one()
+    ensures { TwoPassers }
+{
+    same_meanings_are_not_told_apart();
+    same_meanings_end_alike();
+}

@@ -1,0 +1,16 @@
+-- What the crates above cite: lemmas over the definitions of `specs/`, by what they are of.
+
+-- what one computation comes to
+pub use Rattle.same_meanings.proofs.Comes.{tick, comes_once, comes_ticked, unticked, comes_deeper}
+pub use Rattle.same_meanings.proofs.Comes.{comes_higher}
+-- two computations that tell the same: bounds, levels, ticks, ends, wipes, events, items
+pub use Rattle.same_meanings.proofs.Steps.{fewer, of_none, same_as, both_deeper, both_higher, ticks, both_end}
+pub use Rattle.same_meanings.proofs.Steps.{both_fail, both_halt, both_wipe, both_call, both_leave, both_take}
+pub use Rattle.same_meanings.proofs.Steps.{both_number, both_place, both_choose}
+-- where the feed is asked, and the whole
+pub use Rattle.same_meanings.proofs.Waits.{all_waits, starts_without, procedures_decide}
+-- code without calls and loops tells what its outcome tells, whatever ticks it takes
+pub use Rattle.same_meanings.proofs.Straight.{went, expr_tells, stmt_tells, block_tells, body_tells}
+pub use Rattle.same_meanings.proofs.Bodies.{bodies_same, straight_same, fed_same, straight_decide}
+pub use Rattle.same_meanings.proofs.Bodies.{SameRegister, SameRegisters, no_registers, and_register}
+pub use Rattle.same_meanings.proofs.Bodies.{value_register}
