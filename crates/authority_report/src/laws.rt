@@ -25,7 +25,7 @@ pub fn reports_bound_runs()
     ensures halves { HalvesUnsealed }
 {}
 
-/// What a part can't read doesn't influence what it does: noninterference.
+/// Words in cells that a part can't read don't influence what it does: noninterference.
 ///
 /// Let a program begin at one of the part's entries, once as linking leaves it, and once with other words
 /// in cells that the part's report says can't be read, or with such cells added or gone. Then, up to and

@@ -64,7 +64,7 @@ module _ (s : StartSeen) (is : s.state ≡ fresh s.state.maps) where
 pub one_state : (n : ℕ) (t u v : State Word) → plain_run n t ≡ went u → plain_run n t ≡ went v → u ≡ v
 one_state n t u v e f = let q : went u ≡ went v = sym e ∙ f in cc
 
--- the instruction behind n others
+-- the instruction after n others
 pub next_step : (n : ℕ) (t u v : State Word) → plain_run n t ≡ went u → plain_run (n + 1) t ≡ went v
     → step_of id id u ≡ went v
 next_step n t u v e f = sym (run_one id id u) ∙ sym (run_then id id n 1 t u _ e refl) ∙ f

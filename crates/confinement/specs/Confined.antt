@@ -46,7 +46,7 @@ InStack s a = (s.stack.base ≤ a) × (a ≤ s.stack.end)
 
 -- ---- whose instruction comes
 
--- the instruction behind n others is fetched from an address
+-- after n instructions the next one is fetched from an address
 abbrev pub ComesFrom : StartSeen → ℕ → ℕ → Type 0
 ComesFrom s n at = ((plain n s.state).end ≡ None) × Fetches (λ w. w) (after s n) at
 
@@ -59,20 +59,20 @@ pub record ComesFromOutside (parts : List PartSeen) (s : StartSeen) (n : ℕ) : 
 -- ---- what it touches
 
 -- an address is an untrusted part's or the stack's, no trusted part's, and in no range of a call that is open
--- behind n instructions
+-- after n instructions
 pub record IsLeftToIt (parts : List PartSeen) (s : StartSeen) (n a : ℕ) : Type 0 where
   pub its : ((p : PartSeen) × IsAmong parts false p × InPart p a) ⊎ InStack s a
   pub apart : (p : PartSeen) → IsAmong parts true p → ¬ (InPart p a)
   pub unopened : ¬ (InRanges (open_behind [] (written s n)) a)
 
--- so is each address that an instruction from outside touches
+-- each address that an instruction from outside touches is left to it
 abbrev pub TouchesNoMore : List PartSeen → StartSeen → Type 0
 TouchesNoMore parts s =
     (n a : ℕ) → ComesFromOutside parts s n → Touches (λ w. w) (after s n) a → IsLeftToIt parts s n a
 
 -- ---- where it leads
 
--- behind it comes an instruction of a trusted part's code
+-- after it comes an instruction of a trusted part's code
 pub record Enters (parts : List PartSeen) (s : StartSeen) (n : ℕ) (p : PartSeen) (to : ℕ) : Type 0 where
   pub from : ComesFromOutside parts s n
   pub trusted : IsAmong parts true p
@@ -86,8 +86,8 @@ pub record AtExport (s : StartSeen) (n : ℕ) (p : PartSeen) (to : ℕ) : Type 0
   pub at : to ≡ p.component.code_base + export.offset
   pub own_data : reg (after s (n + 1)).regs Dat ≡ Mem (data_of p)
 
--- the one behind the call of a site of the part, a call of which is open; data is that call's range, and
--- where all words of the return go, that call is the newest
+-- the first of the return of a site of the part, a call of which is open; data is that call's range, and if
+-- all words of the return go, that call is the newest
 pub record AtReturnPoint (parts : List PartSeen) (s : StartSeen) (n : ℕ) (p : PartSeen) (to : ℕ)
     : Type 0 where
   pub site : Site
@@ -109,13 +109,13 @@ EntersAtDoors parts s =
 
 -- ---- what stays
 
--- behind any number of instructions, each cell of a trusted part's code is as at the start
+-- after any number of instructions, each cell of a trusted part's code is as at the start
 abbrev pub CodeStays : List PartSeen → StartSeen → Type 0
 CodeStays parts s =
     (n a : ℕ) (p : PartSeen) → IsAmong parts true p → InCode p a
     → cell (after s n).cells a ≡ cell s.state.maps.cells a
 
--- where the next one comes from outside, each cell of a trusted part is behind it as before
+-- if the next one comes from outside, it leaves each cell of a trusted part as it was
 abbrev pub PartsStay : List PartSeen → StartSeen → Type 0
 PartsStay parts s =
     (n a : ℕ) (p : PartSeen) → ComesFromOutside parts s n → IsAmong parts true p → InPart p a

@@ -7,12 +7,12 @@ use trace_tool::laws::{lines_are_bracketed, the_headline};
 
 /// Code outside is confined, told of the plain machine alone, of every linked start.
 ///
-/// Where an instruction comes from an address in no trusted part's code, it touches addresses of untrusted
-/// parts and of the stack alone: none of a trusted part's code, data or linear area, and none in the range
-/// of a call that is open. Where an instruction of a trusted part comes behind it, that is the first of an
-/// export, with the part's own data, or the one behind the call of a site, with the range of a call of that
-/// site which is open, and which is the newest where the words of the return all go. No cell of a trusted
-/// part's code ever changes, and no cell of the part does by an instruction of code outside.
+/// An instruction that comes from an address in no trusted part's code touches addresses of untrusted parts
+/// and of the stack alone: none of a trusted part's code, data or linear area, and none in the range of a
+/// call that is open. If an instruction of a trusted part comes after it, that is the first of an export,
+/// with the part's own data, or the first of a site's return, with the range of a call of that site which is
+/// open, and which is the newest if the words of the return all go. No cell of a trusted part's code ever
+/// changes, and no cell of the part does by an instruction of code outside.
 pub fn code_outside_is_confined()
     ensures { AllCodeOutsideIsConfined }
 {

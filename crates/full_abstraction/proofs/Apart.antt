@@ -26,7 +26,7 @@ one_end s n m c at h f = elim (cases_lt n m) as (λ _. ⊥) [
 ]
 
 abbrev beside : Context
-beside = record { before = []; behind = adversary ∷ []; size = 4 }
+beside = record { before = []; after = adversary ∷ []; size = 4 }
 
 module _ (same : RunsShowTheSame) (law : OverlayIsFullyAbstract) where
   halts : OnPlain (start true) halting

@@ -10,7 +10,7 @@ use Rattle.full_abstraction.specs.Contexts.{OnPlain, OnOverlay}
 
 -- ---- contextual equivalence
 
--- each context of a kind that links with both shows it with the ones exactly where it does with the others
+-- each context of a kind that links with both shows it with the ones if and only if with the others
 abbrev pub Equivalent : (StartSeen → Observation → Type 0) → (Context → Bool) → Observation → List PartSeen
     → List PartSeen → Type 0
 Equivalent On kind seen ts us =
@@ -31,7 +31,7 @@ EquivalentInAll On kind seen ts us =
 
 -- no part of them is trusted
 abbrev pub untrusted : Context → Bool
-untrusted c = list_all (λ p. not p.trusted) (c.before ++ c.behind)
+untrusted c = list_all (λ p. not p.trusted) (c.before ++ c.after)
 
 -- ---- the laws
 
@@ -53,7 +53,7 @@ IsFullyAbstractForAny =
     (kind : Context → Bool) (seen : Observation) (ts us : List PartSeen)
     → Equivalent OnPlain kind seen ts us ↔ Equivalent OnOverlay kind seen ts us
 
--- also where one that doesn't link counts
+-- also if one that doesn't link counts
 abbrev pub IsFullyAbstractInAll : Type 0
 IsFullyAbstractInAll =
     (kind : Context → Bool) (seen : Observation) (ts us : List PartSeen)

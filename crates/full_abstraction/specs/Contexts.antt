@@ -16,15 +16,15 @@ use Rattle.trace_tool.specs.Headline.{Matched, OverlayHalts, OverlayFails, Plain
 
 -- ---- contexts
 
--- what stands around a list of parts: the parts before them and behind them, and the size of the stack
+-- what stands around a list of parts: the parts before them and after them, and the size of the stack
 pub record Context : Type 0 where
   pub before : List PartSeen
-  pub behind : List PartSeen
+  pub after : List PartSeen
   pub size : ℕ
 
 -- a context with parts in it
 abbrev pub plugged : Context → List PartSeen → List PartSeen
-plugged c parts = c.before ++ (parts ++ c.behind)
+plugged c parts = c.before ++ (parts ++ c.after)
 
 -- with these parts in it, a context links to a start
 abbrev pub LinksTo : Context → List PartSeen → StartSeen → Type 0

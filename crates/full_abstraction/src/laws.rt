@@ -4,15 +4,15 @@ ghost use Rattle.full_abstraction.specs.Abstraction.{OverlayIsFullyAbstract, Run
 
 use trace_tool::laws::{cuts_are_greatest, the_headline};
 
-/// The overlay is fully abstract: two lists of parts can't be told apart on the plain machine exactly where
+/// The overlay is fully abstract: two lists of parts can't be told apart on the plain machine if and only if
 /// they can't on the overlay.
 ///
-/// A context is what stands around a list of parts: parts before and behind them, and the size of the stack.
-/// Two lists are equivalent on a machine where each context that links with both halts with the ones exactly
-/// where it halts with the others. So it is for contexts of untrusted parts, which is the published
-/// statement; for contexts of any kind, also where what is observed is halting with a word in a0, failing, or
-/// having no end; and where a context that doesn't link counts as one that shows nothing. All this follows
-/// from what holds of each link by itself: the plain run shows what the overlay's does.
+/// A context is what stands around a list of parts: parts before and after them, and the size of the stack.
+/// Two lists are equivalent on a machine if each context that links with both halts with the ones if and only
+/// if it halts with the others. So it is for contexts of untrusted parts, which is the published statement;
+/// for contexts of any kind, also if what is observed is halting with a word in a0, failing, or having no
+/// end; and if a context that doesn't link counts as one that shows nothing. All this follows from what holds
+/// of each link by itself: the plain run shows what the overlay's does.
 ///
 /// That it speaks of something: a context of an untrusted part halts with one trusted part and fails with
 /// another, so these are equivalent on neither machine.

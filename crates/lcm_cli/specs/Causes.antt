@@ -414,10 +414,10 @@ LinkedCame (what.Image name) old parts size new =
     (bytes : List ℕ) × ComesWhole old name LONGEST_FILE bytes new
     × (image_of bytes ≡ Ok (record { stack = size; parts = parts }))
 
--- the words or the image made parts that keep the rules, and this is the start that they link to. Its calls
--- are kept: each ret line closes the newest open call, whose range only its own return uses till then. Their
--- frames are secret: whatever is in them, the machine runs the same till then. Code outside is confined: it
--- touches nothing of a trusted part, and enters one at an export or a return point alone. And the start has
+-- the words or the image made parts that keep the rules, and this is the start that they link to. Code
+-- outside is confined: it touches nothing of a trusted part, and enters one at an export or a return point
+-- alone. Calls are kept: each ret line closes the newest open call, whose range only its own return uses till
+-- then. Their frames are secret: whatever is in them, the machine runs the same till then. And the start has
 -- the headline: the plain run agrees with the run of its overlay, its calls and returns are bracketed, and
 -- its frames are private.
 pub record Started (l : Linked) (old new : FilesSeen) : Type 0 where
@@ -427,9 +427,9 @@ pub record Started (l : Linked) (old new : FilesSeen) : Type 0 where
   pub keep : linked parts size ≡ Ok tt
   pub start : StartSeen
   pub linked_start : IsStartOf parts size start
+  pub confined : StartIsConfined parts size start
   pub calls : CallsAreKept start
   pub secret : FramesAreSecret start
-  pub confined : StartIsConfined parts size start
   pub headline : Headline start
 
 -- the parts of the start are what the plan makes of these bytes
@@ -455,16 +455,16 @@ pub record RunGiven (l : Linked) (steps : ℕ) (read : List (List ℕ)) (old : O
   pub kept_is : new.kept ≡ Some (plain steps from.start.state)
 
 -- the load of a seed links, and the plain run of its start gave the status, the text and the machine: its
--- totals where it halted, and else its end line. The start's calls are kept, its frames are secret, code
--- outside is confined, and it has the headline.
+-- totals where it halted, and else its end line. Of the start code outside is confined, calls are kept,
+-- frames are secret, and it has the headline.
 pub record LoadGiven (seed : ℕ) (old : Outside) (status : Status) (new : Outside) : Type 0 where
   pub image : ImageSeen
   pub made : load_image (load_of seed) ≡ Made image
   pub start : StartSeen
   pub linked_start : IsStartOf image.parts image.stack start
+  pub confined : StartIsConfined image.parts image.stack start
   pub calls : CallsAreKept start
   pub secret : FramesAreSecret start
-  pub confined : StartIsConfined image.parts image.stack start
   pub headline : Headline start
   pub status_is : status ≡ end_status (end_of (last_step (plain load_steps start.state)))
   pub written : Adds old.sink (totals_text (load_of seed) start load_steps) new.sink

@@ -304,12 +304,12 @@ pub fn stk_main<F: Files, S: Sink>(
     // Each clause below that speaks of what was read (`OfBytes`) holds of the bytes of whatever answer
     // explains the call, as `promised` has one. So all of them speak of the same bytes.
 
-    // What a run writes, answers and hands over, and what holds of its start. Its calls are kept: each ret
-    // line closes the newest open call, whose range only its own return uses till then. Their frames are
-    // secret: whatever is in them, the machine runs the same till then. Code outside is confined: it touches
-    // nothing of a trusted part, and enters one at an export or a return point alone. And the start has the
-    // headline: the plain machine agrees with the overlay, returns are bracketed, frames are private. The
-    // text passes an audit.
+    // What a run writes, answers and hands over, and what holds of its start. Code outside is confined: it
+    // touches nothing of a trusted part, and enters one at an export or a return point alone. Calls are kept:
+    // each ret line closes the newest open call, whose range only its own return uses till then. Their frames
+    // are secret: whatever is in them, the machine runs the same till then. And the start has the headline:
+    // the plain machine agrees with the overlay, returns are bracketed, frames are private. The text passes
+    // an audit.
     ensures ran { (l : Linked) (steps : ℕ)
         → asked_in (texts words.now.items) ≡ Some (Links l (link_deed.Run steps))
         → IsRunStatus result → OfBytes (RunGiven l steps) (asked_in (texts words.now.items))

@@ -5,7 +5,7 @@ use Rattle.component_linker.specs.Started.{StartSeen}
 use Rattle.component_linker.specs.LinkedStarts.{IsLinkedStart}
 use Rattle.confinement.specs.Confined.{Enters, AtExport, AtReturnPoint}
 
--- a start in whose run an instruction comes from outside, and the one behind it from a trusted part, first at
+-- a start in whose run an instruction comes from outside, and the one after it from a trusted part, first at
 -- an export of it, and later at a return point of a call that is open
 pub record EnteredThere : Type 0 where
   pub parts : List PartSeen

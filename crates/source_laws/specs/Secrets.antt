@@ -1,5 +1,5 @@
--- Code outside learns nothing from a source but its events: at each point of a run at which trusted code lets
--- go of control.
+-- Code outside learns nothing from a source but what its refined meaning tells: at each point of a run at
+-- which trusted code lets go of control.
 use Rattle.std.specs.Prelude.{◌≡◌, ℕ, ◌<◌, ◌≤◌, true, false, length, Option, Some}
 use Rattle.trusted_border.specs.declared.events.Event.TheVariants.{Left}
 use Rattle.overlay_machine.specs.Events.{step_event}

@@ -27,7 +27,7 @@ pub record AreSources (modules : List ModuleFields) (parts : List PartSeen) : Ty
 abbrev pub linked_at : List PartSeen → ℕ → StartSeen → Link
 linked_at parts size s = record { parts = placed parts size; size = size; layout = layout s }
 
--- code outside learns nothing from sources but their events, whatever it is
+-- code outside learns nothing from sources but what their refined meanings tell, whatever it is
 abbrev pub SourcesLeaveNothing : Type 0
 SourcesLeaveNothing =
     (modules : List ModuleFields) (parts : List PartSeen) (size : ℕ) (s : StartSeen) → IsStartOf parts size s

@@ -54,10 +54,10 @@ pub fn cuts_show()
 /// them.
 ///
 /// Let the plain run have made so many instructions, and take the events and items that its lines tell.
-/// At the cut point, the greatest matched point up to there: where code that isn't trusted runs, the meaning of these
-/// items waits, with these events; where trusted code runs, its events begin with these; and where the
-/// run has halted or failed from there, the meaning ends so, with these events and with the value of
-/// the run's a0. Each procedure that left gave an integer. The meaning spends a tick at least for each 200
+/// At the cut point, the greatest matched point up to there: where code that isn't trusted runs, the meaning
+/// of these items waits, with these events; where trusted code runs, its events begin with these; and where
+/// the run has halted or failed from there, the meaning ends so, with these events and with the value of the
+/// run's a0. Each procedure that left gave an integer. The meaning spends a tick at least for each 200
 /// instructions of the steps that began in trusted code.
 pub fn runs_mean()
     ensures { RunsMean }
@@ -68,7 +68,7 @@ pub fn runs_mean()
     cuts_show();
 }
 
-/// Code outside learns nothing from linked sources but their events.
+/// Code outside learns nothing from linked sources but what their refined meanings tell.
 ///
 /// Let the trusted parts of a link be the components of some modules, in their order. At each point of the
 /// overlay's run at which a step that began in trusted code arrives outside it, that step writes a `call out`
@@ -88,10 +88,10 @@ pub fn sources_leave_nothing()
 /// overlay's run from its start, under every large enough fuel, the refined meaning of the items that came in
 /// so far tells first what has left, and where code outside runs it tells no more: of each call the pair by
 /// which it goes, what each argument register holds, and where its frame begins; of each procedure that left
-/// the pair by which it went, the stack that it gave back, and the calls that are open. A pair of an import or
-/// of an own procedure is the one that stands in the part's data at the start, one that came from outside is
-/// that of the argument registers behind its item, what is given back is what was handed over with the item of
-/// the entry, and the calls that are open are those that were open there.
+/// the pair by which it went, the stack that it gave back, and the calls that are open. A pair of an import
+/// or of an own procedure is the one that stands in the part's data at the start, one that came from outside
+/// is that of the argument registers behind its item, what is given back is what was handed over with the
+/// item of the entry, and the calls that are open are those that were open there.
 pub fn sources_tell_words()
     ensures { SourcesTellWords }
 {
