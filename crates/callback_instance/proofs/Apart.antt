@@ -18,8 +18,8 @@ two_passers law alike = record {
   calls = calls;
   same = mean_the_same;
   ends = end_the_same;
-  apart = λ parts parts' size s s' is is' src src' b m e f u.
-      law (passes ∷ []) (stores ∷ []) parts parts' size s s' is is' src src' b m e f u (mean_the_same size);
+  apart = λ parts parts' size s s' is is' src src' b p u.
+      law (passes ∷ []) (stores ∷ []) parts parts' size s s' is is' src src' b p u (mean_the_same size);
   alike = λ parts parts' size s s' is is' src src' b.
       alike (passes ∷ []) (stores ∷ []) parts parts' size s s' is is' src src' b (mean_the_same size)
       (end_the_same size);

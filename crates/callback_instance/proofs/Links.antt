@@ -25,7 +25,7 @@ use Rattle.proc_templates.specs.Compiled.{exports_of, imports_of, component_of, 
 use Rattle.proc_templates.specs.Kept.{FitsComponent}
 use Rattle.proc_templates.proofs.Offers.{names_differ, limits_kept, keeps_flow}
 use Rattle.source_starts.specs.Sources.{AreSources, linked_at}
-use Rattle.context_laws.specs.Meanings.{AreBeside}
+use Rattle.context_laws.specs.Sources.{AreBeside}
 use Rattle.context_instance.proofs.Offers.{other, parts_of, main, Links, start, is_start_of, main_there}
 use Rattle.context_instance.proofs.Offers.{beside_of}
 use Rattle.callback_instance.specs.Passes.{passes, stores}
@@ -151,5 +151,4 @@ stores_main = main_there (compiled stores) 143 3 two_links
 
 pub beside : AreBeside (linked_at (parts_of (compiled passes)) 8 passes_start)
     (linked_at (parts_of (compiled stores)) 8 stores_start)
-beside = beside_of (compiled passes) (compiled stores) 137 2 143 3 one_links two_links (omega arith)
-    (omega arith) (omega arith) (omega arith)
+beside = beside_of (compiled passes) (compiled stores) 137 2 143 3 one_links two_links

@@ -5,7 +5,7 @@ use Rattle.component_linker.specs.Standing.{placed}
 use Rattle.component_linker.specs.Start.{Exported, main_of}
 use Rattle.component_linker.specs.Started.{StartSeen}
 use Rattle.component_linker.specs.LinkedStarts.{IsStartOf}
-use Rattle.overlay_machine.specs.Starting.{overlay_at}
+use Rattle.overlay_machine.specs.Link.{IsUntrusted}
 use Rattle.proc_language.specs.declared.tree.Name.{Name}
 use Rattle.proc_language.specs.declared.tree.Op.TheVariants.{Plus}
 use Rattle.proc_language.specs.declared.module.ModuleFields.{ModuleFields}
@@ -21,7 +21,8 @@ use Rattle.source_events.specs.declared.FeedPair.TheVariants as fed
 use Rattle.source_events.specs.declared.FeedBack.TheVariants as way
 use Rattle.proc_semantics.specs.Marked.{Event, Calls, Leaves, Number}
 use Rattle.source_starts.specs.Sources.{AreSources, linked_at}
-use Rattle.context_laws.specs.Meanings.{Came, observed, MeanTheSame, AreBeside, DoesTheSame}
+use Rattle.context_laws.specs.Sources.{AreBeside}
+use Rattle.context_laws.specs.Meanings.{Came, observed, MeanTheSame, DoesTheSame}
 use Rattle.context_laws.specs.Meanings as observing
 use Rattle.context_laws.specs.Ends.{EndTheSame, RunsEndAlike}
 
@@ -131,12 +132,9 @@ pub record TwoPassers : Type 0 where
   pub apart : (parts parts' : List PartSeen) (size : ℕ) (s s' : StartSeen) → IsStartOf parts size s
       → IsStartOf parts' size s' → AreSources (passes ∷ []) parts → AreSources (stores ∷ []) parts'
       → AreBeside (linked_at parts size s) (linked_at parts' size s')
-      → (m : Exported) → main_of (placed parts size) ≡ Some m → main_of (placed parts' size) ≡ Some m
-      → m.part.trusted ≡ false
-      → DoesTheSame (linked_at parts size s) (linked_at parts' size s') (overlay_at s).state
-      (overlay_at s').state
-      × DoesTheSame (linked_at parts' size s') (linked_at parts size s) (overlay_at s').state
-      (overlay_at s).state
+      → (p : PartSeen) → IsUntrusted (linked_at parts size s) p
+      → DoesTheSame (linked_at parts size s) (linked_at parts' size s') s s'
+      × DoesTheSame (linked_at parts' size s') (linked_at parts size s) s' s
   pub alike : (parts parts' : List PartSeen) (size : ℕ) (s s' : StartSeen) → IsStartOf parts size s
       → IsStartOf parts' size s' → AreSources (passes ∷ []) parts → AreSources (stores ∷ []) parts'
       → AreBeside (linked_at parts size s) (linked_at parts' size s') → RunsEndAlike s s'

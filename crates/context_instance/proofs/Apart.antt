@@ -17,8 +17,8 @@ two_ways law alike = record {
   differ = differ;
   same = mean_the_same;
   ends = end_the_same;
-  apart = λ parts parts' size s s' is is' src src' b m e f u.
-      law (sums ∷ []) (keeps ∷ []) parts parts' size s s' is is' src src' b m e f u (mean_the_same size);
+  apart = λ parts parts' size s s' is is' src src' b p u.
+      law (sums ∷ []) (keeps ∷ []) parts parts' size s s' is is' src src' b p u (mean_the_same size);
   alike = λ parts parts' size s s' is is' src src' b.
       alike (sums ∷ []) (keeps ∷ []) parts parts' size s s' is is' src src' b (mean_the_same size)
       (end_the_same size);

@@ -1,10 +1,8 @@
 -- The starts of both modules beside the adversary, and that they are beside each other.
-use Rattle.std.proofs.Common.{◌≡◌, ◌⊎◌, inl, inr, ◌↔◌, ℕ, zero, suc, ◌+◌, ◌-◌, ◌<◌, ◌≤◌, true, false, List}
+use Rattle.std.proofs.Common.{◌≡◌, inl, inr, ℕ, zero, suc, ◌+◌, ◌-◌, true, false, List}
 use Rattle.std.proofs.Common.{[], ◌∷◌, map, length, Some, None, Ok, refl, sym, ap, ◌∙◌, arith, subst, rules}
-use Rattle.std.proofs.Common.{leb-true}
-use Rattle.std.specs.Prelude.{slice_get, ◌&&◌, nat_le}
+use Rattle.std.specs.Prelude.{slice_get}
 use Rattle.std.specs.List.{Contains}
-use Rattle.std.proofs.lemmas.Bool.{and_parts, cases_lt, or_cases}
 use Rattle.std.proofs.lemmas.List.Sorted.{IsPermutation-refl}
 use Rattle.lcm_isa.specs.Numbers.{number_of}
 use Rattle.lcm_machine.specs.declared.cells.Span.{Span}
@@ -15,15 +13,14 @@ use Rattle.component_file.specs.declared.component.ComponentFields.{ComponentFie
 use Rattle.component_file.specs.Limits.{IsComponent}
 use Rattle.component_check.specs.Verdict.{NoneBroken, check_from}
 use Rattle.component_check.specs.Rules.{rules_c}
-use Rattle.call_sequence.specs.SequenceRuns.{IsOutsideRange}
 use Rattle.call_sequence.specs.Sequences.{call_code, return_code, entry_code}
 use Rattle.flow_check.specs.Verdict.{IsKept}
 use Rattle.component_linker.specs.Parts.{PartSeen, IsPart}
 use Rattle.component_linker.specs.Pairs.{NoneIsBroken, IsFirstBrokenIn, by_part}
 use Rattle.component_linker.specs.Links.{rules_l, rule_at, l10}
-use Rattle.component_linker.specs.Regions.{regions_of, region_span, stack_span, in_regions, in_region}
+use Rattle.component_linker.specs.Regions.{regions_of, region_span, stack_span}
 use Rattle.component_linker.specs.Standing.{placed}
-use Rattle.component_linker.specs.Start.{Exported, main_of, stack_base_of, start_cell, start_regs, IsStart}
+use Rattle.component_linker.specs.Start.{Exported, main_of, start_cell, start_regs, IsStart}
 use Rattle.component_linker.specs.Started.{StartSeen, Starts}
 use Rattle.component_linker.specs.Linked as linked
 use Rattle.component_linker.specs.LinkedStarts.{IsLinkedStart, IsStartOf}
@@ -31,15 +28,14 @@ use Rattle.component_linker.specs.Owners.{AreSites, IsSite}
 use Rattle.component_linker.specs.declared.owners.Site.{Site}
 use Rattle.component_linker.proofs.Offers.{first_broken_in, are_linked, filled, cells_filled, owners_of}
 use Rattle.component_linker.proofs.Offers.{owners_are, no_rule}
-use Rattle.overlay_machine.specs.Link.{Link, IsTrusted, ranges_of, regions}
-use Rattle.template_runs.specs.Public.{IsFreeAt}
+use Rattle.overlay_machine.specs.Link.{IsUntrusted}
 use Rattle.proc_names.specs.Names.{variable_named}
 use Rattle.proc_templates.specs.Items.{put, instrs}
 use Rattle.proc_templates.specs.Templates.{before_epilogue}
 use Rattle.proc_templates.specs.Compiled.{frame_of, laid_of, lay_proc, first_data, exports_of, imports_of}
 use Rattle.proc_templates.specs.Compiled.{component_of, compiled}
 use Rattle.source_starts.specs.Sources.{AreSources, linked_at}
-use Rattle.context_laws.specs.Meanings.{SameUntrusted, AreBeside}
+use Rattle.context_laws.specs.Sources.{AreBeside}
 use Rattle.context_instance.specs.Doubles.{sums, keeps}
 use Rattle.context_instance.proofs.Modules.{limits, limits_too, resolved, resolved_too}
 use Rattle.context_instance.proofs.Links.{other, parts_of, each_of, one_limits, two_limits, one_flow}
@@ -212,109 +208,19 @@ module _ (c : ComponentFields) (n d : ℕ) (is : Links c n d) where
   pub is_start_of : IsStartOf P 8 start
   is_start_of = subst (λ ps. IsLinkedStart ps 8 start) (sym placed_same) is_linked
 
-  -- ---- where it isn't free
+  -- the adversary alone is untrusted
+  other_there : IsUntrusted (linked_at P 8 start) other
+  other_there = (subst (λ ps. Contains ps other) (sym placed_same) (1, omega arith, refl), refl)
 
-  abbrev K : Link
-  K = linked_at P 8 start
-
-  abbrev one : PartSeen
-  one = record { component = c; trusted = true }
-
-  one_there : IsTrusted K one
-  one_there = (subst (λ ps. Contains ps one) (sym placed_same) (0, omega arith, refl), refl)
-
-  only_one : (p : PartSeen) → IsTrusted K p → one ≡ p
-  only_one p t = elim (contains_cases one (other ∷ []) p (subst (λ ps. Contains ps p) placed_same t.0))
-      as (λ _. one ≡ p) [
-        | inl e ↦ e
-        | inr m ↦ elim (contains_cases other [] p m) as (λ _. one ≡ p) [
-          | inl e ↦ absurd (let bad : false ≡ true = ap (λ (x : PartSeen). x.trusted) e ∙ t.1 in cc)
+  only_other : (p : PartSeen) → IsUntrusted (linked_at P 8 start) p → other ≡ p
+  only_other p u = elim (contains_cases (record { component = c; trusted = true }) (other ∷ []) p
+      (subst (λ ps. Contains ps p) placed_same u.0)) as (λ _. other ≡ p) [
+        | inl e ↦ absurd (let bad : true ≡ false = ap (λ (x : PartSeen). x.trusted) e ∙ u.1 in cc)
+        | inr m ↦ elim (contains_cases other [] p m) as (λ _. other ≡ p) [
+          | inl e ↦ e
           | inr k ↦ absurd (contains_none p k)
         ]
       ]
-
-  -- below the adversary there are the regions of the module alone
-  low : (a : ℕ) → a < 250 → in_regions a (regions_are n d) ≡ true
-      → ((1 ≤ a) × (a ≤ n)) ⊎ ((200 ≤ a) × (a ≤ 200 + d - 1))
-  low a lt e = elim (or_cases (in_region a (record { base = 1; end = n; linear = false })) _ e)
-      as (λ _. ((1 ≤ a) × (a ≤ n)) ⊎ ((200 ≤ a) × (a ≤ 200 + d - 1))) [
-        | inl x ↦ inl (bounds 1 n x)
-        | inr x ↦ elim (or_cases (in_region a (record { base = 200; end = 200 + d - 1; linear = false })) _ x)
-            as (λ _. ((1 ≤ a) × (a ≤ n)) ⊎ ((200 ≤ a) × (a ≤ 200 + d - 1))) [
-              | inl y ↦ inr (bounds 200 (200 + d - 1) y)
-              | inr y ↦ absurd (
-                  elim (or_cases (in_region a (record { base = 250; end = 258; linear = false })) _ y)
-                  as (λ _. ⊥) [
-                    | inl z ↦ (let b = (bounds 250 258 z).0 in omega (arith, b, lt))
-                    | inr z ↦
-                        elim (or_cases (in_region a (record { base = 262; end = 265; linear = false })) _ z)
-                        as (λ _. ⊥) [
-                          | inl w ↦ (let b = (bounds 262 265 w).0 in omega (arith, b, lt))
-                          | inr w ↦
-                              elim (or_cases (in_region a (record { base = 300; end = 307; linear = true })) _
-                              w)
-                              as (λ _. ⊥) [
-                                | inl v ↦ (let b = (bounds 300 307 v).0 in omega (arith, b, lt))
-                                | inr v ↦ cc
-                              ]
-                        ]
-                  ])
-            ]
-      ]
-    where
-      bounds : (l h : ℕ) → (nat_le l a && nat_le a h) ≡ true → (l ≤ a) × (a ≤ h)
-      bounds l h x = let k = and_parts (nat_le l a) (nat_le a h) x in (leb-true l a k.0, leb-true a h k.1)
-
-  pub high : n ≤ 199 → d ≤ 50 → (a : ℕ) → in_regions a (regions K) ≡ true → IsFreeAt K a ↔ (250 ≤ a)
-  high small few a e = (λ f. by_lt f, λ ge. (λ p t. code_out p t ge, λ p t. data_out p t ge))
-    where
-      here : in_regions a (regions_are n d) ≡ true
-      here = sym (ap (λ ps. in_regions a (regions_of ps 8)) placed_same ∙ ap (in_regions a) is.regions) ∙ e
-
-      cb : c.code_base ≡ 1
-      cb = is.code_base
-
-      db : c.data_base ≡ 200
-      db = is.data_base
-
-      cl : length c.code ≡ n
-      cl = is.code_long
-
-      dl : length c.data_words ≡ d
-      dl = is.data_long
-
-      in_code : (1 ≤ a) → a ≤ n → IsOutsideRange a c.code_base (c.code_base + length c.code - 1) → ⊥
-      in_code l h (inl x) = omega (arith, l, x, cb)
-      in_code l h (inr x) = omega (arith, h, x, cb, cl)
-
-      in_data : (200 ≤ a) → a ≤ 200 + d - 1 → IsOutsideRange a c.data_base
-          (c.data_base + length c.data_words - 1)
-          → ⊥
-      in_data l h (inl x) = omega (arith, l, x, db)
-      in_data l h (inr x) = omega (arith, h, x, db, dl)
-
-      by_lt : IsFreeAt K a → 250 ≤ a
-      by_lt f = elim (cases_lt a 250) as (λ _. 250 ≤ a) [
-        | inr ge ↦ ge
-        | inl lt ↦ elim (low a lt here) as (λ _. 250 ≤ a) [
-          | inl x ↦ absurd (in_code x.0 x.1 (f.0 one one_there))
-          | inr x ↦ absurd (in_data x.0 x.1 (f.1 one one_there))
-        ]
-      ]
-
-      code_out : (p : PartSeen) → IsTrusted K p → 250 ≤ a
-          → IsOutsideRange a (ranges_of p).code_base (ranges_of p).code_last
-      code_out p t ge =
-          subst (λ (q : PartSeen). IsOutsideRange a (ranges_of q).code_base (ranges_of q).code_last)
-          (only_one p t)
-          (inr (omega (arith, ge, cb, cl, small)))
-
-      data_out : (p : PartSeen) → IsTrusted K p → 250 ≤ a
-          → IsOutsideRange a (ranges_of p).data_base (ranges_of p).data_last
-      data_out p t ge =
-          subst (λ (q : PartSeen). IsOutsideRange a (ranges_of q).data_base (ranges_of q).data_last)
-          (only_one p t)
-          (inr (omega (arith, ge, db, dl, few)))
 
 -- ---- both
 
@@ -340,22 +246,15 @@ keeps_sources = record { limits = (limits_too, tt); resolved = (resolved_too, tt
 pub main_there : (c : ComponentFields) (n d : ℕ) → Links c n d → main_of (placed (parts_of c) 8) ≡ Some main
 main_there c n d is = ap main_of (placed_same c n d is) ∙ is.main_is
 
-same_places : (c e : ComponentFields) → SameUntrusted (parts_of c) (parts_of e)
-same_places c e = (inr (refl, refl), (inl (refl, refl), tt))
-
-pub beside_of : (c e : ComponentFields) (n d k l : ℕ) (is : Links c n d) (are : Links e k l) → n ≤ 199
-    → d ≤ 50 → k ≤ 199 → l ≤ 50
+-- and is what is untrusted in both
+pub beside_of : (c e : ComponentFields) (n d k l : ℕ) (is : Links c n d) (are : Links e k l)
     → AreBeside (linked_at (parts_of c) 8 (start c n d is)) (linked_at (parts_of e) 8 (start e k l are))
-beside_of c e n d k l is are small few small_too few_too = record {
-  places = subst (λ ps. SameUntrusted ps (placed (parts_of e) 8)) (sym (placed_same c n d is))
-      (subst (SameUntrusted (parts_of c)) (sym (placed_same e k l are)) (same_places c e));
-  stack = ap stack_base_of (placed_same c n d is) ∙ is.stack_base ∙ sym are.stack_base
-      ∙ sym (ap stack_base_of (placed_same e k l are));
-  free = λ a r t. (
-      let x = high c n d is small few a r in
-      let y = high e k l are small_too few_too a t in
-      (λ f. y.1 (x.0 f), λ f. x.1 (y.0 f)));
-}
+beside_of c e n d k l is are p = (
+  λ u. subst (IsUntrusted (linked_at (parts_of e) 8 (start e k l are))) (only_other c n d is p u)
+      (other_there e k l are),
+  λ u. subst (IsUntrusted (linked_at (parts_of c) 8 (start c n d is))) (only_other e k l are p u)
+      (other_there c n d is),
+)
 
 pub sums_main : main_of (placed (parts_of (compiled sums)) 8) ≡ Some main
 sums_main = main_there (compiled sums) 71 2 one_links
@@ -365,5 +264,4 @@ keeps_main = main_there (compiled keeps) 109 3 two_links
 
 pub beside : AreBeside (linked_at (parts_of (compiled sums)) 8 sums_start)
     (linked_at (parts_of (compiled keeps)) 8 keeps_start)
-beside = beside_of (compiled sums) (compiled keeps) 71 2 109 3 one_links two_links (omega arith) (omega arith)
-    (omega arith) (omega arith)
+beside = beside_of (compiled sums) (compiled keeps) 71 2 109 3 one_links two_links

@@ -5,7 +5,7 @@ use Rattle.component_linker.specs.Standing.{placed}
 use Rattle.component_linker.specs.Start.{Exported, main_of}
 use Rattle.component_linker.specs.Started.{StartSeen}
 use Rattle.component_linker.specs.LinkedStarts.{IsStartOf}
-use Rattle.overlay_machine.specs.Starting.{overlay_at}
+use Rattle.overlay_machine.specs.Link.{IsUntrusted}
 use Rattle.proc_language.specs.declared.tree.Name.{Name}
 use Rattle.proc_language.specs.declared.tree.Op.TheVariants.{Plus, Equal}
 use Rattle.proc_language.specs.declared.module.ModuleFields.{ModuleFields}
@@ -15,7 +15,8 @@ use Rattle.proc_names.specs.NameFaults.{name_faults}
 use Rattle.proc_program.specs.Lower.{part_of}
 use Rattle.proc_templates.specs.Compiled.{compiled}
 use Rattle.source_starts.specs.Sources.{AreSources, linked_at}
-use Rattle.context_laws.specs.Meanings.{MeanTheSame, AreBeside, DoesTheSame}
+use Rattle.context_laws.specs.Sources.{AreBeside}
+use Rattle.context_laws.specs.Meanings.{MeanTheSame, DoesTheSame}
 use Rattle.context_laws.specs.Ends.{EndTheSame, RunsEndAlike}
 
 abbrev pub named : ℕ → Name
@@ -116,12 +117,9 @@ pub record TwoWays : Type 0 where
   pub apart : (parts parts' : List PartSeen) (size : ℕ) (s s' : StartSeen) → IsStartOf parts size s
       → IsStartOf parts' size s' → AreSources (sums ∷ []) parts → AreSources (keeps ∷ []) parts'
       → AreBeside (linked_at parts size s) (linked_at parts' size s')
-      → (m : Exported) → main_of (placed parts size) ≡ Some m → main_of (placed parts' size) ≡ Some m
-      → m.part.trusted ≡ false
-      → DoesTheSame (linked_at parts size s) (linked_at parts' size s') (overlay_at s).state
-      (overlay_at s').state
-      × DoesTheSame (linked_at parts' size s') (linked_at parts size s) (overlay_at s').state
-      (overlay_at s).state
+      → (p : PartSeen) → IsUntrusted (linked_at parts size s) p
+      → DoesTheSame (linked_at parts size s) (linked_at parts' size s') s s'
+      × DoesTheSame (linked_at parts' size s') (linked_at parts size s) s' s
   pub alike : (parts parts' : List PartSeen) (size : ℕ) (s s' : StartSeen) → IsStartOf parts size s
       → IsStartOf parts' size s' → AreSources (sums ∷ []) parts → AreSources (keeps ∷ []) parts'
       → AreBeside (linked_at parts size s) (linked_at parts' size s') → RunsEndAlike s s'

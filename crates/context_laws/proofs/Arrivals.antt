@@ -28,9 +28,8 @@ use Rattle.source_starts.specs.Words.{slots, SourcesTellWords}
 use Rattle.source_starts.specs.Wiped.{WipedCellsAreTold}
 use Rattle.context_laws.specs.Related.{SameNames, Calls}
 use Rattle.context_laws.specs.Lockstep.{Round, SameCrossing, by_call, by_leave, SameWiped, Holds, Tidies}
-use Rattle.context_laws.specs.Sources.{SamePlaces, IsFirst}
-use Rattle.context_laws.specs.Meanings.{name_of, MeanTheSame, GoByNames, GoesInStep, AreBeside, LetsGoToo}
-use Rattle.context_laws.specs.Meanings.{SameMeaningsLetGo}
+use Rattle.context_laws.specs.Sources.{AreBeside, ImportTheSame, IsFirst}
+use Rattle.context_laws.specs.Meanings.{name_of, MeanTheSame, GoByNames, GoesInStep}
 use Rattle.context_laws.proofs.Counts.{until_reached}
 use Rattle.context_laws.proofs.Whole.{runs_outside}
 use Rattle.context_laws.proofs.Sources.{StartsAgree, linked_is, holds_is, tidies_is}
@@ -42,8 +41,6 @@ use Rattle.context_laws.proofs.Naming.{IsNamed, is_named, named_same}
 use Rattle.context_laws.proofs.Progress.{tells_of, goes_out, TellsMore}
 use Rattle.context_laws.proofs.Crossing.{crossed}
 use Rattle.context_laws.proofs.Rounds.{RoundTold, round_told}
-use Rattle.context_laws.proofs.Beside.{beside_by_names}
-use Rattle.context_laws.proofs.Apart.{mean_back, beside_back}
 use Rattle.context_laws.proofs.Meanings.{SourcesMeanAll, observed_at, told_too, wiped_same, same_ends}
 use Rattle.context_laws.proofs.Meanings.{all_behind, calls_behind, Point, go_in_step}
 
@@ -53,8 +50,8 @@ module _ (begin : StartsBegin) (agree : StartsAgree) (leaves : SourcesLeaveNothi
     (is : IsStartOf parts size s) (is' : IsStartOf parts' size s') (src : AreSources modules parts)
     (src' : AreSources modules' parts')
     (names : SameNames (linked_at parts size s) (linked_at parts' size s')) (by_names : GoByNames names)
-    (places : SamePlaces names (placed parts size) (placed parts' size) (placed parts size)
-    (placed parts' size)) (same : MeanTheSame (map part_of modules) (map part_of modules') size)
+    (beside : AreBeside (linked_at parts size s) (linked_at parts' size s'))
+    (imports : ImportTheSame names) (same : MeanTheSame (map part_of modules) (map part_of modules') size)
     (inside' : is_inside (layout s') (overlay_at s').state ≡ true) where
   abbrev G : Link
   G = linked_at parts size s
@@ -238,7 +235,7 @@ module _ (begin : StartsBegin) (agree : StartsAgree) (leaves : SourcesLeaveNothi
       wiped =
           wiped_same begin agree leaves words wipes means modules modules' parts parts' size s s' is is' src
           src' names
-          by_names same [] A B (start_cells_alike begin parts parts' size size s s' is is' names places) ga gb
+          by_names same [] A B (start_cells_alike begin parts parts' size size s s' is is' names beside imports) ga gb
           told.wiped.low told_b.wiped.low told.wiped.wiped told_b.wiped.wiped lows
           (same_ends begin agree leaves words wipes means modules modules' parts parts' size s s' is is' src
           src' names
@@ -252,7 +249,7 @@ module _ (begin : StartsBegin) (agree : StartsAgree) (leaves : SourcesLeaveNothi
           by_names same cross.0 after B.after
       point =
           let al = first_alike begin agree leaves modules modules' parts parts' size size s s' is is' src src'
-          names places
+          names beside imports
           A B fa fb cross.0 cross.1 wiped in
           record {
             es = told.shown ∷ [];
@@ -315,30 +312,3 @@ module _ (begin : StartsBegin) (agree : StartsAgree) (leaves : SourcesLeaveNothi
         gone = fa.gone;
       }) in
       (x.0, x.1, x.2, crossing_of a O O x.0 x.2 x.3, x.4)
-
-module _ (begin : StartsBegin) (agree : StartsAgree) (leaves : SourcesLeaveNothing) (words : SourcesTellWords)
-    (wipes : WipedCellsAreTold) (means : SourcesMeanAll) where
-  one_way : (modules modules' : List ModuleFields) (parts parts' : List PartSeen) (size : ℕ)
-      (s s' : StartSeen)
-      → IsStartOf parts size s → IsStartOf parts' size s' → AreSources modules parts
-      → AreSources modules' parts' → AreBeside (linked_at parts size s) (linked_at parts' size s')
-      → is_inside (layout s') (overlay_at s').state ≡ true
-      → MeanTheSame (map part_of modules) (map part_of modules') size
-      → LetsGoToo (linked_at parts size s) (linked_at parts' size s') s s'
-  one_way modules modules' parts parts' size s s' is is' src src' beside i same =
-      let b = beside_by_names begin agree leaves modules modules' parts parts' size s s' is is' src src'
-      beside in (
-        b.0,
-        b.1,
-        lets_go_too begin agree leaves words wipes means modules modules' parts parts' size s s' is is' src
-            src' b.0 b.1
-            b.2 same i,
-      )
-
-  pub let_go : SameMeaningsLetGo
-  let_go modules modules' parts parts' size s s' is is' src src' beside i i' same = (
-    one_way modules modules' parts parts' size s s' is is' src src' beside i' same,
-    one_way modules' modules parts' parts size s' s is' is src' src
-        (beside_back (linked_at parts size s) (linked_at parts' size s') beside) i
-        (mean_back (map part_of modules) (map part_of modules') size same),
-  )

@@ -24,8 +24,6 @@ use Rattle.overlay_machine.specs.Linked.{Linked}
 use Rattle.overlay_machine.specs.Names.{NamesTold, SiteTold}
 use Rattle.overlay_machine.specs.Safe.{IsOpenSeal}
 use Rattle.lcm_machine.specs.declared.cells.Span.{Span}
-use Rattle.component_linker.specs.Regions.{stack_span, is_stack_size, addresses}
-use Rattle.component_linker.specs.Start.{stack_base_of}
 use Rattle.overlay_machine.specs.Starting.{StartsBegin}
 use Rattle.source_starts.specs.Sources.{SourcesLeaveNothing, AreSources, linked_at}
 use Rattle.context_laws.proofs.Sources.{StartsAgree, linked_is}
@@ -39,9 +37,9 @@ use Rattle.proc_program.specs.Lower.{part_of}
 use Rattle.source_starts.proofs.Offers.{aligned, home_of, NamesApart, names_apart, names_same, same_names}
 use Rattle.source_starts.proofs.Offers.{same_part, imported_names, Names, one_offset, data_in, proc_of}
 use Rattle.context_laws.specs.Related.{SameNames, IsExport}
-use Rattle.context_laws.specs.Sources.{SameImported, SamePlaces}
-use Rattle.context_laws.specs.Meanings.{GoByNames, IsSameSite, told_name, export_name, SameUntrusted}
-use Rattle.context_laws.specs.Meanings.{AreBeside}
+use Rattle.context_laws.specs.Sources.{AreBeside, SameImported, ImportTheSame}
+use Rattle.context_laws.specs.Meanings.{GoByNames, IsSameSite, told_name, export_name}
+use Rattle.context_laws.proofs.Around.{free_too}
 use Rattle.context_laws.proofs.Itself.{all_of, in_all, of_all}
 use Rattle.context_laws.proofs.Told.{entry}
 
@@ -282,30 +280,6 @@ found_export parts i x e = by_part (part_named parts i.part) refl e
     by_part (Some p) f e = by_export p (find (λ (e : Export). same_name e.name i.name) p.component.exports)
         refl e
 
--- an untrusted part of the one stands in the other
-stands_too : (ps qs : List PartSeen) → SameUntrusted ps qs → (p : PartSeen) → Contains ps p
-    → p.trusted ≡ false → Contains qs p
-stands_too [] qs s p c u = absurd (contains_none p c)
-stands_too (x ∷ ps) [] s p c u = absurd s
-stands_too (x ∷ ps) (y ∷ qs) s p c u = elim (contains_cases x ps p c) as (λ _. Contains (y ∷ qs) p) [
-  | inr m ↦ contains_rest y p qs (stands_too ps qs s.1 p m u)
-  | inl e ↦ elim s.0 as (λ _. Contains (y ∷ qs) p) [
-    | inl k ↦ subst (λ z. Contains (y ∷ qs) z) (sym k.0 ∙ e) (contains_first y qs)
-    | inr k ↦ absurd (let bad : true ≡ false = sym k.0 ∙ ap (λ (z : PartSeen). z.trusted) e ∙ u in cc)
-  ]
-]
-
-pub turned : (ps qs : List PartSeen) → SameUntrusted ps qs → SameUntrusted qs ps
-turned [] [] s = tt
-turned [] (q ∷ qs) s = absurd s
-turned (p ∷ ps) [] s = absurd s
-turned (p ∷ ps) (q ∷ qs) s = (by s.0, turned ps qs s.1)
-  where
-    by : ((p ≡ q) × (p.trusted ≡ false)) ⊎ ((p.trusted ≡ true) × (q.trusted ≡ true))
-        → ((q ≡ p) × (q.trusted ≡ false)) ⊎ ((q.trusted ≡ true) × (p.trusted ≡ true))
-    by (inl k) = inl (sym k.0, sym (ap (λ (z : PartSeen). z.trusted) k.0) ∙ k.1)
-    by (inr k) = inr (k.1, k.0)
-
 -- ---- the names
 
 abbrev same_names_of : Exported → Exported → Bool
@@ -321,198 +295,173 @@ module _ (begin : StartsBegin) (agree : StartsAgree) (leaves : SourcesLeaveNothi
     (modules modules' : List ModuleFields) (parts parts' : List PartSeen) (size : ℕ) (s s' : StartSeen)
     (is : IsStartOf parts size s) (is' : IsStartOf parts' size s') (src : AreSources modules parts)
     (src' : AreSources modules' parts')
-    (beside : AreBeside (linked_at parts size s) (linked_at parts' size s')) where
-  abbrev G : Link
-  G = linked_at parts size s
+    (beside : AreBeside (linked_at parts size s) (linked_at parts' size s')) (stacks : s.stack ≡ s'.stack)
+  where
+    abbrev G : Link
+    G = linked_at parts size s
 
-  abbrev H : Link
-  H = linked_at parts' size s'
+    abbrev H : Link
+    H = linked_at parts' size s'
 
-  lg : Linked G
-  lg = linked_is begin agree leaves parts size s is
+    lg : Linked G
+    lg = linked_is begin agree leaves parts size s is
 
-  lh : Linked H
-  lh = linked_is begin agree leaves parts' size s' is'
+    lh : Linked H
+    lh = linked_is begin agree leaves parts' size s' is'
 
-  abbrev Twins : List (Exported × Exported)
-  Twins = paired same_names_of (all_of G.parts) (all_of H.parts)
+    abbrev Twins : List (Exported × Exported)
+    Twins = paired same_names_of (all_of G.parts) (all_of H.parts)
 
-  abbrev Sites : List (ℕ × ℕ)
-  Sites = paired (same_site (layout s) (layout s')) (below (length s.sites)) (below (length s'.sites))
+    abbrev Sites : List (ℕ × ℕ)
+    Sites = paired (same_site (layout s) (layout s')) (below (length s.sites)) (below (length s'.sites))
 
-  twin_is : (x y : Exported) → Contains Twins (x, y) → IsExport G x × IsExport H y
-      × (x.part.component.name ≡ y.part.component.name) × (x.export.name ≡ y.export.name)
-  twin_is x y c =
-      let k = of_paired same_names_of (all_of G.parts) (all_of H.parts) (x, y) c in
-      let t = and_parts _ _ k.2 in (
-        of_all G.parts x k.0,
-        of_all H.parts y k.1,
-        same_names _ _ t.0,
-        same_names _ _ t.1,
-      )
+    twin_is : (x y : Exported) → Contains Twins (x, y) → IsExport G x × IsExport H y
+        × (x.part.component.name ≡ y.part.component.name) × (x.export.name ≡ y.export.name)
+    twin_is x y c =
+        let k = of_paired same_names_of (all_of G.parts) (all_of H.parts) (x, y) c in
+        let t = and_parts _ _ k.2 in (
+          of_all G.parts x k.0,
+          of_all H.parts y k.1,
+          same_names _ _ t.0,
+          same_names _ _ t.1,
+        )
 
-  in_twins : (x y : Exported) → IsExport G x → IsExport H y → x.part.component.name ≡ y.part.component.name
-      → x.export.name ≡ y.export.name → Contains Twins (x, y)
-  in_twins x y ix iy en ee =
-      in_paired same_names_of (all_of G.parts) (all_of H.parts) x y (in_all G.parts x ix.0.0 ix.0.1 ix.1)
-      (in_all H.parts y iy.0.0 iy.0.1 iy.1)
-      (rw (en, ee, names_same y.part.component.name, names_same y.export.name) refl)
+    in_twins : (x y : Exported) → IsExport G x → IsExport H y → x.part.component.name ≡ y.part.component.name
+        → x.export.name ≡ y.export.name → Contains Twins (x, y)
+    in_twins x y ix iy en ee =
+        in_paired same_names_of (all_of G.parts) (all_of H.parts) x y (in_all G.parts x ix.0.0 ix.0.1 ix.1)
+        (in_all H.parts y iy.0.0 iy.0.1 iy.1)
+        (rw (en, ee, names_same y.part.component.name, names_same y.export.name) refl)
 
-  sites_are : (i j : ℕ) → Contains Sites (i, j) → (i < length s.sites) × (j < length s'.sites)
-      × IsSameSite (layout s) (layout s') i j
-  sites_are i j c =
-      let k = of_paired (same_site (layout s) (layout s')) (below (length s.sites)) (below (length s'.sites))
-      (i, j) c in
-      let t = and_parts _ _ k.2 in (
-        of_below (length s.sites) i k.0,
-        of_below (length s'.sites) j k.1,
-        (same_names _ _ t.0, eqb-true _ _ t.1),
-      )
+    sites_are : (i j : ℕ) → Contains Sites (i, j) → (i < length s.sites) × (j < length s'.sites)
+        × IsSameSite (layout s) (layout s') i j
+    sites_are i j c =
+        let k = of_paired (same_site (layout s) (layout s')) (below (length s.sites)) (below (length s'.sites))
+        (i, j) c in
+        let t = and_parts _ _ k.2 in (
+          of_below (length s.sites) i k.0,
+          of_below (length s'.sites) j k.1,
+          (same_names _ _ t.0, eqb-true _ _ t.1),
+        )
 
-  at_g : (i : ℕ) → i < length s.sites → SiteAt modules parts size s is src lg i
-  at_g i lt = site_listed modules parts size s is src lg i lt
+    at_g : (i : ℕ) → i < length s.sites → SiteAt modules parts size s is src lg i
+    at_g i lt = site_listed modules parts size s is src lg i lt
 
-  at_h : (j : ℕ) → j < length s'.sites → SiteAt modules' parts' size s' is' src' lh j
-  at_h j lt = site_listed modules' parts' size s' is' src' lh j lt
+    at_h : (j : ℕ) → j < length s'.sites → SiteAt modules' parts' size s' is' src' lh j
+    at_h j lt = site_listed modules' parts' size s' is' src' lh j lt
 
-  open_too : (n : ℕ) → IsOpenSeal G n → IsOpenSeal H n
-  open_too n k = (k.0, (stands_too G.parts H.parts beside.places k.0 k.1.0 k.1.1, k.1.1), k.2)
+    open_too : (n : ℕ) → IsOpenSeal G n → IsOpenSeal H n
+    open_too n k = (k.0, (beside k.0).0 k.1, k.2)
 
-  open_back : (n : ℕ) → IsOpenSeal H n → IsOpenSeal G n
-  open_back n k = (
-    k.0,
-    (stands_too H.parts G.parts (turned G.parts H.parts beside.places) k.0 k.1.0 k.1.1, k.1.1),
-    k.2,
-  )
+    open_back : (n : ℕ) → IsOpenSeal H n → IsOpenSeal G n
+    open_back n k = (k.0, (beside k.0).1 k.1, k.2)
 
-  stack_of : (ps : List PartSeen) (sp : Span) → stack_span ps size ≡ Some sp → stack_base_of ps ≡ sp.base
-  stack_of [] sp e = absurd cc
-  stack_of (p ∷ ps) sp e = by (is_stack_size size) (size == 0) e
-    where
-      by : (b c : Bool)
-          → (if b then (if c then None else Some (addresses p.component.stack_base size)) else None) ≡ Some sp
-          → p.component.stack_base ≡ sp.base
-      by true true e = absurd cc
-      by true false e =
-          (let k : addresses p.component.stack_base size ≡ sp = cc in ap (λ (z : Span). z.base) k)
-      by false c e = absurd cc
+    pub by_name : SameNames G H
+    by_name = record {
+      twins = Twins;
+      sites = Sites;
+      exports = λ x y c. (let t = twin_is x y c in (t.0, t.1));
+      one_part = λ x y u v c d. (
+          let t = twin_is x y c in
+          let w = twin_is u v d in (
+            λ e. one_name modules' parts' size s' is' src' lh y.part v.part t.1.0.0 w.1.0.0
+                (sym t.2 ∙ ap (λ (p : PartSeen). p.component.name) e ∙ w.2),
+            λ e. one_name modules parts size s is src lg x.part u.part t.0.0.0 w.0.0.0
+                (t.2 ∙ ap (λ (p : PartSeen). p.component.name) e ∙ sym w.2),
+          ));
+      one_site = λ i j k m c d. (
+          let a = sites_are i j c in
+          let b = sites_are k m d in (
+            λ e. one_site modules' parts' size s' is' src' lh j m (at_h j a.1) (at_h m b.1)
+                (sym a.2.0 ∙ ap (λ z. part_name (layout s) (site_of (layout s) z).part) e ∙ b.2.0)
+                (sym a.2.1 ∙ ap (λ z. (site_of (layout s) z).index) e ∙ b.2.1),
+            λ e. one_site modules parts size s is src lg i k (at_g i a.0) (at_g k b.0)
+                (a.2.0 ∙ ap (λ z. part_name (layout s') (site_of (layout s') z).part) e ∙ sym b.2.0)
+                (a.2.1 ∙ ap (λ z. (site_of (layout s') z).index) e ∙ sym b.2.1),
+          ));
+      free = λ a r t. free_too G H lg lh beside stacks a r;
+      seals = λ n. (open_too n, open_back n);
+      stack = ap (λ (t : Span). t.base) stacks;
+    }
 
-  pub by_name : SameNames G H
-  by_name = record {
-    twins = Twins;
-    sites = Sites;
-    exports = λ x y c. (let t = twin_is x y c in (t.0, t.1));
-    one_part = λ x y u v c d. (
-        let t = twin_is x y c in
-        let w = twin_is u v d in (
-          λ e. one_name modules' parts' size s' is' src' lh y.part v.part t.1.0.0 w.1.0.0
-              (sym t.2 ∙ ap (λ (p : PartSeen). p.component.name) e ∙ w.2),
-          λ e. one_name modules parts size s is src lg x.part u.part t.0.0.0 w.0.0.0
-              (t.2 ∙ ap (λ (p : PartSeen). p.component.name) e ∙ sym w.2),
-        ));
-    one_site = λ i j k m c d. (
-        let a = sites_are i j c in
-        let b = sites_are k m d in (
-          λ e. one_site modules' parts' size s' is' src' lh j m (at_h j a.1) (at_h m b.1)
-              (sym a.2.0 ∙ ap (λ z. part_name (layout s) (site_of (layout s) z).part) e ∙ b.2.0)
-              (sym a.2.1 ∙ ap (λ z. (site_of (layout s) z).index) e ∙ b.2.1),
-          λ e. one_site modules parts size s is src lg i k (at_g i a.0) (at_g k b.0)
-              (a.2.0 ∙ ap (λ z. part_name (layout s') (site_of (layout s') z).part) e ∙ sym b.2.0)
-              (a.2.1 ∙ ap (λ z. (site_of (layout s') z).index) e ∙ sym b.2.1),
-        ));
-    free = λ a r t. (beside.free a r t).0;
-    seals = λ n. (open_too n, open_back n);
-    stack = sym (stack_of G.parts s.stack lg.stack) ∙ beside.stack ∙ stack_of H.parts s'.stack lh.stack;
-  }
+    -- what one name names in both
+    same_imported : (i : Import) (x y : Exported) → imported G.parts i ≡ Some x → imported H.parts i ≡ Some y
+        → SameImported by_name (Some x) (Some y)
+    unfolding by_name
+    same_imported i x y e f = by x.part.trusted y.part.trusted refl refl
+      where
+        nx : Names G.parts i x
+        nx = imported_names G.parts i x e
 
-  -- what one name names in both
-  same_imported : (i : Import) (x y : Exported) → imported G.parts i ≡ Some x → imported H.parts i ≡ Some y
-      → SameImported by_name (Some x) (Some y)
-  unfolding by_name
-  same_imported i x y e f = by x.part.trusted y.part.trusted refl refl
-    where
-      nx : Names G.parts i x
-      nx = imported_names G.parts i x e
+        ny : Names H.parts i y
+        ny = imported_names H.parts i y f
 
-      ny : Names H.parts i y
-      ny = imported_names H.parts i y f
+        parts_same : x.part.component.name ≡ y.part.component.name
+        parts_same = nx.part ∙ sym ny.part
 
-      parts_same : x.part.component.name ≡ y.part.component.name
-      parts_same = nx.part ∙ sym ny.part
+        mx : Contains G.parts x.part
+        mx = listed_at G.parts nx.there.index x.part nx.there.at
 
-      mx : Contains G.parts x.part
-      mx = listed_at G.parts nx.there.index x.part nx.there.at
+        my : Contains H.parts y.part
+        my = listed_at H.parts ny.there.index y.part ny.there.at
 
-      my : Contains H.parts y.part
-      my = listed_at H.parts ny.there.index y.part ny.there.at
+        one : x.part ≡ y.part → x ≡ y
+        one p =
+            let k : Some x ≡ Some y = sym (found_export G.parts i x e)
+            ∙ ap (export_that (λ (e : Export). same_name e.name i.name)) p ∙ found_export H.parts i y f in
+            cc
 
-      one : x.part ≡ y.part → x ≡ y
-      one p =
-          let k : Some x ≡ Some y = sym (found_export G.parts i x e)
-          ∙ ap (export_that (λ (e : Export). same_name e.name i.name)) p ∙ found_export H.parts i y f in
-          cc
+        by : (b c : Bool) → x.part.trusted ≡ b → y.part.trusted ≡ c → SameImported by_name (Some x) (Some y)
+        by true true t u = inr (in_twins x y ((mx, t), nx.there.listed) ((my, u), ny.there.listed) parts_same
+            (nx.name ∙ sym ny.name))
+        by false c t u =
+            inl (
+              one (one_name modules' parts' size s' is' src' lh x.part y.part
+                  ((beside x.part).0 (mx, t)).0 my parts_same),
+              t,
+            )
+        by true false t u =
+            let k = one_name modules parts size s is src lg x.part y.part mx
+            ((beside y.part).1 (my, u)).0 parts_same in
+            absurd (let bad : true ≡ false = sym t ∙ ap (λ (z : PartSeen). z.trusted) k ∙ u in cc)
 
-      by : (b c : Bool) → x.part.trusted ≡ b → y.part.trusted ≡ c → SameImported by_name (Some x) (Some y)
-      by true true t u = inr (in_twins x y ((mx, t), nx.there.listed) ((my, u), ny.there.listed) parts_same
-          (nx.name ∙ sym ny.name))
-      by false c t u =
-          inl (
-            one (one_name modules' parts' size s' is' src' lh x.part y.part
-                (stands_too G.parts H.parts beside.places x.part mx t) my parts_same),
-            t,
-          )
-      by true false t u =
-          let k = one_name modules parts size s is src lg x.part y.part mx
-          (stands_too H.parts G.parts (turned G.parts H.parts beside.places) y.part my u) parts_same in
-          absurd (let bad : true ≡ false = sym t ∙ ap (λ (z : PartSeen). z.trusted) k ∙ u in cc)
+    go_by_names : GoByNames by_name
+    unfolding by_name
+    go_by_names = record {
+      exports = same_imported;
+      twins = λ x y c. (
+          let t = twin_is x y c in (
+            t.2,
+            told_is modules parts size s is src lg x t.0 ∙ t.3
+                ∙ sym (told_is modules' parts' size s' is' src' lh y t.1),
+          ));
+      sites = λ i j c. (sites_are i j c).2;
+      all_sites = λ i j a b e f k.
+          in_paired (same_site (layout s) (layout s')) (below (length s.sites)) (below (length s'.sites)) i j
+          (in_below (length s.sites) i (site_below modules parts size s is src lg i a e))
+          (in_below (length s'.sites) j (site_below modules' parts' size s' is' src' lh j b f))
+          (rw (
+            k.0,
+            k.1,
+            names_same (part_name (layout s') (site_of (layout s') j).part),
+            eq-eqb (site_of (layout s') j).index (site_of (layout s') j).index refl,
+          ) refl);
+    }
 
-  go_by_names : GoByNames by_name
-  unfolding by_name
-  go_by_names = record {
-    exports = same_imported;
-    twins = λ x y c. (
-        let t = twin_is x y c in (
-          t.2,
-          told_is modules parts size s is src lg x t.0 ∙ t.3
-              ∙ sym (told_is modules' parts' size s' is' src' lh y t.1),
-        ));
-    sites = λ i j c. (sites_are i j c).2;
-    all_sites = λ i j a b e f k.
-        in_paired (same_site (layout s) (layout s')) (below (length s.sites)) (below (length s'.sites)) i j
-        (in_below (length s.sites) i (site_below modules parts size s is src lg i a e))
-        (in_below (length s'.sites) j (site_below modules' parts' size s' is' src' lh j b f))
-        (rw (
-          k.0,
-          k.1,
-          names_same (part_name (layout s') (site_of (layout s') j).part),
-          eq-eqb (site_of (layout s') j).index (site_of (layout s') j).index refl,
-        ) refl);
-  }
+    pub beside_by_names : (names : SameNames G H) × GoByNames names
+    beside_by_names = (by_name, go_by_names)
 
-  places : (ps qs : List PartSeen) → ((p : PartSeen) → Contains ps p → Contains G.parts p)
-      → SameUntrusted ps qs → SamePlaces by_name G.parts H.parts ps qs
-  places [] [] m k = tt
-  places [] (q ∷ qs) m k = absurd k
-  places (p ∷ ps) [] m k = absurd k
-  places (p ∷ ps) (q ∷ qs) m k = (by k.0, places ps qs (λ x c. m x (contains_rest p x ps c)) k.1)
-    where
-      imports : p.trusted ≡ false → (i : Import) → Contains p.component.imports i
-          → SameImported by_name (imported G.parts i) (imported H.parts i)
-      imports u i c =
-          let mp = m p (contains_first p ps) in
-          let x = import_there modules parts size s is src lg p i mp c in
-          let y = import_there modules' parts' size s' is' src' lh p i
-          (stands_too G.parts H.parts beside.places p mp u) c in
-          rw (x.1, y.1) (same_imported i x.0 y.0 x.1 y.1)
-
-      by : ((p ≡ q) × (p.trusted ≡ false)) ⊎ ((p.trusted ≡ true) × (q.trusted ≡ true))
-          → ((p ≡ q) × (p.trusted ≡ false)
-          × ((i : Import) → Contains p.component.imports i
-          → SameImported by_name (imported G.parts i) (imported H.parts i)))
-          ⊎ ((p.trusted ≡ true) × (q.trusted ≡ true))
-      by (inl e) = inl (e.0, e.1, imports e.1)
-      by (inr t) = inr t
-
-  pub beside_by_names : (names : SameNames G H) × GoByNames names
-      × SamePlaces names (placed parts size) (placed parts' size) (placed parts size) (placed parts' size)
-  beside_by_names = (by_name, go_by_names, places G.parts H.parts (λ p c. c) beside.places)
+-- where exports stand for each other by their names, so do those that untrusted parts import
+pub import_by_names : StartsBegin → StartsAgree → SourcesLeaveNothing → (modules modules' : List ModuleFields)
+    (parts parts' : List PartSeen) (size : ℕ) (s s' : StartSeen) (is : IsStartOf parts size s)
+    (is' : IsStartOf parts' size s') → AreSources modules parts → AreSources modules' parts'
+    → AreBeside (linked_at parts size s) (linked_at parts' size s')
+    → (names : SameNames (linked_at parts size s) (linked_at parts' size s')) → GoByNames names
+    → ImportTheSame names
+import_by_names begin agree leaves modules modules' parts parts' size s s' is is' src src' beside names
+    by_names p i u m =
+    let x = import_there modules parts size s is src (linked_is begin agree leaves parts size s is) p i u.0 m
+    in
+    let y = import_there modules' parts' size s' is' src' (linked_is begin agree leaves parts' size s' is') p
+    i ((beside p).0 u).0 m in
+    rw (x.1, y.1) (by_names.exports i x.0 y.0 x.1 y.1)

@@ -12,6 +12,11 @@ use Rattle.component_linker.specs.Standing.{placed}
 use Rattle.component_linker.specs.Started.{StartSeen}
 use Rattle.component_linker.specs.LinkedStarts.{IsStartOf}
 use Rattle.overlay_machine.specs.State.{OState}
+use Rattle.overlay_machine.specs.Link.{Link, IsUntrusted}
+use Rattle.overlay_machine.proofs.Offers.{any_is, any_of}
+use Rattle.template_runs.specs.Runs.{is_inside}
+use Rattle.std.specs.Prelude.{not}
+use Rattle.std.specs.List.{list_any}
 use Rattle.overlay_machine.specs.Starting.{overlay_at, StartsBegin}
 use Rattle.trace_tool.specs.Layout.{layout}
 use Rattle.trace_tool.specs.Views.{flat_view}
@@ -27,16 +32,18 @@ use Rattle.source_starts.specs.Words.{SourcesTellWords}
 use Rattle.source_starts.specs.Wiped.{WipedCellsAreTold}
 use Rattle.source_starts.proofs.Offers.{halts_there, fails_there}
 use Rattle.context_laws.specs.Related.{SameNames}
-use Rattle.context_laws.specs.Sources.{SamePlaces}
-use Rattle.context_laws.specs.Meanings.{MeanTheSame, GoByNames, AreBeside}
+use Rattle.context_laws.specs.Sources.{AreBeside, ImportTheSame}
+use Rattle.context_laws.specs.Meanings.{MeanTheSame, GoByNames}
 use Rattle.context_laws.specs.Ends.{EndTheSame, PlainHalts, PlainFails, RunsForever, SameResult}
 use Rattle.context_laws.specs.Ends.{EndsToo, RunsEndAlike, SameMeaningsEndAlike}
 use Rattle.context_laws.proofs.Sources.{StartsAgree}
 use Rattle.context_laws.proofs.Starts.{placed_alike}
-use Rattle.context_laws.proofs.Beside.{beside_by_names}
-use Rattle.context_laws.proofs.Apart.{mean_back, beside_back, main_outside}
+use Rattle.context_laws.proofs.Around.{one_stack}
+use Rattle.context_laws.proofs.Beside.{beside_by_names, import_by_names}
+use Rattle.context_laws.proofs.Apart.{mean_back}
 use Rattle.context_laws.proofs.Meanings.{SourcesMeanAll, first_point}
-use Rattle.context_laws.proofs.Mains.{main_too, main_inside}
+use Rattle.context_laws.proofs.Mains.{beside_back, main_part, outside_main, same_first}
+use Rattle.context_laws.proofs.Inside.{HaltsToo, FailsToo, alone_halts, alone_fails}
 use Rattle.context_laws.proofs.Stands.{Begin, both_outside, both_inside, halts_too, fails_too}
 
 -- ---- a plain run, by the overlay's
@@ -112,6 +119,10 @@ both_ways s s' there back = record {
   forever = (forever_too s s' back, forever_too s' s there);
 }
 
+not_true : (b : Bool) → not b ≡ true → b ≡ false
+not_true true e = absurd cc
+not_true false e = refl
+
 ends_back : (w v : World) (size : ℕ) → EndTheSame w v size → EndTheSame v w size
 ends_back w v size ends feed fits = ((ends feed fits).0, λ f le. sym ((ends feed fits).1 f le))
 
@@ -121,83 +132,110 @@ module _ (begin : StartsBegin) (agree : StartsAgree) (leaves : SourcesLeaveNothi
     (is : IsStartOf parts size s) (is' : IsStartOf parts' size s') (src : AreSources modules parts)
     (src' : AreSources modules' parts')
     (beside : AreBeside (linked_at parts size s) (linked_at parts' size s'))
-    (names : SameNames (linked_at parts size s) (linked_at parts' size s')) (by_names : GoByNames names)
-    (places : SamePlaces names (placed parts size) (placed parts' size) (placed parts size)
-    (placed parts' size)) (same : MeanTheSame (map part_of modules) (map part_of modules') size)
+    (same : MeanTheSame (map part_of modules) (map part_of modules') size)
     (ends : EndTheSame (map part_of modules) (map part_of modules') size) where
-  abbrev Begins : Type 0
-  Begins = Begin begin agree leaves words wipes means modules modules' parts parts' size s s' is is' src
-      src' names by_names places same ends
+  abbrev G : Link
+  G = linked_at parts size s
 
-  -- main is one untrusted part's in both, or trusted in both
-  both_begin : Begins
-  both_begin = by is.starts.state.main.part.trusted refl is'.starts.state.main.part.trusted refl
-    where
-      outside : is.starts.state.main.part.trusted ≡ false → Begins
-      outside u =
-          let m = is.starts.state.main in
-          let e = is.starts.state.main_is in
-          let f = main_too parts parts' size s s' is is' beside.places m e u in
-          let a = placed_alike begin parts parts' size s s' is is' names m e f beside.stack places in
-          both_outside
-          (first_point begin agree leaves words wipes means modules modules' parts parts' size s s' is is'
-          src src' names by_names same a.0 a.1
-          (main_outside begin agree leaves words wipes means parts size s is m e u)
-          (main_outside begin agree leaves words wipes means parts' size s' is' m f u))
-
-      by : (b : Bool) → is.starts.state.main.part.trusted ≡ b → (c : Bool)
-          → is'.starts.state.main.part.trusted ≡ c → Begins
-      by false u c v = outside u
-      by true t true v =
-          both_inside (main_inside begin agree leaves parts size s is t)
-          (main_inside begin agree leaves parts' size s' is' v)
-      by true t false v =
-          let f = main_too parts' parts size s' s is' is
-          (beside_back (linked_at parts size s) (linked_at parts' size s') beside).places
-          is'.starts.state.main is'.starts.state.main_is v in
-          let x : Some is.starts.state.main ≡ Some is'.starts.state.main =
-          sym is.starts.state.main_is ∙ f in
-          let y : is.starts.state.main ≡ is'.starts.state.main = cc in
-          absurd (let z : true ≡ false = sym t ∙ ap (λ m. m.part.trusted) y ∙ v in cc)
-
-  ends_too : EndsToo s s'
-  ends_too =
+  -- what the overlays do the plain runs do
+  ends_from : ((j : ℕ) (p : OState) → Matched s j p → OverlayHalts s p → HaltsToo s s' p)
+      → ((j : ℕ) (p : OState) → Matched s j p → OverlayFails s p → FailsToo s') → EndsToo s s'
+  ends_from halts fails =
       let head = headline (placed parts size) size s is in
       let head' = headline (placed parts' size) size s' is' in
       record {
         halts = λ w h. (
             let a = halts_from stops s head w h in
-            let b = halts_too begin agree leaves words wipes means modules modules' parts parts' size s s'
-            is is' src src' names by_names places same ends both_begin a.0 a.1 a.2 a.3 in
+            let b = halts a.0 a.1 a.2 a.3 in
             let v = (flat_view (layout s') b.1).reg A0 in
             (v, halts_to stops s' head' b.0 b.1 b.2 b.3, subst (λ z. SameResult z v) (sym a.4) b.4)
             );
         fails = λ h. (
             let a = fails_from stops s head h in
-            let b = fails_too begin agree leaves words wipes means modules modules' parts parts' size s s'
-            is is' src src' names by_names places same ends both_begin a.0 a.1 a.2 a.3 in
+            let b = fails a.0 a.1 a.2 a.3 in
             fails_to stops s' head' b.0 b.1 b.2 b.3
             );
       }
 
+  -- where a part is untrusted
+  beside_code : (p : PartSeen) → IsUntrusted G p → EndsToo s s'
+  beside_code p u =
+      ends_from
+      (halts_too begin agree leaves words wipes means modules modules' parts parts' size s s' is is' src src'
+      b.0 b.1 beside imports same ends both_begin)
+      (fails_too begin agree leaves words wipes means modules modules' parts parts' size s s' is is' src src'
+      b.0 b.1 beside imports same ends both_begin)
+    where
+      b : (names : SameNames G (linked_at parts' size s')) × GoByNames names
+      b = beside_by_names begin agree leaves modules modules' parts parts' size s s' is is' src src' beside
+          (one_stack parts parts' size s s' is is' beside p u)
+
+      imports : ImportTheSame b.0
+      imports = import_by_names begin agree leaves modules modules' parts parts' size s s' is is' src src'
+          beside b.0 b.1
+
+      first : is_inside (layout s) (overlay_at s).state ≡ is_inside (layout s') (overlay_at s').state
+      first = same_first begin agree leaves parts parts' size s s' is is' beside
+
+      Begins : Type 0
+      Begins = Begin begin agree leaves words wipes means modules modules' parts parts' size s s' is is' src
+          src' b.0 b.1 beside imports same ends
+
+      both_begin : Begins
+      both_begin = by (is_inside (layout s) (overlay_at s).state) refl
+        where
+          by : (x : Bool) → is_inside (layout s) (overlay_at s).state ≡ x → Begins
+          by true i = both_inside i (sym first ∙ i)
+          by false i =
+              let a = placed_alike begin parts parts' size s s' is is' b.0 beside imports
+              (outside_main begin agree leaves parts parts' size s s' is is' beside i) in
+              both_outside (first_point begin agree leaves words wipes means modules modules' parts parts'
+              size s s' is is' src src' b.0 b.1 same a.0 a.1 i (sym first ∙ i))
+
+  -- where none is
+  beside_none : ((p : PartSeen) → IsUntrusted G p → ⊥) → EndsToo s s'
+  beside_none alone =
+      ends_from
+      (alone_halts begin agree leaves words wipes means modules modules' parts parts' size s s' is is' src
+      src' ends alone i i')
+      (alone_fails begin agree leaves words wipes means modules modules' parts parts' size s s' is is' src
+      src' ends alone i i')
+    where
+      i : is_inside (layout s) (overlay_at s).state ≡ true
+      i = by (is_inside (layout s) (overlay_at s).state) refl
+        where
+          by : (x : Bool) → is_inside (layout s) (overlay_at s).state ≡ x
+              → is_inside (layout s) (overlay_at s).state ≡ true
+          by true e = e
+          by false e =
+              let m = is.starts.state.main.part in
+              absurd (alone m (main_part begin agree leaves parts size s is e))
+
+      i' : is_inside (layout s') (overlay_at s').state ≡ true
+      i' = sym (same_first begin agree leaves parts parts' size s s' is is' beside) ∙ i
+
+  ends_too : EndsToo s s'
+  ends_too = by (list_any (λ (p : PartSeen). not p.trusted) (placed parts size)) refl
+    where
+      none : (p : PartSeen) → IsUntrusted G p
+          → list_any (λ (p : PartSeen). not p.trusted) (placed parts size) ≡ true
+      none p u = any_is (λ (p : PartSeen). not p.trusted) (placed parts size) p u.0 (ap not u.1)
+
+      by : (b : Bool) → list_any (λ (p : PartSeen). not p.trusted) (placed parts size) ≡ b → EndsToo s s'
+      by true e =
+          let x = any_of (λ (p : PartSeen). not p.trusted) (placed parts size) e in
+          beside_code x.0 (x.1, not_true x.0.trusted x.2)
+      by false e = beside_none (λ p u. (let bad : false ≡ true = sym e ∙ none p u in cc))
+
 module _ (begin : StartsBegin) (agree : StartsAgree) (leaves : SourcesLeaveNothing) (words : SourcesTellWords)
     (wipes : WipedCellsAreTold) (means : SourcesMeanAll) (headline : HeadlineHolds)
     (stops : StopsAreCuts) where
-  one_way : (modules modules' : List ModuleFields) (parts parts' : List PartSeen) (size : ℕ)
-      (s s' : StartSeen) → IsStartOf parts size s → IsStartOf parts' size s' → AreSources modules parts
-      → AreSources modules' parts' → AreBeside (linked_at parts size s) (linked_at parts' size s')
-      → MeanTheSame (map part_of modules) (map part_of modules') size
-      → EndTheSame (map part_of modules) (map part_of modules') size → EndsToo s s'
-  one_way modules modules' parts parts' size s s' is is' src src' beside same ends =
-      let b = beside_by_names begin agree leaves modules modules' parts parts' size s s' is is' src src'
-      beside in
-      ends_too begin agree leaves words wipes means headline stops modules modules' parts parts' size s s' is
-      is' src src' beside b.0 b.1 b.2 same ends
-
   pub end_alike : SameMeaningsEndAlike
   end_alike modules modules' parts parts' size s s' is is' src src' beside same ends =
-      both_ways s s' (one_way modules modules' parts parts' size s s' is is' src src' beside same ends)
-      (one_way modules' modules parts' parts size s' s is' is src' src
-      (beside_back (linked_at parts size s) (linked_at parts' size s') beside)
+      both_ways s s'
+      (ends_too begin agree leaves words wipes means headline stops modules modules' parts parts' size s s' is
+      is' src src' beside same ends)
+      (ends_too begin agree leaves words wipes means headline stops modules' modules parts' parts size s' s
+      is' is src' src (beside_back (linked_at parts size s) (linked_at parts' size s') beside)
       (mean_back (map part_of modules) (map part_of modules') size same)
       (ends_back (map part_of modules) (map part_of modules') size ends))

@@ -1,5 +1,5 @@
 -- Where sources let go for the first time.
-use Rattle.std.proofs.Common.{◌≤◌, ℕ, List, [], sym, subst, arith}
+use Rattle.std.proofs.Common.{◌≤◌, ℕ, List, [], sym, ◌∙◌, subst, arith}
 use Rattle.component_linker.specs.Parts.{PartSeen}
 use Rattle.component_linker.specs.Started.{StartSeen}
 use Rattle.component_linker.specs.LinkedStarts.{IsStartOf}
@@ -21,6 +21,7 @@ use Rattle.context_laws.proofs.Arrive.{arrive_alike}
 use Rattle.context_laws.proofs.Whole.{runs_outside, below_new, newest_below}
 use Rattle.context_laws.proofs.Sources.{StartsAgree, sources_in_step, linked_is, holds_is, tidies_is}
 use Rattle.context_laws.proofs.Starts.{start_cells_alike, placed_alike}
+use Rattle.context_laws.proofs.Mains.{outside_main, same_first}
 
 module _ (begin : StartsBegin) (agree : StartsAgree) (leaves : SourcesLeaveNothing) where
   tidied_first : (modules : List ModuleFields) (parts : List PartSeen) (size : ℕ) (s : StartSeen)
@@ -31,7 +32,7 @@ module _ (begin : StartsBegin) (agree : StartsAgree) (leaves : SourcesLeaveNothi
       (record { came = secrets.begins f.begins; until = f.until; steps = f.lets; gone = f.gone })).cells
 
   pub first_alike : FirstArrivalsAlike
-  first_alike modules modules' parts parts' size size' s s' is is' src src' names places a b fa fb cs same
+  first_alike modules modules' parts parts' size size' s s' is is' src src' names beside imports a b fa fb cs same
       wiped = (
         arrive_alike g h names lg lh [] a b oa ob cells (tidied_first modules parts size s is src a fa)
             (tidied_first modules' parts' size' s' is' src' b fb) wiped cs same,
@@ -91,7 +92,7 @@ module _ (begin : StartsBegin) (agree : StartsAgree) (leaves : SourcesLeaveNothi
       cells : (c : ℕ) → IsFreeAt g c → CellPair (SameWord g h names []) (IsFreeAt g)
           (cell a.before.maps.cells c) (cell b.before.maps.cells c)
       cells c free = rw (fa.begins, fb.begins)
-          (start_cells_alike begin parts parts' size size' s s' is is' names places c free)
+          (start_cells_alike begin parts parts' size size' s s' is is' names beside imports c free)
 
       none_below : AreBelow [] a.before b.before
       none_below = record {
@@ -117,11 +118,11 @@ module _ (begin : StartsBegin) (agree : StartsAgree) (leaves : SourcesLeaveNothi
           record { first = λ k j c. absurd c; second = λ k j c. absurd c; one = λ k j i m c. absurd c }
 
 pub whole_runs : StartsBegin → StartsAgree → SourcesLeaveNothing → WholeRunsInStep
-whole_runs begin agree leaves modules modules' parts parts' size s s' is is' src src' names places m e e' base
-    io io' n
+whole_runs begin agree leaves modules modules' parts parts' size s s' is is' src src' names beside imports io n
     q q' as_ bs k k' obs =
-    let a = placed_alike begin parts parts' size s s' is is' names m e e' base places in
+    let a = placed_alike begin parts parts' size s s' is is' names beside imports
+    (outside_main begin agree leaves parts parts' size s s' is is' beside io) in
     sources_in_step begin agree leaves modules modules' parts parts' size size s s' is is' src src' names n 0
     0 []
-    (overlay_at s).state q (overlay_at s').state q' as_ bs Reached.begins Reached.begins io io' a.0 a.1 k k'
-    obs
+    (overlay_at s).state q (overlay_at s').state q' as_ bs Reached.begins Reached.begins io
+    (sym (same_first begin agree leaves parts parts' size s s' is is' beside) ∙ io) a.0 a.1 k k' obs

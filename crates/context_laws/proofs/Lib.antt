@@ -7,6 +7,8 @@ pub mod Arrive
 pub mod Whole
 pub mod Contexts
 pub mod Sources
+pub mod OneAt
+pub mod Around
 pub mod Starts
 pub mod First
 pub mod Itself
@@ -23,6 +25,7 @@ pub mod Meanings
 pub mod Beside
 pub mod Apart
 pub mod Arrivals
-pub mod Stands
 pub mod Mains
+pub mod Inside
+pub mod Stands
 pub mod Ends

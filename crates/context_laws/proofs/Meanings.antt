@@ -56,12 +56,11 @@ use Rattle.context_laws.specs.Lockstep.{Round, IsRound, Path, SameCrossing, by_c
 use Rattle.context_laws.specs.Lockstep.{InStep, at_end, round, Holds, Tidies, AreBelow}
 use Rattle.context_laws.specs.Lockstep as spec
 use Rattle.context_laws.specs.Meanings.{name_of, observed, FeedFits, MeanTheSame, GoByNames, item_by}
-use Rattle.context_laws.specs.Meanings.{items_in, SameMeaningsGoInStep}
+use Rattle.context_laws.specs.Meanings.{items_in}
 use Rattle.context_laws.proofs.Counts.{step_rises, until_reached}
 use Rattle.context_laws.proofs.Arrive.{in_region_of, arrive_alike}
 use Rattle.context_laws.proofs.Whole.{alike_step, runs_outside, below_later, below_after, after_a, after_b}
 use Rattle.context_laws.proofs.Sources.{StartsAgree, linked_is, holds_is, tidies_is}
-use Rattle.context_laws.proofs.Starts.{placed_alike}
 use Rattle.context_laws.proofs.Open.{CallsAlike, has_sites, met, step_kept, until_kept, calls_kept}
 use Rattle.context_laws.proofs.Open.{calls_more}
 use Rattle.context_laws.proofs.Told.{items_same}
@@ -72,7 +71,7 @@ use Rattle.context_laws.proofs.Progress.{IsCalm, calm_since, tells_of, goes_out,
 use Rattle.context_laws.proofs.Crossing.{crossed, ends_same}
 use Rattle.context_laws.proofs.Rounds.{RoundTold, round_told, entry_silent}
 
-first_inside : (l : Layout) (p q : OState) → Until l p q → is_inside l p ≡ true
+pub first_inside : (l : Layout) (p q : OState) → Until l p q → is_inside l p ≡ true
 first_inside l p _ (secrets.still_there i) = i
 first_inside l p _ (secrets.one_more u s i) = first_inside l p _ u
 
@@ -768,16 +767,3 @@ abbrev pub SourcesMeanAll : Type 0
 SourcesMeanAll =
     (modules : List ModuleFields) (parts : List PartSeen) (size : ℕ) (s : StartSeen) → IsStartOf parts size s
     → AreSources modules parts → MeansAlways (map part_of modules) size s
-
-pub same_meanings : StartsBegin → StartsAgree → SourcesLeaveNothing → SourcesTellWords → WipedCellsAreTold
-    → SourcesMeanAll → SameMeaningsGoInStep
-same_meanings begin agree leaves words wipes means modules modules' parts parts' size s s' is is' src src'
-    names
-    by_names places m e e' base io io' same n q as_ k =
-    let a = placed_alike begin parts parts' size s s' is is' names m e e' base places in
-    go_in_step begin agree leaves words wipes means modules modules' parts parts' size s s' is is' src src'
-    names
-    by_names same n [] (overlay_at s).state (overlay_at s').state q as_
-    (first_point begin agree leaves words wipes means modules modules' parts parts' size s s' is is' src src'
-    names
-    by_names same a.0 a.1 io io') k

@@ -9,8 +9,9 @@ use Rattle.lcm_machine.specs.Maps.{Regs}
 use Rattle.lcm_machine.specs.Places.{reg}
 use Rattle.component_linker.specs.Parts.{PartSeen}
 use Rattle.component_linker.specs.Standing.{placed}
-use Rattle.component_linker.specs.Start.{Exported, main_of, stack_base_of, start_regs, code_of, data_of}
+use Rattle.component_linker.specs.Start.{Exported, stack_base_of, start_regs, code_of, data_of}
 use Rattle.component_linker.specs.Start.{stack_of}
+use Rattle.component_linker.proofs.Offers.{stack_begins}
 use Rattle.lcm_machine.specs.Spans.{zero_regs}
 use Rattle.component_linker.specs.Started.{StartSeen}
 use Rattle.component_linker.specs.LinkedStarts.{IsStartOf, IsLinkedStart}
@@ -126,26 +127,30 @@ base_only ps qs size m e = ap (λ b. record (zero_regs (λ w. w)) {
 }) e
 
 pub starts_alike : StartsAlike
-starts_alike parts parts' size s s' is is' names m e e' base cells = (
+starts_alike parts parts' size s s' is is' names main cells = (
   record { seen = (regs, cells); newest = tt },
   record { first = λ k j c. absurd c; second = λ k j c. absurd c; one = λ k j i h c. absurd c },
 )
   where
-    same_main : (x : Exported) → main_of (placed parts size) ≡ Some x → x ≡ m
-    same_main x h = let k : Some x ≡ Some m = sym h ∙ e in cc
-
-    same_main' : (x : Exported) → main_of (placed parts' size) ≡ Some x → x ≡ m
-    same_main' x h = let k : Some x ≡ Some m = sym h ∙ e' in cc
+    m : Exported
+    m = is.starts.state.main
 
     one : s.state.maps.regs ≡ start_regs (placed parts size) size m
     one = is.starts.state.regs
-        ∙ ap (start_regs (placed parts size) size) (same_main is.starts.state.main is.starts.state.main_is)
+
+    base : stack_base_of (placed parts' size) ≡ stack_base_of (placed parts size)
+    base = stack_begins (placed parts' size) size s'.stack is'.starts.stack ∙ sym names.stack
+        ∙ sym (stack_begins (placed parts size) size s.stack is.starts.stack)
+
+    same_main : is'.starts.state.main ≡ m
+    same_main =
+        let k : Some is'.starts.state.main ≡ Some m =
+        sym is'.starts.state.main_is ∙ sym main ∙ is.starts.state.main_is in
+        cc
 
     other : s'.state.maps.regs ≡ start_regs (placed parts size) size m
-    other = is'.starts.state.regs
-        ∙ ap (start_regs (placed parts' size) size)
-        (same_main' is'.starts.state.main is'.starts.state.main_is)
-        ∙ base_only (placed parts' size) (placed parts size) size m (sym base)
+    other = is'.starts.state.regs ∙ ap (start_regs (placed parts' size) size) same_main
+        ∙ base_only (placed parts' size) (placed parts size) size m base
 
     regs : (r : Reg) → SameWord (linked_at parts size s) (linked_at parts' size s') names []
         (reg (overlay_at s).state.maps.regs r) (reg (overlay_at s').state.maps.regs r)

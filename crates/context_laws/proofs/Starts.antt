@@ -1,5 +1,5 @@
--- The cells of starts of parts that are the same but for their trusted ones.
-use Rattle.std.proofs.Common.{◌≡◌, ◌⊎◌, inl, inr, ℕ, ◌+◌, ◌-◌, ◌≤◌, ◌<◌, pos, List, [], ◌∷◌, length, Option}
+-- The cells of starts of links beside each other.
+use Rattle.std.proofs.Common.{◌≡◌, inl, inr, ℕ, ◌+◌, ◌-◌, ◌≤◌, ◌<◌, pos, List, [], ◌∷◌, length, Option}
 use Rattle.std.proofs.Common.{Some, None, Bool, true, false, refl, sym, ap, ◌∙◌, subst, arith, eq-eqb}
 use Rattle.std.specs.Prelude.{slice_get, option_map, if◌then◌else◌, nat_le, ◌==◌}
 use Rattle.std.specs.Option.{option_or}
@@ -17,7 +17,7 @@ use Rattle.component_linker.specs.LinkedStarts.{IsStartOf}
 use Rattle.component_linker.specs.Regions.{in_regions, regions_of}
 use Rattle.component_linker.specs.Start.{Exported, imported, code_half, data_half, slot_word, data_word, from}
 use Rattle.component_linker.specs.Start.{part_word, first_given, start_cell}
-use Rattle.component_linker.proofs.Offers.{given_by, is_kept, from_inv, data_within, imported_there}
+use Rattle.component_linker.proofs.Offers.{given, given_by, is_kept, from_inv, data_within, imported_there}
 use Rattle.component_linker.proofs.Offers.{listed_at, OwnWord, own_code, own_data}
 use Rattle.overlay_machine.specs.declared.words.OWord.{OWord}
 use Rattle.overlay_machine.specs.declared.words.OWord.TheVariants.{Plain}
@@ -29,10 +29,11 @@ use Rattle.overlay_machine.proofs.Offers.{contains_first, contains_rest, is_over
 use Rattle.template_runs.specs.Public.{IsFreeAt}
 use Rattle.source_starts.specs.Sources.{linked_at}
 use Rattle.context_laws.specs.Related.{SameNames, IsOurs, SameWord, ours, code_halves, data_halves, CellPair}
-use Rattle.context_laws.specs.Sources.{SameImported, SamePlaces, PlacedStartsAlike}
+use Rattle.context_laws.specs.Sources.{AreBeside, SameImported, ImportTheSame, PlacedStartsAlike}
 use Rattle.overlay_machine.specs.Keeping.{HoldsFor}
 use Rattle.context_laws.proofs.Arrive.{in_region_of}
 use Rattle.context_laws.proofs.Sources.{starts_alike}
+use Rattle.context_laws.proofs.OneAt.{OneAt, one_at, given_alone}
 
 -- a trusted part has no word at an address that is free
 part_none : (g : Link) (linked : Linked g) (parts : List PartSeen) (a : ℕ) (p : PartSeen) → IsTrusted g p
@@ -129,115 +130,129 @@ module _ (g h : Link) (names : SameNames g h) (lg : Linked g) (lh : Linked h) wh
   closure_open : (p : PartSeen) → IsUntrusted g p → IsOpenSeal g p.component.closure
   closure_open p u = (p, u, rw (eq-eqb p.component.closure p.component.closure refl) refl)
 
-  module _ (ps qs : List PartSeen) (same : g.parts ≡ ps) (a : ℕ) (free : IsFreeAt g a)
+  module _ (beside : AreBeside g h) (imports : ImportTheSame names) (a : ℕ) (free : IsFreeAt g a)
       (free' : IsFreeAt h a) where
-    import_open : (i : Import) (z : Exported) → imported ps i ≡ Some z → z.part.trusted ≡ false
+    import_open : (i : Import) (z : Exported) → imported g.parts i ≡ Some z → z.part.trusted ≡ false
         → IsOpenSeal g z.part.component.closure
     import_open i z e t =
-        let k = imported_there ps i z e in
-        closure_open z.part
-        (subst (λ xs. Contains xs z.part) (sym same) (listed_at ps k.index z.part k.at), t)
+        let k = imported_there g.parts i z e in closure_open z.part (listed_at g.parts k.index z.part k.at, t)
 
-    one_pair : (p : PartSeen) → Contains g.parts p
-        → ((i : Import) → Contains p.component.imports i → SameImported names (imported ps i) (imported qs i))
-        → Pair (part_word ps a p) (part_word qs a p)
+    one_pair : (p : PartSeen) → IsUntrusted g p → Pair (part_word g.parts a p) (part_word h.parts a p)
     unfolding part_word
-    one_pair p c names_same =
+    one_pair p u =
         or_pair _ _ _ _
         (from_pair p.component.code_base a (slice_get p.component.code) (slice_get p.component.code)
         (λ o. own_pair (slice_get p.component.code o)
-        (λ w e. own_ours p w (own_code p (lg.parts p c) o w e))))
-        (from_pair p.component.data_base a (data_word ps p.component) (data_word qs p.component)
+        (λ w e. own_ours p w (own_code p (lg.parts p u.0) o w e))))
+        (from_pair p.component.data_base a (data_word g.parts p.component) (data_word h.parts p.component)
         (λ o. or_pair _ _ _ _
-        (given_pair (slot_word ps o) (slot_word qs o) p.component.imports
-        (λ i m. slot_by (i.slot == o) (i.slot + 1 == o) (imported ps i) (imported qs i) (names_same i m)
-        (import_open i)))
+        (given_pair (slot_word g.parts o) (slot_word h.parts o) p.component.imports
+        (λ i m. slot_by (i.slot == o) (i.slot + 1 == o) (imported g.parts i) (imported h.parts i)
+        (imports p i u m) (import_open i)))
         (own_pair (slice_get p.component.data_words o)
-        (λ w e. own_ours p w (own_data p (lg.parts p c) o w e)))))
+        (λ w e. own_ours p w (own_data p (lg.parts p u.0) o w e)))))
 
-    places : (xs ys : List PartSeen) → ((p : PartSeen) → Contains xs p → Contains g.parts p)
-        → ((p : PartSeen) → Contains ys p → Contains h.parts p) → SamePlaces names ps qs xs ys
-        → Pair (first_given (part_word ps a) xs) (first_given (part_word qs a) ys)
-    places [] [] cx cy s = tt
-    places [] (y ∷ ys) cx cy s = absurd s
-    places (x ∷ xs) [] cx cy s = absurd s
-    places (x ∷ xs) (y ∷ ys) cx cy s =
-        or_pair (part_word ps a x) (part_word qs a y) _ _ (by s.0)
-        (places xs ys (λ p m. cx p (contains_rest x p xs m)) (λ p m. cy p (contains_rest y p ys m)) s.1)
+    -- the part of a word that is there
+    untrusted_of : (k : Link) (linked : Linked k) → IsFreeAt k a → (p : PartSeen) (w : Word)
+        → Contains k.parts p → part_word k.parts a p ≡ Some w → IsUntrusted k p
+    untrusted_of k linked f p w m e = (m, by p.trusted refl)
       where
-        by : (((x ≡ y) × (x.trusted ≡ false)
-            × ((i : Import) → Contains x.component.imports i
-            → SameImported names (imported ps i) (imported qs i)))
-            ⊎ ((x.trusted ≡ true) × (y.trusted ≡ true))) → Pair (part_word ps a x) (part_word qs a y)
-        by (inl e) = subst (λ z. Pair (part_word ps a x) (part_word qs a z)) e.0
-            (one_pair x (cx x (contains_first x xs)) e.2)
-        by (inr t) = rw (
-          part_none g lg ps a x (cx x (contains_first x xs), t.0) free,
-          part_none h lh qs a y (cy y (contains_first y ys), t.1) free',
-        ) tt
+        by : (b : Bool) → p.trusted ≡ b → p.trusted ≡ false
+        by false t = t
+        by true t = absurd (let bad : None ≡ Some w = sym (part_none k linked k.parts a p (m, t) f) ∙ e in cc)
 
-    cells_pair : (size size' : ℕ) → ((p : PartSeen) → Contains qs p → Contains h.parts p)
-        → SamePlaces names ps qs ps qs
-        → CellPair (SameWord g h names []) (IsFreeAt g) (option_map Plain (start_cell ps size a))
-        (option_map Plain (start_cell qs size' a))
-    unfolding start_cell
-    cells_pair size size' cq s =
-        by _ _ (in_regions a (regions_of ps size)) (in_regions a (regions_of qs size'))
-        (places ps qs (λ p m. subst (λ xs. Contains xs p) (sym same) m) cq s)
-      where
-        by : (x y : Option Word) (b c : Bool) → Pair x y
-            → CellPair (SameWord g h names []) (IsFreeAt g)
-            (option_map Plain (option_or x (if b then Some (Int (pos 0)) else None)))
-            (option_map Plain (option_or y (if c then Some (Int (pos 0)) else None)))
-        by None None true true p = ours (Int (pos 0)) tt
-        by None None true false p = tt
-        by None None false c p = tt
-        by None (Some v) b c p = absurd p
-        by (Some w) None b c p = absurd p
-        by (Some w) (Some v) b c p = p
+    module _ (one_g : OneAt g.parts) (one_h : OneAt h.parts) where
+      alone : (k : Link) → OneAt k.parts → (p : PartSeen) (w : Word) → Contains k.parts p
+          → part_word k.parts a p ≡ Some w → first_given (part_word k.parts a) k.parts ≡ Some w
+      alone k one p w m e = given_alone (part_word k.parts a) k.parts p w m e
+          (λ q v n f. one a q p v w n m f e)
+
+      words_pair : (x y : Option Word) → first_given (part_word g.parts a) g.parts ≡ x
+          → first_given (part_word h.parts a) h.parts ≡ y → Pair x y
+      words_pair None None e f = tt
+      words_pair (Some w) y e f =
+          let k = given (part_word g.parts a) g.parts w e in
+          let u = untrusted_of g lg free k.item w (listed_at g.parts k.index k.item k.at) k.is in
+          let p = subst (λ z. Pair z (part_word h.parts a k.item)) k.is (one_pair k.item u) in
+          by k.item ((beside k.item).0 u) (part_word h.parts a k.item) refl p
+        where
+          by : (p : PartSeen) → IsUntrusted h p → (o : Option Word) → part_word h.parts a p ≡ o
+              → Pair (Some w) o → Pair (Some w) y
+          by p u None i q = absurd q
+          by p u (Some v) i q = subst (Pair (Some w)) (sym (alone h one_h p v u.0 i) ∙ f) q
+      words_pair None (Some v) e f =
+          let k = given (part_word h.parts a) h.parts v f in
+          let u = untrusted_of h lh free' k.item v (listed_at h.parts k.index k.item k.at) k.is in
+          let t = (beside k.item).1 u in
+          by k.item t (part_word g.parts a k.item) refl
+          (subst (Pair (part_word g.parts a k.item)) k.is (one_pair k.item t))
+        where
+          by : (p : PartSeen) → IsUntrusted g p → (o : Option Word) → part_word g.parts a p ≡ o
+              → Pair o (Some v) → ⊥
+          by p t None i q = q
+          by p t (Some w) i q = (let bad : Some w ≡ None = sym (alone g one_g p w t.0 i) ∙ e in cc)
+
+      cells_pair : CellPair (SameWord g h names []) (IsFreeAt g) (option_map Plain (start_cell g.parts g.size a))
+          (option_map Plain (start_cell h.parts h.size a))
+      unfolding start_cell
+      cells_pair =
+          by _ _ (in_regions a (regions_of g.parts g.size)) (in_regions a (regions_of h.parts h.size))
+          (words_pair _ _ refl refl)
+        where
+          by : (x y : Option Word) (b c : Bool) → Pair x y
+              → CellPair (SameWord g h names []) (IsFreeAt g)
+              (option_map Plain (option_or x (if b then Some (Int (pos 0)) else None)))
+              (option_map Plain (option_or y (if c then Some (Int (pos 0)) else None)))
+          by None None true true p = ours (Int (pos 0)) tt
+          by None None true false p = tt
+          by None None false c p = tt
+          by None (Some v) b c p = absurd p
+          by (Some w) None b c p = absurd p
+          by (Some w) (Some v) b c p = p
 
 module _ (begin : StartsBegin) (parts parts' : List PartSeen) (size size' : ℕ) (s s' : StartSeen)
     (is : IsStartOf parts size s) (is' : IsStartOf parts' size' s')
     (names : SameNames (linked_at parts size s) (linked_at parts' size' s'))
-    (places_same : SamePlaces names (placed parts size) (placed parts' size') (placed parts size)
-    (placed parts' size')) where
-  abbrev G : Link
-  G = linked_at parts size s
+    (beside : AreBeside (linked_at parts size s) (linked_at parts' size' s')) (imports : ImportTheSame names)
+  where
+    abbrev G : Link
+    G = linked_at parts size s
 
-  abbrev H : Link
-  H = linked_at parts' size' s'
+    abbrev H : Link
+    H = linked_at parts' size' s'
 
-  one_held : HoldsFor (placed parts size) size (overlay_at s) s.state.maps
-  one_held = begin s (overlay_at s) (is_overlay (placed parts size) size s is) (placed parts size) size is
+    one_held : HoldsFor (placed parts size) size (overlay_at s) s.state.maps
+    one_held = begin s (overlay_at s) (is_overlay (placed parts size) size s is) (placed parts size) size is
 
-  other_held : HoldsFor (placed parts' size') size' (overlay_at s') s'.state.maps
-  other_held =
-      begin s' (overlay_at s') (is_overlay (placed parts' size') size' s' is') (placed parts' size') size' is'
+    other_held : HoldsFor (placed parts' size') size' (overlay_at s') s'.state.maps
+    other_held =
+        begin s' (overlay_at s') (is_overlay (placed parts' size') size' s' is') (placed parts' size') size' is'
 
-  pub start_cells_alike : (a : ℕ) → IsFreeAt G a → CellPair (SameWord G H names []) (IsFreeAt G)
-      (cell (overlay_at s).state.maps.cells a) (cell (overlay_at s').state.maps.cells a)
-  start_cells_alike a free = by _ _ refl refl
-    where
-      by : (x y : Option OWord) → cell (overlay_at s).state.maps.cells a ≡ x
-          → cell (overlay_at s').state.maps.cells a ≡ y
-          → CellPair (SameWord G H names []) (IsFreeAt G)
-          (cell (overlay_at s).state.maps.cells a) (cell (overlay_at s').state.maps.cells a)
-      by None y e f = rw e tt
-      by (Some w) None e f = rw (e, f) tt
-      by (Some w) (Some v) e f =
-          let free' : IsFreeAt H a = names.free a
-          (in_region_of G (overlay_at s).state s.state.maps one_held.holds a w e)
-          (in_region_of H (overlay_at s').state s'.state.maps other_held.holds a v f) free in
-          let one = (is_overlay (placed parts size) size s is).cells a
-          ∙ start_word_is (placed parts size) size s is a ∙ ap (option_map Plain) (is.starts.state.cells a) in
-          let two = (is_overlay (placed parts' size') size' s' is').cells a
-          ∙ start_word_is (placed parts' size') size' s' is' a
-          ∙ ap (option_map Plain) (is'.starts.state.cells a)
-          in
-          rw (one, two) (cells_pair G H names one_held.linked other_held.linked (placed parts size)
-          (placed parts' size') refl a free free' size size' (λ p k. k) places_same)
+    pub start_cells_alike : (a : ℕ) → IsFreeAt G a → CellPair (SameWord G H names []) (IsFreeAt G)
+        (cell (overlay_at s).state.maps.cells a) (cell (overlay_at s').state.maps.cells a)
+    start_cells_alike a free = by _ _ refl refl
+      where
+        by : (x y : Option OWord) → cell (overlay_at s).state.maps.cells a ≡ x
+            → cell (overlay_at s').state.maps.cells a ≡ y
+            → CellPair (SameWord G H names []) (IsFreeAt G)
+            (cell (overlay_at s).state.maps.cells a) (cell (overlay_at s').state.maps.cells a)
+        by None y e f = rw e tt
+        by (Some w) None e f = rw (e, f) tt
+        by (Some w) (Some v) e f =
+            let free' : IsFreeAt H a = names.free a
+            (in_region_of G (overlay_at s).state s.state.maps one_held.holds a w e)
+            (in_region_of H (overlay_at s').state s'.state.maps other_held.holds a v f) free in
+            let one = (is_overlay (placed parts size) size s is).cells a
+            ∙ start_word_is (placed parts size) size s is a ∙ ap (option_map Plain) (is.starts.state.cells a) in
+            let two = (is_overlay (placed parts' size') size' s' is').cells a
+            ∙ start_word_is (placed parts' size') size' s' is' a
+            ∙ ap (option_map Plain) (is'.starts.state.cells a)
+            in
+            rw (one, two) (cells_pair G H names one_held.linked other_held.linked beside imports a free free'
+            (one_at (placed parts size) size is.rules one_held.linked.parts)
+            (one_at (placed parts' size') size' is'.rules other_held.linked.parts))
 
 pub placed_alike : StartsBegin → PlacedStartsAlike
-placed_alike begin parts parts' size s s' is is' names m e e' base places =
-    starts_alike parts parts' size s s' is is' names m e e' base
-    (start_cells_alike begin parts parts' size size s s' is is' names places)
+placed_alike begin parts parts' size s s' is is' names beside imports main =
+    starts_alike parts parts' size s s' is is' names main
+    (start_cells_alike begin parts parts' size size s s' is is' names beside imports)

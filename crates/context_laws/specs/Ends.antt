@@ -16,7 +16,8 @@ use Rattle.source_events.specs.declared.Item.{Item}
 use Rattle.proc_semantics.specs.Values.{World}
 use Rattle.proc_semantics.specs.Marked.{refined}
 use Rattle.source_starts.specs.Sources.{AreSources, linked_at}
-use Rattle.context_laws.specs.Meanings.{FeedFits, MeanTheSame, AreBeside}
+use Rattle.context_laws.specs.Sources.{AreBeside}
+use Rattle.context_laws.specs.Meanings.{FeedFits, MeanTheSame}
 
 -- ---- meanings
 
@@ -70,8 +71,8 @@ pub record RunsEndAlike (s s' : StartSeen) : Type 0 where
 
 -- ---- the law
 
--- Two lists of sources that mean the same and end the same way, beside the same untrusted parts in their
--- places: the plain runs of both links end alike, whichever part has main.
+-- Two lists of sources that mean the same and end the same way, linked beside each other: the plain runs of
+-- both links end alike, whichever part has main.
 abbrev pub SameMeaningsEndAlike : Type 0
 SameMeaningsEndAlike =
     (modules modules' : List ModuleFields) (parts parts' : List PartSeen) (size : ℕ) (s s' : StartSeen)

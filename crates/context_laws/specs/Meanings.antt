@@ -1,19 +1,17 @@
 -- Sources that mean the same, and that no code outside can tell them apart.
-use Rattle.std.specs.Prelude.{◌≡◌, ◌⊎◌, ◌↔◌, ℕ, ◌≤◌, ◌==◌, true, false, List, [], ◌∷◌, ◌++◌, map, find}
+use Rattle.std.specs.Prelude.{◌≡◌, ℕ, ◌≤◌, ◌==◌, true, false, List, [], ◌∷◌, ◌++◌, map, find}
 use Rattle.std.specs.Prelude.{Option, Some, None, ℤ, if◌then◌else◌}
 use Rattle.std.specs.List.{Contains}
 use Rattle.component_file.specs.declared.component.Import.{Import}
 use Rattle.component_file.specs.declared.component.Export.{Export}
 use Rattle.component_linker.specs.Parts.{PartSeen}
-use Rattle.component_linker.specs.Standing.{placed}
-use Rattle.component_linker.specs.Start.{Exported, main_of, imported, stack_base_of}
+use Rattle.component_linker.specs.Start.{Exported, imported}
 use Rattle.component_linker.specs.Started.{StartSeen}
 use Rattle.component_linker.specs.LinkedStarts.{IsStartOf}
 use Rattle.trusted_border.specs.declared.layout.Layout.{Layout}
 use Rattle.trusted_border.specs.declared.layout.SiteCode.{SiteCode}
 use Rattle.trusted_border.specs.Layout.{site_code}
-use Rattle.component_linker.specs.Regions.{in_regions}
-use Rattle.overlay_machine.specs.Link.{Link, regions}
+use Rattle.overlay_machine.specs.Link.{Link, IsUntrusted}
 use Rattle.overlay_machine.specs.State.{OState}
 use Rattle.overlay_machine.specs.Step.{Ending, goes, halts, fails, overlay_step}
 use Rattle.overlay_machine.specs.Events.{step_event}
@@ -21,7 +19,6 @@ use Rattle.overlay_machine.specs.Starting.{overlay_at}
 use Rattle.trace_tool.specs.Layout.{layout, part_name, site_of}
 use Rattle.trace_tool.specs.Views.{flat_view}
 use Rattle.template_runs.specs.Runs.{is_inside}
-use Rattle.template_runs.specs.Public.{IsFreeAt}
 use Rattle.proc_language.specs.declared.module.ModuleFields.{ModuleFields}
 use Rattle.proc_program.specs.declared.program.Procedure.{Procedure}
 use Rattle.proc_program.specs.declared.program.ProgramImport.{ProgramImport as Imported}
@@ -36,7 +33,7 @@ use Rattle.source_laws.specs.Trace.{event_items}
 use Rattle.source_starts.specs.Sources.{AreSources, linked_at}
 use Rattle.context_laws.specs.Related.{SameNames, Calls}
 use Rattle.context_laws.specs.Lockstep.{Round, Path, SameCrossing, InStep}
-use Rattle.context_laws.specs.Sources.{SameImported, SamePlaces, IsFirst}
+use Rattle.context_laws.specs.Sources.{AreBeside, SameImported, IsFirst}
 
 -- ---- what is observed of a meaning
 
@@ -135,72 +132,38 @@ GoesInStep g h names cs p p' =
     → (q' : OState) × (bs : List Round) × Path h.layout n p' bs q' × InStep g h names cs as_ bs q q'
     × (items_in g.layout as_ q ≡ items_in h.layout bs q')
 
--- Two lists of sources that mean the same, beside the same untrusted parts in their places, with the same
--- main of theirs, go in step.
+-- Whether code outside or trusted code runs first is the same in both. Where code outside does, it does the
+-- same from the start on. Where trusted code does, and in the one lets go for the first time, so it does in
+-- the other, with the same shown; and from there on code outside does the same.
+pub record DoesTheSameBy (g h : Link) (names : SameNames g h) (s s' : StartSeen) : Type 0 where
+  pub first : is_inside (layout s) (overlay_at s).state ≡ is_inside (layout s') (overlay_at s').state
+  pub begins : is_inside (layout s) (overlay_at s).state ≡ false
+      → GoesInStep g h names [] (overlay_at s).state (overlay_at s').state
+  pub lets_go : (a : Round) → IsFirst s a → (b : Round) × IsFirst s' b × (cs : Calls)
+      × SameCrossing g h names [] a b cs × GoesInStep g h names cs a.after b.after
+
+-- Sources that mean the same, linked beside each other, do the same to code outside, for any choice of which
+-- exports and sites stand for each other, as long as those do that have one name.
 abbrev pub SameMeaningsGoInStep : Type 0
 SameMeaningsGoInStep =
     (modules modules' : List ModuleFields) (parts parts' : List PartSeen) (size : ℕ) (s s' : StartSeen)
     → IsStartOf parts size s → IsStartOf parts' size s' → AreSources modules parts
-    → AreSources modules' parts'
+    → AreSources modules' parts' → AreBeside (linked_at parts size s) (linked_at parts' size s')
     → (names : SameNames (linked_at parts size s) (linked_at parts' size s')) → GoByNames names
-    → SamePlaces names (placed parts size) (placed parts' size) (placed parts size) (placed parts' size)
-    → (m : Exported) → main_of (placed parts size) ≡ Some m → main_of (placed parts' size) ≡ Some m
-    → stack_base_of (placed parts size) ≡ stack_base_of (placed parts' size)
-    → is_inside (layout s) (overlay_at s).state ≡ false → is_inside (layout s') (overlay_at s').state ≡ false
     → MeanTheSame (map program_of modules) (map program_of modules') size
-    → GoesInStep (linked_at parts size s) (linked_at parts' size s') names [] (overlay_at s).state
-    (overlay_at s').state
+    → DoesTheSameBy (linked_at parts size s) (linked_at parts' size s') names s s'
 
--- ---- links beside each other
+-- there are names by which they do
+abbrev pub DoesTheSame : (g h : Link) → StartSeen → StartSeen → Type 0
+DoesTheSame g h s s' = (names : SameNames g h) × GoByNames names × DoesTheSameBy g h names s s'
 
--- at each place the same untrusted part stands in both lists, or trusted ones
-abbrev pub SameUntrusted : List PartSeen → List PartSeen → Type 0
-SameUntrusted [] [] = Unit {0}
-SameUntrusted [] (q ∷ qs) = ⊥
-SameUntrusted (p ∷ ps) [] = ⊥
-SameUntrusted (p ∷ ps) (q ∷ qs) =
-    (((p ≡ q) × (p.trusted ≡ false)) ⊎ ((p.trusted ≡ true) × (q.trusted ≡ true))) × SameUntrusted ps qs
-
--- Two links of the same untrusted parts in their places, with one stack, in which an address that is of a
--- region in both is a trusted part's own in both or in neither.
-pub record AreBeside (g h : Link) : Type 0 where
-  pub places : SameUntrusted g.parts h.parts
-  pub stack : stack_base_of g.parts ≡ stack_base_of h.parts
-  pub free : (a : ℕ) → in_regions a (regions g) ≡ true → in_regions a (regions h) ≡ true
-      → IsFreeAt g a ↔ IsFreeAt h a
-
--- from the first states on, where exports of trusted parts and sites stand for each other by their names
-abbrev pub DoesTheSame : (g h : Link) → OState → OState → Type 0
-DoesTheSame g h o o' = (names : SameNames g h) × GoByNames names × GoesInStep g h names [] o o'
-
--- Sources that mean the same can't be told apart, where main is untrusted.
+-- So no code outside can tell them apart, where there is any: a part is untrusted.
 abbrev pub SameMeaningsAreNotToldApart : Type 0
 SameMeaningsAreNotToldApart =
     (modules modules' : List ModuleFields) (parts parts' : List PartSeen) (size : ℕ) (s s' : StartSeen)
     → IsStartOf parts size s → IsStartOf parts' size s' → AreSources modules parts
     → AreSources modules' parts' → AreBeside (linked_at parts size s) (linked_at parts' size s')
-    → (m : Exported) → main_of (placed parts size) ≡ Some m → main_of (placed parts' size) ≡ Some m
-    → m.part.trusted ≡ false → MeanTheSame (map program_of modules) (map program_of modules') size
-    → DoesTheSame (linked_at parts size s) (linked_at parts' size s') (overlay_at s).state
-    (overlay_at s').state
-    × DoesTheSame (linked_at parts' size s') (linked_at parts size s) (overlay_at s').state
-    (overlay_at s).state
-
--- where trusted code runs first, and in the one lets go for the first time, so it does in the other, with the
--- same shown; and from there on code outside does the same
-abbrev pub LetsGoToo : (g h : Link) → StartSeen → StartSeen → Type 0
-LetsGoToo g h s s' =
-    (names : SameNames g h) × GoByNames names
-    × ((a : Round) → IsFirst s a → (b : Round) × IsFirst s' b × (cs : Calls)
-    × SameCrossing g h names [] a b cs × GoesInStep g h names cs a.after b.after)
-
--- Nor can they be told apart where main is theirs.
-abbrev pub SameMeaningsLetGo : Type 0
-SameMeaningsLetGo =
-    (modules modules' : List ModuleFields) (parts parts' : List PartSeen) (size : ℕ) (s s' : StartSeen)
-    → IsStartOf parts size s → IsStartOf parts' size s' → AreSources modules parts
-    → AreSources modules' parts' → AreBeside (linked_at parts size s) (linked_at parts' size s')
-    → is_inside (layout s) (overlay_at s).state ≡ true → is_inside (layout s') (overlay_at s').state ≡ true
+    → (p : PartSeen) → IsUntrusted (linked_at parts size s) p
     → MeanTheSame (map program_of modules) (map program_of modules') size
-    → LetsGoToo (linked_at parts size s) (linked_at parts' size s') s s'
-    × LetsGoToo (linked_at parts' size s') (linked_at parts size s) s' s
+    → DoesTheSame (linked_at parts size s) (linked_at parts' size s') s s'
+    × DoesTheSame (linked_at parts' size s') (linked_at parts size s) s' s

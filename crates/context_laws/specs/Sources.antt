@@ -1,12 +1,12 @@
 -- Linked sources in lockstep.
-use Rattle.std.specs.Prelude.{◌≡◌, ◌⊎◌, ℕ, false, true, List, [], ◌∷◌, Option, Some, None}
+use Rattle.std.specs.Prelude.{◌≡◌, ◌⊎◌, ◌↔◌, ℕ, false, List, [], Option, Some, None}
 use Rattle.std.specs.List.{Contains}
 use Rattle.component_file.specs.declared.component.Import.{Import}
-use Rattle.overlay_machine.specs.Link.{Link}
+use Rattle.overlay_machine.specs.Link.{Link, IsUntrusted}
 use Rattle.lcm_machine.specs.Cells.{cell}
 use Rattle.component_linker.specs.Parts.{PartSeen}
 use Rattle.component_linker.specs.Standing.{placed}
-use Rattle.component_linker.specs.Start.{Exported, main_of, imported, stack_base_of}
+use Rattle.component_linker.specs.Start.{Exported, main_of, imported}
 use Rattle.component_linker.specs.Started.{StartSeen}
 use Rattle.component_linker.specs.LinkedStarts.{IsStartOf}
 use Rattle.proc_language.specs.declared.module.ModuleFields.{ModuleFields}
@@ -55,13 +55,12 @@ SourcesAgainstContexts I O =
     → (q' : OState) × (bs : List Round) × Path (layout s') n p' bs q'
     × InStep (linked_at parts size s) (linked_at parts' size' s') names cs as_ bs q q'
 
--- Starts with the same main, of the same stack, are alike to code outside where their cells are.
+-- Starts with the same main are alike to code outside where their cells are.
 abbrev pub StartsAlike : Type 0
 StartsAlike =
     (parts parts' : List PartSeen) (size : ℕ) (s s' : StartSeen) → IsStartOf parts size s
     → IsStartOf parts' size s' → (names : SameNames (linked_at parts size s) (linked_at parts' size s'))
-    → (m : Exported) → main_of (placed parts size) ≡ Some m → main_of (placed parts' size) ≡ Some m
-    → stack_base_of (placed parts size) ≡ stack_base_of (placed parts' size)
+    → main_of (placed parts size) ≡ main_of (placed parts' size)
     → ((a : ℕ) → IsFreeAt (linked_at parts size s) a
     → CellPair (SameWord (linked_at parts size s) (linked_at parts' size s') names [])
     (IsFreeAt (linked_at parts size s)) (cell (overlay_at s).state.maps.cells a)
@@ -71,6 +70,11 @@ StartsAlike =
 
 -- ---- where their cells are
 
+-- Links beside each other: the same untrusted parts stand in both, at the same addresses. Nothing is said of
+-- the trusted ones.
+abbrev pub AreBeside : Link → Link → Type 0
+AreBeside g h = (p : PartSeen) → IsUntrusted g p ↔ IsUntrusted h p
+
 -- an import names the same export of an untrusted part in both, or twins, or nothing
 abbrev pub SameImported : {g h : Link} → SameNames g h → Option Exported → Option Exported → Type 0
 SameImported names None None = Unit {0}
@@ -78,28 +82,19 @@ SameImported names None (Some y) = ⊥
 SameImported names (Some x) None = ⊥
 SameImported names (Some x) (Some y) = ((x ≡ y) × (x.part.trusted ≡ false)) ⊎ Contains names.twins (x, y)
 
--- in two lists of parts at each place the same untrusted part stands, whose imports name the same, or trusted
--- ones
-abbrev pub SamePlaces : {g h : Link} → SameNames g h → List PartSeen → List PartSeen → List PartSeen
-    → List PartSeen → Type 0
-SamePlaces names parts parts' [] [] = Unit {0}
-SamePlaces names parts parts' [] (q ∷ qs) = ⊥
-SamePlaces names parts parts' (p ∷ ps) [] = ⊥
-SamePlaces names parts parts' (p ∷ ps) (q ∷ qs) =
-    (((p ≡ q) × (p.trusted ≡ false)
-    × ((i : Import) → Contains p.component.imports i
-    → SameImported names (imported parts i) (imported parts' i))) ⊎ ((p.trusted ≡ true) × (q.trusted ≡ true)))
-    × SamePlaces names parts parts' ps qs
+-- so does each import of an untrusted part
+abbrev pub ImportTheSame : {g h : Link} → SameNames g h → Type 0
+ImportTheSame {g} {h} names =
+    (p : PartSeen) (i : Import) → IsUntrusted g p → Contains p.component.imports i
+    → SameImported names (imported g.parts i) (imported h.parts i)
 
--- Starts of placed parts that are the same but for their trusted ones, with the same main, of the same stack,
--- are alike to code outside.
+-- Starts of links beside each other with the same main are alike to code outside.
 abbrev pub PlacedStartsAlike : Type 0
 PlacedStartsAlike =
     (parts parts' : List PartSeen) (size : ℕ) (s s' : StartSeen) → IsStartOf parts size s
     → IsStartOf parts' size s' → (names : SameNames (linked_at parts size s) (linked_at parts' size s'))
-    → (m : Exported) → main_of (placed parts size) ≡ Some m → main_of (placed parts' size) ≡ Some m
-    → stack_base_of (placed parts size) ≡ stack_base_of (placed parts' size)
-    → SamePlaces names (placed parts size) (placed parts' size) (placed parts size) (placed parts' size)
+    → AreBeside (linked_at parts size s) (linked_at parts' size s') → ImportTheSame names
+    → main_of (placed parts size) ≡ main_of (placed parts' size)
     → Alike (linked_at parts size s) (linked_at parts' size s') names [] (overlay_at s).state
     (overlay_at s').state × AreBelow [] (overlay_at s).state (overlay_at s').state
 
@@ -119,7 +114,7 @@ FirstArrivalsAlike =
     (modules modules' : List ModuleFields) (parts parts' : List PartSeen) (size size' : ℕ) (s s' : StartSeen)
     → IsStartOf parts size s → IsStartOf parts' size' s' → AreSources modules parts
     → AreSources modules' parts' → (names : SameNames (linked_at parts size s) (linked_at parts' size' s'))
-    → SamePlaces names (placed parts size) (placed parts' size') (placed parts size) (placed parts' size')
+    → AreBeside (linked_at parts size s) (linked_at parts' size' s') → ImportTheSame names
     → (a b : Round) → IsFirst s a → IsFirst s' b → (cs : Calls)
     → SameCrossing (linked_at parts size s) (linked_at parts' size' s') names [] a b cs
     → SameWiped (linked_at parts size s) a b
@@ -129,17 +124,15 @@ FirstArrivalsAlike =
 
 -- ---- whole runs
 
--- Two links of sources beside the same untrusted parts, in their places, with the same main of theirs: from
--- the start on code outside makes the same steps, as long as the same is observed.
+-- Two links of sources beside each other, where main is untrusted: from the start on code outside makes the
+-- same steps, as long as the same is observed.
 abbrev pub WholeRunsInStep : Type 0
 WholeRunsInStep =
     (modules modules' : List ModuleFields) (parts parts' : List PartSeen) (size : ℕ) (s s' : StartSeen)
     → IsStartOf parts size s → IsStartOf parts' size s' → AreSources modules parts
     → AreSources modules' parts' → (names : SameNames (linked_at parts size s) (linked_at parts' size s'))
-    → SamePlaces names (placed parts size) (placed parts' size) (placed parts size) (placed parts' size)
-    → (m : Exported) → main_of (placed parts size) ≡ Some m → main_of (placed parts' size) ≡ Some m
-    → stack_base_of (placed parts size) ≡ stack_base_of (placed parts' size)
-    → is_inside (layout s) (overlay_at s).state ≡ false → is_inside (layout s') (overlay_at s').state ≡ false
+    → AreBeside (linked_at parts size s) (linked_at parts' size s') → ImportTheSame names
+    → is_inside (layout s) (overlay_at s).state ≡ false
     → (n : ℕ) (q q' : OState) (as_ bs : List Round) → Path (layout s) n (overlay_at s).state as_ q
     → Path (layout s') n (overlay_at s').state bs q'
     → SameObserved (linked_at parts size s) (linked_at parts' size s') names [] as_ bs

@@ -4,7 +4,6 @@ ghost use Rattle.context_laws.specs.Contexts.{NoContextTells};
 ghost use Rattle.context_laws.specs.Itself.{AlikeToItself};
 ghost use Rattle.context_laws.specs.Lockstep.{RunInStep};
 ghost use Rattle.context_laws.specs.Meanings.{SameMeaningsAreNotToldApart, SameMeaningsGoInStep};
-ghost use Rattle.context_laws.specs.Meanings.{SameMeaningsLetGo};
 ghost use Rattle.context_laws.specs.Ends.{SameMeaningsEndAlike};
 ghost use Rattle.context_laws.specs.Related.{SameNames, OutsideStepsAlike};
 ghost use Rattle.context_laws.specs.Sources.{FirstArrivalsAlike, PlacedStartsAlike, SourcesAgainstContexts};
@@ -53,13 +52,12 @@ pub fn no_context_tells_sources<I, O>()
     sources_leave_nothing();
 }
 
-/// Starts with one main, of code outside, and one stack are alike to code outside where their cells are.
+/// Starts with one main are alike to code outside where their cells are.
 pub fn starts_are_alike()
     ensures { StartsAlike }
 {}
 
-/// And so are starts of placed parts that are the same but for their trusted ones, where the imports of the
-/// others name the same exports, or twins.
+/// And so are starts of links beside each other, in which untrusted parts import the same exports, or twins.
 pub fn placed_starts_are_alike()
     ensures { PlacedStartsAlike }
 {
@@ -76,8 +74,8 @@ pub fn first_arrivals_are_alike()
     sources_leave_nothing();
 }
 
-/// Whole runs of two links of sources, beside the same untrusted parts in the same places: from the start on
-/// code outside makes the same steps in both, as long as the same is observed.
+/// Whole runs of two links of sources, beside each other, where main is untrusted: from the start on code
+/// outside makes the same steps in both, as long as the same is observed.
 pub fn whole_runs_go_in_step()
     ensures { WholeRunsInStep }
 {
@@ -88,13 +86,14 @@ pub fn whole_runs_go_in_step()
 
 /// Sources that mean the same can't be told apart, whatever untrusted parts are linked beside them.
 ///
-/// Take two lists of modules, linked with the same untrusted parts in the same places, where main is one of
-/// theirs, and let the refined meanings of both tell the same on each feed: of each call the name of its part
-/// and its number there, where its frame begins, the lowest wiped cell, and by names the pair by which it
-/// goes and what each argument register holds; of each procedure that leaves its part, its value, the lowest
-/// wiped cell, and the item that entered it. Then whatever code outside does beside the one, it does beside
-/// the other, and the other way round: it makes as many steps, comes in and is let go as often, the same
-/// items come in, and it ends alike.
+/// Take two lists of modules, linked with the same untrusted parts at the same addresses, and let the refined
+/// meanings of both tell the same on each feed: of each call the name of its part and its number there, where
+/// its frame begins, the lowest wiped cell, and by names the pair by which it goes and what each argument
+/// register holds; of each procedure that leaves its part, its value, the lowest wiped cell, and the item that
+/// entered it. Then whatever code outside does beside the one, it does beside the other, and the other way
+/// round: it makes as many steps, comes in and is let go as often, the same items come in, and it ends alike.
+/// Where main is theirs, that is said from where they let go for the first time; where the one does, so does
+/// the other, with the same shown.
 pub fn same_meanings_are_not_told_apart()
     ensures { SameMeaningsAreNotToldApart }
 {
@@ -106,22 +105,8 @@ pub fn same_meanings_are_not_told_apart()
     sources_mean();
 }
 
-/// Nor can they where main is theirs: let trusted code run first in both. Where the one lets go for the first
-/// time, so does the other, with the same shown; and whatever code outside does from there on beside the one,
-/// it does beside the other, and the other way round.
-pub fn same_meanings_let_go()
-    ensures { SameMeaningsLetGo }
-{
-    starts_begin();
-    linked_starts_agree();
-    sources_leave_nothing();
-    sources_tell_words();
-    wiped_cells_are_told();
-    sources_mean();
-}
-
-/// The same, where main is untrusted, for any choice of which exports and sites stand for each other, as long
-/// as those do that have one name.
+/// The same for any choice of which exports and sites stand for each other, as long as those do that have one
+/// name; and also where no part is untrusted.
 pub fn same_meanings_go_in_step()
     ensures { SameMeaningsGoInStep }
 {
@@ -136,7 +121,7 @@ pub fn same_meanings_go_in_step()
 /// Sources that mean the same and end the same way can be put in each other's place: whole plain runs end
 /// alike.
 ///
-/// Take two lists of modules, linked with the same untrusted parts in the same places, whichever part has
+/// Take two lists of modules, linked with the same untrusted parts at the same addresses, whichever part has
 /// main, and let the refined meanings of both tell the same on each feed whose integers have 64 bits, as
 /// above, and end the same way on it: by `halt` with one value, by a failure, with nothing left in the feed,
 /// or not at all. Then the plain run of the one link halts if and only if that of the other does, both with

@@ -1,4 +1,4 @@
-use Rattle.context_laws.proofs.Meanings.{same_meanings as answer}
+use Rattle.context_laws.proofs.Apart.{goes_in_step as answer}
 use Rattle.context_laws.proofs.laws.same_meanings_go_in_step.Goals as goal
 
 pub returns : goal.returns
