@@ -3,3 +3,5 @@ pub mod Passing
 pub mod Means
 pub mod Links
 pub mod Apart
+pub mod Run
+pub mod Round

@@ -33,7 +33,7 @@ use Rattle.callback_instance.proofs.Modules.{limits, limits_too, resolved, resol
 
 -- ---- the components
 
-passes_fits : FitsComponent (part_of passes)
+pub passes_fits : FitsComponent (part_of passes)
 unfolding code_words data_count variable_named callee_named
 passes_fits = record { limits = part_fits passes limits; code = omega arith; data_words = omega arith }
 
@@ -41,13 +41,13 @@ stores_fits : FitsComponent (part_of stores)
 unfolding code_words data_count variable_named callee_named
 stores_fits = record { limits = part_fits stores limits_too; code = omega arith; data_words = omega arith }
 
-one_limits : IsComponent (compiled passes)
+pub one_limits : IsComponent (compiled passes)
 one_limits = limits_kept (part_of passes) passes_fits (names_differ passes resolved) (omega arith)
 
 two_limits : IsComponent (compiled stores)
 two_limits = limits_kept (part_of stores) stores_fits (names_differ stores resolved_too) (omega arith)
 
-one_checked : check_from (broken_at C) 1 (rules_c (compiled passes) true) ≡ Ok tt
+pub one_checked : check_from (broken_at C) 1 (rules_c (compiled passes) true) ≡ Ok tt
 unfolding c1 c2 c3 c4 c5 c6 c7 c8 c9 c10 c11 c12 number_of entry_code call_code return_code component_of
     frame_of
     laid_of lay_proc before_epilogue put instrs first_data exports_of imports_of variable_named callee_named
@@ -59,7 +59,7 @@ unfolding c1 c2 c3 c4 c5 c6 c7 c8 c9 c10 c11 c12 number_of entry_code call_code 
     laid_of lay_proc before_epilogue put instrs first_data exports_of imports_of variable_named callee_named
 two_checked = refl
 
-one_linked : check_from rule_at 1 (map by_part (rules_l (parts_of (compiled passes)) 8)) ≡ Ok tt
+pub one_linked : check_from rule_at 1 (map by_part (rules_l (parts_of (compiled passes)) 8)) ≡ Ok tt
 unfolding l1 l2 l3 l4 l5 l6 l7 l8 l9 number_of entry_code call_code return_code component_of frame_of
     laid_of lay_proc before_epilogue put instrs first_data exports_of imports_of variable_named callee_named
 one_linked = refl
@@ -71,7 +71,7 @@ two_linked = refl
 
 -- ---- what is asked of them; each has one site
 
-pub one_links : Links (compiled passes) 137 2
+unfoldable pub one_links : Links (compiled passes) 137 2
 unfolding regions_of number_of entry_code call_code return_code component_of frame_of laid_of lay_proc
     before_epilogue put instrs first_data exports_of imports_of variable_named callee_named l10
 one_links = record {

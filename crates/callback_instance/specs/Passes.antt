@@ -89,18 +89,20 @@ stores = record {
       ∷ [];
 }
 
--- code outside enters f with 3, a pair of its own and 20 words of the stack, to which it will leave; then the
+-- code outside enters f with 3, a pair of its own and 8 words of the stack, to which it will leave; then the
 -- call of the callback is answered with 9
 abbrev pub asked : List Item
-asked = Enter (116 ∷ []) (102 ∷ []) (Some 20) (Some (pos 3) ∷ []) (fed.Nothing ∷ fed.Out ∷ []) way.Out
-    ∷ Ret (116 ∷ []) 0 313 (Some (pos 9)) ∷ []
+asked =
+    Enter (116 ∷ []) (102 ∷ []) (Some 8) (Some (pos 3) ∷ None ∷ None ∷ Some (pos 0) ∷ [])
+    (fed.Nothing ∷ fed.Out ∷ fed.Nothing ∷ []) way.Out
+    ∷ Ret (116 ∷ []) 0 301 (Some (pos 9)) ∷ []
 
 -- the callback is called with 6, by the pair that came with the first item; and f leaves with 9
 abbrev pub called_and_left : List (Event observing.Name ℕ)
 called_and_left =
-    Calls (116 ∷ []) 0 313 (Some 14) (Some (Came 0 1)) (Some (Came 0 2))
+    Calls (116 ∷ []) 0 301 (Some 2) (Some (Came 0 1)) (Some (Came 0 2))
     (Number (pos 6) ∷ Number (pos 0) ∷ Number (pos 0) ∷ Number (pos 0) ∷ [])
-    ∷ Leaves (116 ∷ []) (pos 9) (Some 13) 0 ∷ []
+    ∷ Leaves (116 ∷ []) (pos 9) (Some 1) 0 ∷ []
 
 -- links of both, beside each other, with the same main, which is untrusted
 pub record PassersBeside : Type 0 where

@@ -1,5 +1,6 @@
 //! That sources which call out can mean the same. This function does nothing; its contract is the law.
 ghost use Rattle.callback_instance.specs.Passes.{TwoPassers};
+ghost use Rattle.callback_instance.specs.CalledBack.{PassersCallBack};
 
 use context_laws::laws::{same_meanings_are_not_told_apart, same_meanings_end_alike};
 
@@ -13,4 +14,13 @@ pub fn two_passers_are_one()
 {
     same_meanings_are_not_told_apart();
     same_meanings_end_alike();
+}
+
+/// In such a run the callback is called. Beside code outside that enters the procedure with 3 and with a pair of
+/// its own, the first module calls that pair with 6; it answers 9, is left to with 9, and halts. And by the law,
+/// the run of the other link goes in step: step by step, in as many rounds, with the same items coming in.
+pub fn passers_are_called_back()
+    ensures { PassersCallBack }
+{
+    same_meanings_are_not_told_apart();
 }

@@ -54,7 +54,7 @@ stack = record { base = 300; end = 307 }
 abbrev pub regions_are : ℕ → ℕ → List Region
 regions_are n d =
     record { base = 1; end = n; linear = false } ∷ record { base = 200; end = 200 + d - 1; linear = false }
-    ∷ record { base = 250; end = 258; linear = false } ∷ record { base = 262; end = 265; linear = false }
+    ∷ record { base = 250; end = 265; linear = false } ∷ record { base = 272; end = 277; linear = false }
     ∷ record { base = 300; end = 307; linear = true } ∷ []
 
 -- what is asked of a module's component
@@ -199,7 +199,7 @@ module _ (c : ComponentFields) (n d : ℕ) (is : Links c n d) where
     stack = is.stack_is;
   }
 
-  is_linked : IsLinkedStart P 8 start
+  pub is_linked : IsLinkedStart P 8 start
   is_linked = record { accepted = each; room = is.room; rules = is.links; starts = starts }
 
   pub placed_same : placed P 8 ≡ P

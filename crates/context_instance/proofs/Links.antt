@@ -4,9 +4,9 @@ use Rattle.std.proofs.Common.{refl, arith, subst, rules}
 use Rattle.std.specs.Prelude.{slice_get}
 use Rattle.cap_words.specs.Names.{is_name}
 use Rattle.cap_words.specs.declared.Word.TheVariants.{Int}
-use Rattle.lcm_isa.specs.declared.Instr.TheVariants.{Load, Cca, Xjmp}
+use Rattle.lcm_isa.specs.declared.Instr.TheVariants.{Halt, Move, Load, Cca, Xjmp}
 use Rattle.lcm_isa.specs.declared.Operand.TheVariants.{Imm}
-use Rattle.lcm_isa.specs.declared.Reg.TheVariants.{Rcode, Rdata, Dat, C1, C2}
+use Rattle.lcm_isa.specs.declared.Reg.TheVariants.{Rcode, Rdata, Dat, C1, C2, A0, A1, A2}
 use Rattle.lcm_isa.specs.Numbers.{number_of}
 use Rattle.component_file.specs.declared.component.ComponentFields.{ComponentFields}
 use Rattle.component_file.specs.Limits.{IsComponent}
@@ -66,9 +66,8 @@ unfolding c1 c2 c3 c4 c5 c6 c7 c8 c9 c10 c11 c12 number_of entry_code call_code 
     laid_of lay_proc before_epilogue put instrs first_data exports_of imports_of variable_named
 two_checked = refl
 
--- ---- the adversary: its main loads the pair of its own `g`, to which the module is to return, and enters
--- the module;
--- ---- its `g` goes right back
+-- ---- the adversary: its main loads the pair of its own `h`, to which the module is to return, and that of
+-- ---- its `g` as a callback, and enters the module with 3; its `g` answers 9, and its `h` halts
 
 abbrev pub adversary : ComponentFields
 adversary = record {
@@ -80,12 +79,16 @@ adversary = record {
   code_base = 250;
   code = map (λ i. Int (pos (number_of i)))
       (Load Rcode Dat ∷ Cca Dat (Imm (pos 1)) ∷ Load Rdata Dat ∷ Cca Dat (Imm (pos 1))
-      ∷ Load C1 Dat ∷ Cca Dat (Imm (pos 1)) ∷ Load C2 Dat ∷ Xjmp C1 C2 ∷ Xjmp Rcode Rdata ∷ []);
-  data_base = 262;
-  data_words = Int (pos 0) ∷ Int (pos 0) ∷ Int (pos 0) ∷ Int (pos 0) ∷ [];
-  imports = record { part = 117 ∷ []; name = 103 ∷ []; slot = 0 }
-      ∷ record { part = 116 ∷ []; name = 102 ∷ []; slot = 2 } ∷ [];
-  exports = record { name = 103 ∷ []; offset = 8; shared = true }
+      ∷ Load A1 Dat ∷ Cca Dat (Imm (pos 1)) ∷ Load A2 Dat ∷ Cca Dat (Imm (pos 1))
+      ∷ Load C1 Dat ∷ Cca Dat (Imm (pos 1)) ∷ Load C2 Dat ∷ Move A0 (Imm (pos 3)) ∷ Xjmp C1 C2
+      ∷ Move A0 (Imm (pos 9)) ∷ Xjmp Rcode Rdata ∷ Halt ∷ []);
+  data_base = 272;
+  data_words = Int (pos 0) ∷ Int (pos 0) ∷ Int (pos 0) ∷ Int (pos 0) ∷ Int (pos 0) ∷ Int (pos 0) ∷ [];
+  imports = record { part = 117 ∷ []; name = 104 ∷ []; slot = 0 }
+      ∷ record { part = 117 ∷ []; name = 103 ∷ []; slot = 2 }
+      ∷ record { part = 116 ∷ []; name = 102 ∷ []; slot = 4 } ∷ [];
+  exports = record { name = 103 ∷ []; offset = 13; shared = true }
+      ∷ record { name = 104 ∷ []; offset = 15; shared = true }
       ∷ record { name = 109 ∷ 97 ∷ 105 ∷ 110 ∷ []; offset = 0; shared = true } ∷ [];
   sites = [];
   fail_at = None;
@@ -106,8 +109,14 @@ adversary_fits = record {
   code = ((omega arith, omega arith), search (rules, arith));
   data_base = omega arith;
   data_words = ((omega arith, omega arith), search (rules, arith));
-  imports = (omega arith, ((refl, refl, omega arith, refl), ((refl, refl, omega arith, refl), tt)));
-  exports = (omega arith, ((refl, refl, omega arith), ((refl, refl, omega arith), tt)));
+  imports = (
+    omega arith,
+    ((refl, refl, omega arith, refl), ((refl, refl, omega arith, refl), ((refl, refl, omega arith, refl), tt))),
+  );
+  exports = (
+    omega arith,
+    ((refl, refl, omega arith), ((refl, refl, omega arith), ((refl, refl, omega arith), tt))),
+  );
   sites = (omega arith, tt);
   fail_at = tt;
   literal_at = tt;

@@ -1,0 +1,5 @@
+pub mod Known
+pub mod Calls
+pub mod Runs
+pub mod Begins
+pub mod Offers
