@@ -46,7 +46,7 @@ use Rattle.known_steps.specs.Known.{Partly, Stays, here, on}
 use Rattle.known_steps.proofs.Offers.{Steps_to, whole, step_known, Crosses_to, call_known, return_known, Runs_to}
 use Rattle.known_steps.proofs.Offers.{runs_known, jump_note}
 use Rattle.known_steps.proofs.Offers.{halts_known, event_by, jump_event, known_at_start}
-use Rattle.context_instance.proofs.Offers.{parts_of, main, is_linked}
+use Rattle.context_instance.proofs.Offers.{other, parts_of, main, is_linked, other_there}
 use Rattle.callback_instance.specs.Passes.{passes, stores, asked, PassersBeside}
 use Rattle.callback_instance.specs.CalledBack.{RunCallsBack, PassersCallBack}
 use Rattle.callback_instance.proofs.Links.{passes_start, one_links}
@@ -84,7 +84,7 @@ S = passes_start.state.maps.spans
 abbrev at_start : OState
 at_start = (overlay_at passes_start).state
 
--- before the first call, with it open, and behind it
+-- before the first call, with it open, and after it
 abbrev before_call : Partly → Cells → OState
 before_call s m = whole K S L [] 0 s m
 
@@ -321,8 +321,8 @@ pub passers_call_back : SameMeaningsAreNotToldApart → PassersCallBack
 passers_call_back law =
     let t = links_there in
     let both = law (passes ∷ []) (stores ∷ []) t.parts t.parts_too t.size t.start t.start_too t.is t.is_too t.sources
-    t.sources_too t.beside t.main t.main_is t.main_too t.untrusted (mean_the_same t.size) in
-    let r = both.0.2 run.steps run.last (run.first ∷ run.second ∷ []) run.path in
+    t.sources_too t.beside other (other_there (compiled passes) 137 2 one_links) (mean_the_same t.size) in
+    let r = both.0.2.begins sides.begins run.steps run.last (run.first ∷ run.second ∷ []) run.path in
     record {
       there = t;
       one = run;

@@ -209,7 +209,7 @@ module _ (c : ComponentFields) (n d : ℕ) (is : Links c n d) where
   is_start_of = subst (λ ps. IsLinkedStart ps 8 start) (sym placed_same) is_linked
 
   -- the adversary alone is untrusted
-  other_there : IsUntrusted (linked_at P 8 start) other
+  pub other_there : IsUntrusted (linked_at P 8 start) other
   other_there = (subst (λ ps. Contains ps other) (sym placed_same) (1, omega arith, refl), refl)
 
   only_other : (p : PartSeen) → IsUntrusted (linked_at P 8 start) p → other ≡ p
