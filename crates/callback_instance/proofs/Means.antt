@@ -8,6 +8,7 @@ use Rattle.same_meanings.specs.Same.{FeedOf}
 use Rattle.context_laws.specs.Meanings.{name_of, observed, MeanTheSame}
 use Rattle.context_laws.specs.Meanings as observing
 use Rattle.context_laws.specs.Ends.{EndTheSame}
+use Rattle.context_laws.proofs.Offers.{settled_mean, settled_ends}
 use Rattle.callback_instance.specs.Passes.{passes, stores, asked, called_and_left}
 use Rattle.callback_instance.proofs.Passing.{passes_same}
 
@@ -16,16 +17,16 @@ any_feed [] = tt
 any_feed (i ∷ feed) = (tt, any_feed feed)
 
 pub mean_the_same : (size : ℕ) → MeanTheSame (map part_of (passes ∷ [])) (map part_of (stores ∷ [])) size
-mean_the_same size feed fits =
+mean_the_same size = settled_mean (part_of passes ∷ []) (part_of stores ∷ []) size (λ feed fits.
     let r = passes_same observing.Name (name_of (part_of passes ∷ [])) (name_of (part_of stores ∷ []))
     (λ k j. refl) size feed (any_feed feed) in
-    (r.0, λ f le. (r.1 f le).0)
+    (r.0, λ f le. (r.1 f le).0))
 
 pub end_the_same : (size : ℕ) → EndTheSame (map part_of (passes ∷ [])) (map part_of (stores ∷ [])) size
-end_the_same size feed fits =
+end_the_same size = settled_ends (part_of passes ∷ []) (part_of stores ∷ []) size (λ feed fits.
     let r = passes_same observing.Name (name_of (part_of passes ∷ [])) (name_of (part_of stores ∷ []))
     (λ k j. refl) size feed (any_feed feed) in
-    (r.0, λ f le. (r.1 f le).1)
+    (r.0, λ f le. (r.1 f le).1))
 
 pub calls : (size : ℕ) → observed (map part_of (passes ∷ [])) size asked 40 ≡ called_and_left
 unfolding found main_target variable_named callee_named

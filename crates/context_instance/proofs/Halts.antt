@@ -5,7 +5,7 @@ use Rattle.cap_words.specs.Names as names
 use Rattle.source_events.specs.declared.Item.{Item}
 use Rattle.source_events.specs.declared.Item.TheVariants.{Enter, Ret}
 use Rattle.source_events.specs.declared.FeedBack.TheVariants as way
-use Rattle.source_events.specs.declared.MeaningEnd.TheVariants.{Halt as Halted}
+use Rattle.source_events.specs.declared.MeaningEnd.TheVariants.{Halt as Halted, OutOfFuel}
 use Rattle.proc_language.specs.Words.{is_source_name, is_reserved}
 use Rattle.proc_language.specs.Limits.{IsModule}
 use Rattle.proc_names.specs.Names.{variable_named, callee_named, passed_named}
@@ -21,6 +21,7 @@ use Rattle.proc_semantics.specs.Rules.{by_item, level}
 use Rattle.proc_semantics.specs.Marked.{Thing, Whence, Frame, Regs, numbered_items, refined}
 use Rattle.proc_semantics.specs.Marked as tagged
 use Rattle.context_laws.specs.Meanings.{observed}
+use Rattle.context_laws.proofs.Offers.{settled_mean, end_later}
 use Rattle.context_instance.specs.Halts.{halts, EndsCount}
 use Rattle.context_instance.proofs.Means.{M, Silent, tick, ticks_silent}
 use Rattle.context_instance.proofs.Same.{first, observed_is, end_is}
@@ -157,16 +158,13 @@ pub ends_count : EndsCount
 ends_count = record {
   limits = (limits 1 (omega arith), limits 2 (omega arith));
   resolved = (resolved 1, resolved 2);
-  same = λ size feed fits. (
-    0,
-    λ f le.
-        nothing_observed 1 size feed f ∙ sym (nothing_observed 2 size feed f),
-  );
+  same = λ size. settled_mean (W 1) (W 2) size
+      (λ feed fits. (0, λ f le. nothing_observed 1 size feed f ∙ sym (nothing_observed 2 size feed f)));
   ends = λ size e. (
-      let z = e entry (tt, tt) in
-      let f = z.0 + 10 in
-      let h : Halted (pos 1) ≡ Halted (pos 2) =
-      sym (ends_so 1 size f (omega arith)) ∙ z.1 f (omega arith) ∙ ends_so 2 size f (omega arith) in
+      let one = ends_so 1 size 10 (omega arith) in
+      let z = e.0 entry (tt, tt) 10 (λ out. (let bad : Halted (pos 1) ≡ OutOfFuel = sym one ∙ out in cc)) in
+      let two = end_later (W 2) size entry z.0 10 (Halted (pos 1)) (z.1 ∙ one) (λ out. cc) in
+      let h : Halted (pos 1) ≡ Halted (pos 2) = sym two ∙ ends_so 2 size (z.0 + 10) (omega arith) in
       cc
       );
 }

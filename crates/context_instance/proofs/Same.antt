@@ -21,6 +21,7 @@ use Rattle.source_events.specs.declared.MeaningEnd.{MeaningEnd}
 use Rattle.proc_semantics.specs.Marked.{Event, Leaves, Whence, Frame, numbered_items, event_to, refined}
 use Rattle.context_laws.specs.Meanings.{Name, name_of, observed, MeanTheSame}
 use Rattle.context_laws.specs.Ends.{EndTheSame}
+use Rattle.context_laws.proofs.Offers.{settled_mean, settled_ends}
 use Rattle.context_instance.specs.Doubles.{sums, keeps}
 use Rattle.context_instance.proofs.Means.{M, tick, tell, tell_item, tell_left, tell_number, tell_value}
 use Rattle.context_instance.proofs.Means.{tell_back, is_it, told, Told}
@@ -161,7 +162,7 @@ observed_is W size feed f es none e =
     (numbered_items 0 feed)).events) none ∙ e)
 
 pub mean_the_same : (size : ℕ) → MeanTheSame (map part_of (sums ∷ [])) (map part_of (keeps ∷ [])) size
-mean_the_same size feed fits =
+mean_the_same size = settled_mean (U ∷ []) (V ∷ []) size (λ feed fits.
     let a = sums_told feed 0 ([] ∷ []) in
     let b = keeps_told feed 0 (one_word (pos 0)) (pos 0, refl) in (
       a.0 + a.1 + b.0 + b.1,
@@ -173,7 +174,7 @@ mean_the_same size feed fits =
           (observed_is (V ∷ []) size feed f (tell V.name (102 ∷ []) (first V.procs).need 0 feed) no_main_too
           (b.2 (f + length (numbered_items 0 feed) + 1) f (omega (arith, le)) (omega (arith, le)))
           ∙ tell_named (name_of (V ∷ [])) V.name (102 ∷ []) (first V.procs).need 0 feed),
-    )
+    ))
 
 -- ---- how they end
 
@@ -190,7 +191,7 @@ end_is W size feed f e none x =
     (numbered_items 0 feed)).end) none ∙ x
 
 pub end_the_same : (size : ℕ) → EndTheSame (map part_of (sums ∷ [])) (map part_of (keeps ∷ [])) size
-end_the_same size feed fits =
+end_the_same size = settled_ends (U ∷ []) (V ∷ []) size (λ feed fits.
     let a = ends U (first U.procs) (102 ∷ []) refl refl refl refl (λ st. Unit {0}) 4 (λ v st. st)
     (λ v st i. i) (λ l f v k st h i. sums_body l f v k st) feed 0 ([] ∷ []) tt in
     let b = ends V (first V.procs) (102 ∷ []) refl refl refl refl Holds 10 (λ v st. one_word v)
@@ -202,4 +203,4 @@ end_the_same size feed fits =
           ∙ sym
           (end_is (V ∷ []) size feed f (end_of V.name (102 ∷ []) (first V.procs).need feed) no_main_too
           (b.2 (f + length (numbered_items 0 feed) + 1) f (omega (arith, le)) (omega (arith, le)))),
-    )
+    ))

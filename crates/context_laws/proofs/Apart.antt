@@ -26,7 +26,7 @@ use Rattle.context_laws.proofs.Meanings.{SourcesMeanAll, first_inside, first_poi
 use Rattle.context_laws.proofs.Arrivals.{lets_go_too}
 
 pub mean_back : (w v : World) (size : ℕ) → MeanTheSame w v size → MeanTheSame v w size
-mean_back w v size same feed fits = ((same feed fits).0, λ f le. sym ((same feed fits).1 f le))
+mean_back w v size same = (same.1, same.0)
 
 -- trusted code runs first where it lets go for the first time
 inside_first : (s : StartSeen) (a : Round) → IsFirst s a → is_inside (layout s) (overlay_at s).state ≡ true
@@ -65,7 +65,7 @@ module _ (begin : StartsBegin) (agree : StartsAgree) (leaves : SourcesLeaveNothi
       beside (one_stack parts parts' size s s' is is' beside p u) in (
         b.0,
         b.1,
-        goes_in_step modules modules' parts parts' size s s' is is' src src' beside b.0 b.1 same,
+        goes_in_step modules modules' parts parts' size s s' is is' src src' beside b.0 b.1 same.0,
       )
 
   pub not_told_apart : SameMeaningsAreNotToldApart

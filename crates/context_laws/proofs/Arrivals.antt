@@ -29,13 +29,14 @@ use Rattle.source_starts.specs.Wiped.{WipedCellsAreTold}
 use Rattle.context_laws.specs.Related.{SameNames, Calls}
 use Rattle.context_laws.specs.Lockstep.{Round, SameCrossing, by_call, by_leave, SameWiped, Holds, Tidies}
 use Rattle.context_laws.specs.Sources.{AreBeside, ImportTheSame, IsFirst}
-use Rattle.context_laws.specs.Meanings.{name_of, MeanTheSame, GoByNames, GoesInStep}
+use Rattle.context_laws.specs.Meanings.{name_of, TellsAsMuch, GoByNames, GoesInStep}
 use Rattle.context_laws.proofs.Counts.{until_reached}
 use Rattle.context_laws.proofs.Whole.{runs_outside}
 use Rattle.context_laws.proofs.Sources.{StartsAgree, linked_is, holds_is, tidies_is}
 use Rattle.context_laws.proofs.Starts.{start_cells_alike}
 use Rattle.context_laws.proofs.First.{first_alike}
 use Rattle.context_laws.proofs.Open.{has_sites, met}
+use Rattle.context_laws.proofs.Fuels.{event_later}
 use Rattle.context_laws.proofs.History.{back_alike}
 use Rattle.context_laws.proofs.Naming.{IsNamed, is_named, named_same}
 use Rattle.context_laws.proofs.Progress.{tells_of, goes_out, TellsMore}
@@ -51,7 +52,7 @@ module _ (begin : StartsBegin) (agree : StartsAgree) (leaves : SourcesLeaveNothi
     (src' : AreSources modules' parts')
     (names : SameNames (linked_at parts size s) (linked_at parts' size s')) (by_names : GoByNames names)
     (beside : AreBeside (linked_at parts size s) (linked_at parts' size s'))
-    (imports : ImportTheSame names) (same : MeanTheSame (map part_of modules) (map part_of modules') size)
+    (imports : ImportTheSame names) (same : TellsAsMuch (map part_of modules) (map part_of modules') size)
     (inside' : is_inside (layout s') (overlay_at s').state ≡ true) where
   abbrev G : Link
   G = linked_at parts size s
@@ -119,16 +120,16 @@ module _ (begin : StartsBegin) (agree : StartsAgree) (leaves : SourcesLeaveNothi
 
       tells_more : TellsMore W' size s' (means modules' parts' size s' is' src') [] []
       tells_more = (
-        told.enough + (same [] tt).0,
+        (same [] tt told.enough).0,
         λ f le. (
-            let x = told.event f (omega (arith, le)) in
+            let x = told.event told.enough (omega arith) in
             let y = observed_at begin agree leaves words wipes means modules modules' parts parts' size s s'
             is
             is' src src'
-            names by_names same [] tt f 0 (omega (arith, le)) x.0 x.1 in
+            names by_names same [] tt told.enough 0 x.0 x.1 in
             told_too begin agree leaves words wipes means modules modules' parts parts' size s s' is is' src
             src' names
-            by_names same [] f 0 y.0 y.1),
+            by_names same [] _ 0 y.0 y.1 f le),
       )
 
       other : (q m : OState) × IsFirst s' (record { before = O'; entered = O'; last = q; after = m })
@@ -171,13 +172,16 @@ module _ (begin : StartsBegin) (agree : StartsAgree) (leaves : SourcesLeaveNothi
       gb = let u = until_reached H lh O' hh O' Q 0 Reached.begins fb.until in (_, goes_on u.1 fb.lets)
 
       abbrev F : ℕ
-      F = told.enough + told_b.enough + (same [] tt).0 + told.wiped.enough + told_b.wiped.enough
+      F = told.enough + told.wiped.enough
+
+      abbrev F' : ℕ
+      F' = (same [] tt F).0 + (told_b.enough + told_b.wiped.enough)
 
       record Both : Type 0 where
         pub one : Event Whence ℕ
         pub two : Event Whence ℕ
         pub one_is : slice_get (refined W size [] F).events 0 ≡ Some one
-        pub two_is : slice_get (refined W' size [] F).events 0 ≡ Some two
+        pub two_is : slice_get (refined W' size [] F').events 0 ≡ Some two
         pub one_shown : event_outs (layout s) after (step_event (layout s) last after)
             ≡ shown_of (event_to (word_from (slots modules (placed parts size) s) []) (back_at []) one) ∷ []
         pub two_shown : event_outs (layout s') B.after (step_event (layout s') Q B.after)
@@ -188,11 +192,11 @@ module _ (begin : StartsBegin) (agree : StartsAgree) (leaves : SourcesLeaveNothi
       both : Both
       both =
           let x = told.event F (omega arith) in
-          let y = told_b.event F (omega arith) in
+          let y = told_b.event F' (omega arith) in
           let z = observed_at begin agree leaves words wipes means modules modules' parts parts' size s s' is
           is' src src'
-          names by_names same [] tt F 0 (omega arith) x.0 x.1 in
-          let at : Some z.0 ≡ Some y.0 = sym z.1 ∙ y.1 in
+          names by_names same [] tt F 0 x.0 x.1 in
+          let at : Some z.0 ≡ Some y.0 = sym (event_later W' size [] (same [] tt F).0 _ 0 z.0 z.1) ∙ y.1 in
           let one : z.0 ≡ y.0 = cc in
           record {
             one = x.0;
@@ -224,7 +228,7 @@ module _ (begin : StartsBegin) (agree : StartsAgree) (leaves : SourcesLeaveNothi
       lows : told.wiped.low ≡ told_b.wiped.low
       lows =
           let u = told.wiped.told F (omega arith) in
-          let v = told_b.wiped.told F (omega arith) in
+          let v = told_b.wiped.told F' (omega arith) in
           let x : Some u.0 ≡ Some both.one = sym u.1 ∙ both.one_is in
           let y : Some v.0 ≡ Some both.two = sym v.1 ∙ both.two_is in
           let i : u.0 ≡ both.one = cc in

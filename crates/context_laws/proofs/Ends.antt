@@ -124,7 +124,7 @@ not_true true e = absurd cc
 not_true false e = refl
 
 ends_back : (w v : World) (size : ℕ) → EndTheSame w v size → EndTheSame v w size
-ends_back w v size ends feed fits = ((ends feed fits).0, λ f le. sym ((ends feed fits).1 f le))
+ends_back w v size ends = (ends.1, ends.0)
 
 module _ (begin : StartsBegin) (agree : StartsAgree) (leaves : SourcesLeaveNothing) (words : SourcesTellWords)
     (wipes : WipedCellsAreTold) (means : SourcesMeanAll) (headline : HeadlineHolds) (stops : StopsAreCuts)
@@ -162,9 +162,9 @@ module _ (begin : StartsBegin) (agree : StartsAgree) (leaves : SourcesLeaveNothi
   beside_code p u =
       ends_from
       (halts_too begin agree leaves words wipes means modules modules' parts parts' size s s' is is' src src'
-      b.0 b.1 beside imports same ends both_begin)
+      b.0 b.1 beside imports same.0 ends.0 both_begin)
       (fails_too begin agree leaves words wipes means modules modules' parts parts' size s s' is is' src src'
-      b.0 b.1 beside imports same ends both_begin)
+      b.0 b.1 beside imports same.0 ends.0 both_begin)
     where
       b : (names : SameNames G (linked_at parts' size s')) × GoByNames names
       b = beside_by_names begin agree leaves modules modules' parts parts' size s s' is is' src src' beside
@@ -179,7 +179,7 @@ module _ (begin : StartsBegin) (agree : StartsAgree) (leaves : SourcesLeaveNothi
 
       Begins : Type 0
       Begins = Begin begin agree leaves words wipes means modules modules' parts parts' size s s' is is' src
-          src' b.0 b.1 beside imports same ends
+          src' b.0 b.1 beside imports same.0 ends.0
 
       both_begin : Begins
       both_begin = by (is_inside (layout s) (overlay_at s).state) refl
@@ -190,16 +190,16 @@ module _ (begin : StartsBegin) (agree : StartsAgree) (leaves : SourcesLeaveNothi
               let a = placed_alike begin parts parts' size s s' is is' b.0 beside imports
               (outside_main begin agree leaves parts parts' size s s' is is' beside i) in
               both_outside (first_point begin agree leaves words wipes means modules modules' parts parts'
-              size s s' is is' src src' b.0 b.1 same a.0 a.1 i (sym first ∙ i))
+              size s s' is is' src src' b.0 b.1 same.0 a.0 a.1 i (sym first ∙ i))
 
   -- where none is
   beside_none : ((p : PartSeen) → IsUntrusted G p → ⊥) → EndsToo s s'
   beside_none alone =
       ends_from
       (alone_halts begin agree leaves words wipes means modules modules' parts parts' size s s' is is' src
-      src' ends alone i i')
+      src' ends.0 alone i i')
       (alone_fails begin agree leaves words wipes means modules modules' parts parts' size s s' is is' src
-      src' ends alone i i')
+      src' ends.0 alone i i')
     where
       i : is_inside (layout s) (overlay_at s).state ≡ true
       i = by (is_inside (layout s) (overlay_at s).state) refl

@@ -1,6 +1,6 @@
 -- Where trusted code has control in both links since the same items came in, and ends in the one, it ends in
 -- the other; and where every part is trusted, that is always so.
-use Rattle.std.proofs.Common.{◌≡◌, inl, ℕ, ◌+◌, ℤ, List, [], map, Bool, true, false, refl, sym}
+use Rattle.std.proofs.Common.{◌≡◌, inl, ℕ, ◌+◌, ◌-◌, ℤ, List, [], map, Bool, true, false, refl, sym}
 use Rattle.std.proofs.Common.{ap, ◌∙◌, arith}
 use Rattle.cap_words.specs.declared.Word.TheVariants.{Int}
 use Rattle.lcm_isa.specs.declared.Reg.TheVariants.{A0, C1, Rcode}
@@ -37,10 +37,11 @@ use Rattle.source_laws.specs.Secrets as secrets
 use Rattle.source_starts.specs.Sources.{AreSources, linked_at, SourcesLeaveNothing}
 use Rattle.source_starts.specs.Words.{slots, SourcesTellWords}
 use Rattle.source_starts.specs.Wiped.{WipedCellsAreTold}
-use Rattle.context_laws.specs.Ends.{EndTheSame, SameResult}
+use Rattle.context_laws.specs.Ends.{EndsAsWell, SameResult}
 use Rattle.context_laws.proofs.Counts.{until_reached}
 use Rattle.context_laws.proofs.Sources.{StartsAgree, linked_is, holds_is}
 use Rattle.context_laws.proofs.Feeds.{feed_fits}
+use Rattle.context_laws.proofs.Fuels.{end_later}
 use Rattle.context_laws.proofs.Progress.{tells_of, until_since, until_inside, shows_of, EndsSo, ComesTo}
 use Rattle.context_laws.proofs.Progress.{to_halt, to_fail, comes_to}
 use Rattle.context_laws.proofs.Rounds.{round_told}
@@ -98,7 +99,7 @@ module _ (begin : StartsBegin) (agree : StartsAgree) (leaves : SourcesLeaveNothi
     (modules modules' : List ModuleFields) (parts parts' : List PartSeen) (size : ℕ) (s s' : StartSeen)
     (is : IsStartOf parts size s) (is' : IsStartOf parts' size s') (src : AreSources modules parts)
     (src' : AreSources modules' parts')
-    (ends : EndTheSame (map part_of modules) (map part_of modules') size) where
+    (ends : EndsAsWell (map part_of modules) (map part_of modules') size) where
   abbrev G : Link
   G = linked_at parts size s
 
@@ -159,31 +160,38 @@ module _ (begin : StartsBegin) (agree : StartsAgree) (leaves : SourcesLeaveNothi
     abbrev Ends : MeaningEnd → Type 0
     Ends x = MeaningEnds W size (feed xs) (map (λ (x : Shown). x.event) es) x
 
-    so : (x : MeaningEnd) → Ends x → EndsSo W' size s' Means' xs' x
-    so x m = (
-      m.enough + (ends (feed xs) fits).0,
-      λ f le. ap (λ z. (meaning W' size z f).end) (sym one) ∙ sym (end_is W' size (feed xs) f)
-          ∙ sym ((ends (feed xs) fits).1 f (omega (arith, le))) ∙ end_is W size (feed xs) f
-          ∙ m.ends f (omega (arith, le)),
-    )
+    so : (x : MeaningEnd) → Ends x → (x ≡ OutOfFuel → ⊥) → EndsSo W' size s' Means' xs' x
+    so x m some =
+        let e : (refined W size (feed xs) m.enough).end ≡ x =
+        end_is W size (feed xs) m.enough ∙ m.ends m.enough (omega arith) in
+        let k = ends (feed xs) fits m.enough (λ o. some (sym e ∙ o)) in (
+          k.0,
+          λ f le. (
+              let all : k.0 + (f - k.0) ≡ f = omega (arith, le) in
+              ap (λ z. (meaning W' size z f).end) (sym one) ∙ sym (end_is W' size (feed xs) f)
+              ∙ ap (λ g. (refined W' size (feed xs) g).end) (sym all)
+              ∙ end_later W' size (feed xs) k.0 (f - k.0) x (k.1 ∙ e) some
+              ),
+        )
 
     -- where it let go, the meaning would wait
-    never : (x : MeaningEnd) → Ends x → (x ≡ Waiting → ⊥) → (q m : OState) → Until (layout s') e' q
+    never : (x : MeaningEnd) → Ends x → (x ≡ Waiting → ⊥) → (x ≡ OutOfFuel → ⊥) → (q m : OState)
+        → Until (layout s') e' q
         → overlay_step (layout s') q ≡ goes m → is_inside (layout s') m ≡ false → ⊥
-    never x ends_x not q m v g out =
+    never x ends_x not some q m v g out =
         let told = round_told H W' size s' refl (slots modules' (placed parts' size) s')
         (words modules' parts' size s' is' src') (wipes modules' parts' size s' is' src') es' xs' b' e' q m
         t' v g out (shows q m v g out) in
         let k = shows_of (layout s') O' _ xs' m (tells_of (layout s') O' _ xs' _ m told.since.1) in
         let w = (Means' k.0 k.1 _ (feed xs') m k.2).waits out in
-        let y = so x ends_x in
+        let y = so x ends_x some in
         not (sym (y.1 (y.0 + w.enough) (omega arith)) ∙ w.ends (y.0 + w.enough) (omega arith))
 
     comes : (x : MeaningEnd) → Ends x → (x ≡ Waiting → ⊥) → (x ≡ OutOfFuel → ⊥)
         → ComesTo W' size s' Means' e' x
     comes x m not some =
-        comes_to W' size s' Means' es' xs' e' (tells_of (layout s') O' es' xs' b' e' t') i' x (so x m) some
-        (never x m not)
+        comes_to W' size s' Means' es' xs' e' (tells_of (layout s') O' es' xs' b' e' t') i' x (so x m some) some
+        (never x m not some)
 
     pub halts_inside : OverlayHalts s p → HaltsToo s s' p
     halts_inside h =

@@ -16,6 +16,9 @@ pub mod Open
 pub mod Jumps
 pub mod Told
 pub mod Feeds
+pub mod Fuels
+pub mod Settled
+pub mod Offers
 pub mod History
 pub mod Naming
 pub mod Progress

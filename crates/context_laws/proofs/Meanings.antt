@@ -55,7 +55,7 @@ use Rattle.context_laws.specs.Related.{both_fail, both_stay, both_come}
 use Rattle.context_laws.specs.Lockstep.{Round, IsRound, Path, SameCrossing, by_call, by_leave, SameWiped}
 use Rattle.context_laws.specs.Lockstep.{InStep, at_end, round, Holds, Tidies, AreBelow}
 use Rattle.context_laws.specs.Lockstep as spec
-use Rattle.context_laws.specs.Meanings.{name_of, observed, FeedFits, MeanTheSame, GoByNames, item_by}
+use Rattle.context_laws.specs.Meanings.{name_of, observed, FeedFits, TellsAsMuch, GoByNames, item_by}
 use Rattle.context_laws.specs.Meanings.{items_in}
 use Rattle.context_laws.proofs.Counts.{step_rises, until_reached}
 use Rattle.context_laws.proofs.Arrive.{in_region_of, arrive_alike}
@@ -65,6 +65,7 @@ use Rattle.context_laws.proofs.Open.{CallsAlike, has_sites, met, step_kept, unti
 use Rattle.context_laws.proofs.Open.{calls_more}
 use Rattle.context_laws.proofs.Told.{items_same}
 use Rattle.context_laws.proofs.Feeds.{feed_fits}
+use Rattle.context_laws.proofs.Fuels.{event_later, in_front}
 use Rattle.context_laws.proofs.History.{AllAlike, all_both, all_more, same_items, things_alike, back_alike}
 use Rattle.context_laws.proofs.Naming.{IsNamed, is_named, named_same}
 use Rattle.context_laws.proofs.Progress.{IsCalm, calm_since, tells_of, goes_out, TellsMore}
@@ -92,7 +93,7 @@ module _ (begin : StartsBegin) (agree : StartsAgree) (leaves : SourcesLeaveNothi
     (is : IsStartOf parts size s) (is' : IsStartOf parts' size s') (src : AreSources modules parts)
     (src' : AreSources modules' parts')
     (names : SameNames (linked_at parts size s) (linked_at parts' size s')) (by_names : GoByNames names)
-    (same : MeanTheSame (map part_of modules) (map part_of modules') size) where
+    (same : TellsAsMuch (map part_of modules) (map part_of modules') size) where
   abbrev G : Link
   G = linked_at parts size s
 
@@ -144,27 +145,37 @@ module _ (begin : StartsBegin) (agree : StartsAgree) (leaves : SourcesLeaveNothi
   -- ---- what is observed
 
   -- an event of the one is one of the other by the same name
-  pub observed_at : (xs : List Item) (fits : FeedFits xs) (f n : ℕ) → (same xs fits).0 ≤ f
-      → (x : Event Whence ℕ)
+  pub observed_at : (xs : List Item) (fits : FeedFits xs) (f n : ℕ) (x : Event Whence ℕ)
       → slice_get (refined W size xs f).events n ≡ Some x
-      → (y : Event Whence ℕ) × (slice_get (refined W' size xs f).events n ≡ Some y)
+      → (y : Event Whence ℕ) × (slice_get (refined W' size xs (same xs fits f).0).events n ≡ Some y)
       × (event_to (name_of W) (λ (k : ℕ). k) x ≡ event_to (name_of W') (λ (k : ℕ). k) y)
-  observed_at xs fits f n le x e =
-      let at : slice_get (observed W' size xs f) n ≡ Some (event_to (name_of W) (λ (k : ℕ). k) x) =
-      ap (λ z. slice_get z n) (sym ((same xs fits).1 f le))
-      ∙ slice_get-map (event_to (name_of W) (λ (k : ℕ). k)) (refined W size xs f).events n
-      ∙ ap (option_map (event_to (name_of W) (λ (k : ℕ). k))) e in
-      let y = map_get (event_to (name_of W') (λ (k : ℕ). k)) (refined W' size xs f).events n _ at in
+  observed_at xs fits f n x e =
+      let k = same xs fits f in
+      let at : slice_get (observed W' size xs k.0) n ≡ Some (event_to (name_of W) (λ (k : ℕ). k) x) =
+      ap (λ z. slice_get z n) k.2
+      ∙ in_front (observed W size xs f) k.1 n _
+      (slice_get-map (event_to (name_of W) (λ (k : ℕ). k)) (refined W size xs f).events n
+      ∙ ap (option_map (event_to (name_of W) (λ (k : ℕ). k))) e) in
+      let y = map_get (event_to (name_of W') (λ (k : ℕ). k)) (refined W' size xs k.0).events n _ at in
       (y.0, y.1, sym y.2)
 
   -- so the meaning of the other tells it
-  pub told_too : (xs : List Item) (f n : ℕ) (y : Event Whence ℕ)
+  told_now : (xs : List Item) (f n : ℕ) (y : Event Whence ℕ)
       → slice_get (refined W' size xs f).events n ≡ Some y → n + 1 ≤ length (meaning W' size xs f).events
-  told_too xs f n y e =
+  told_now xs f n y e =
       let lt = slice_get_within (refined W' size xs f).events n y e in
       let len = length-map (refined W' size xs f).events plain_event in
       let k = ap (λ t. length t.events) (mark_laws.forgets W' size xs f) in
       omega (arith, lt, len, k)
+
+  -- under more fuel too
+  pub told_too : (xs : List Item) (f n : ℕ) (y : Event Whence ℕ)
+      → slice_get (refined W' size xs f).events n ≡ Some y → (m : ℕ) → f ≤ m
+      → n + 1 ≤ length (meaning W' size xs m).events
+  told_too xs f n y e m le =
+      let all : f + (m - f) ≡ m = omega (arith, le) in
+      told_now xs m n y (subst (λ g. slice_get (refined W' size xs g).events n ≡ Some y) all
+      (event_later W' size xs f (m - f) n y e))
 
   -- ---- two points of the runs
 
@@ -540,11 +551,11 @@ module _ (begin : StartsBegin) (agree : StartsAgree) (leaves : SourcesLeaveNothi
     -- the other lets go too
     tells_more : TellsMore W' size s' (means modules' parts' size s' is' src') k.es' ys
     tells_more = (
-      told.enough + (same (feed xs) fits).0,
+      (same (feed xs) fits told.enough).0,
       λ f le. (
-          let x = told.event f (omega (arith, le)) in
-          let y = observed_at (feed xs) fits f (length k.es) (omega (arith, le)) x.0 x.1 in
-          let len = told_too (feed xs) f (length k.es) y.0 y.1 in
+          let x = told.event told.enough (omega arith) in
+          let y = observed_at (feed xs) fits told.enough (length k.es) x.0 x.1 in
+          let len = told_too (feed xs) _ (length k.es) y.0 y.1 f le in
           let n = k.count in
           let m : length (meaning W' size (feed xs) f).events ≡ length (meaning W' size (feed ys) f).events =
           ap (λ z. length (meaning W' size z f).events) same_feed in
@@ -595,14 +606,18 @@ module _ (begin : StartsBegin) (agree : StartsAgree) (leaves : SourcesLeaveNothi
       gb = after_b G H names lg lh O O' hg hh tg th cs a b k.i k.j k.reached reached_b ia ib kb.below
 
       abbrev F : ℕ
-      F = told.enough + told_b.enough + (same (feed xs) fits).0 + told.wiped.enough + told_b.wiped.enough
+      F = told.enough + told.wiped.enough
+
+      -- and a fuel under which the other tells what the one tells under that
+      abbrev F' : ℕ
+      F' = (same (feed xs) fits F).0 + (told_b.enough + told_b.wiped.enough)
 
       -- the event of both
       record Both : Type 0 where
         pub one : Event Whence ℕ
         pub two : Event Whence ℕ
         pub one_is : slice_get (refined W size (feed xs) F).events (length k.es) ≡ Some one
-        pub two_is : slice_get (refined W' size (feed ys) F).events (length k.es') ≡ Some two
+        pub two_is : slice_get (refined W' size (feed ys) F').events (length k.es') ≡ Some two
         pub one_shown : seen.event_outs (layout s) a.after (step_event (layout s) a.last a.after)
             ≡ shown_of (event_to (word_from (slots modules (placed parts size) s) xs) (back_at xs) one) ∷ []
         pub two_shown : seen.event_outs (layout s') b.after (step_event (layout s') b.last b.after)
@@ -613,11 +628,12 @@ module _ (begin : StartsBegin) (agree : StartsAgree) (leaves : SourcesLeaveNothi
       both : Both
       both =
           let x = told.event F (omega arith) in
-          let y = told_b.event F (omega arith) in
-          let z = observed_at (feed xs) fits F (length k.es) (omega arith) x.0 x.1 in
-          let at : Some z.0 ≡ Some y.0 = sym z.1
-          ∙ ap (λ u. slice_get (refined W' size u F).events (length k.es)) same_feed
-          ∙ ap (slice_get (refined W' size (feed ys) F).events) k.count ∙ y.1 in
+          let y = told_b.event F' (omega arith) in
+          let z = observed_at (feed xs) fits F (length k.es) x.0 x.1 in
+          let at : Some z.0 ≡ Some y.0 =
+          sym (event_later W' size (feed xs) (same (feed xs) fits F).0 _ (length k.es) z.0 z.1)
+          ∙ ap (λ u. slice_get (refined W' size u F').events (length k.es)) same_feed
+          ∙ ap (slice_get (refined W' size (feed ys) F').events) k.count ∙ y.1 in
           let one : z.0 ≡ y.0 = cc in
           record {
             one = x.0;
@@ -649,7 +665,7 @@ module _ (begin : StartsBegin) (agree : StartsAgree) (leaves : SourcesLeaveNothi
       lows : told.wiped.low ≡ told_b.wiped.low
       lows =
           let u = told.wiped.told F (omega arith) in
-          let v = told_b.wiped.told F (omega arith) in
+          let v = told_b.wiped.told F' (omega arith) in
           let x : Some u.0 ≡ Some both.one = sym u.1 ∙ both.one_is in
           let y : Some v.0 ≡ Some both.two = sym v.1 ∙ both.two_is in
           let i : u.0 ≡ both.one = cc in

@@ -1,6 +1,6 @@
 -- As the run of the one link stands, so does that of the other; and where the one ends, so does the other.
 use Rattle.std.proofs.Common.{◌≡◌, inl, inr, ℕ, List, [], map, Bool, true, false, refl, sym}
-use Rattle.std.proofs.Common.{◌∙◌, arith}
+use Rattle.std.proofs.Common.{◌∙◌}
 use Rattle.cap_words.specs.declared.Word.{Word}
 use Rattle.lcm_isa.specs.declared.Reg.TheVariants.{A0}
 use Rattle.component_linker.specs.Parts.{PartSeen}
@@ -33,8 +33,8 @@ use Rattle.context_laws.specs.Related.{SameNames, Calls, ComesAlike, StepsAlike,
 use Rattle.context_laws.specs.Related.{both_stay, both_come}
 use Rattle.context_laws.specs.Lockstep.{Round, IsRound, Holds}
 use Rattle.context_laws.specs.Sources.{AreBeside, ImportTheSame}
-use Rattle.context_laws.specs.Meanings.{MeanTheSame, GoByNames}
-use Rattle.context_laws.specs.Ends.{EndTheSame, SameResult}
+use Rattle.context_laws.specs.Meanings.{TellsAsMuch, GoByNames}
+use Rattle.context_laws.specs.Ends.{EndsAsWell, SameResult}
 use Rattle.context_laws.proofs.Sources.{StartsAgree, linked_is, holds_is}
 use Rattle.context_laws.proofs.Open.{has_sites, met, flat_same}
 use Rattle.context_laws.proofs.Jumps.{Flat, f_ours, f_code, f_data, f_ret, f_frame}
@@ -58,8 +58,8 @@ module _ (begin : StartsBegin) (agree : StartsAgree) (leaves : SourcesLeaveNothi
     (src' : AreSources modules' parts')
     (names : SameNames (linked_at parts size s) (linked_at parts' size s')) (by_names : GoByNames names)
     (beside : AreBeside (linked_at parts size s) (linked_at parts' size s'))
-    (imports : ImportTheSame names) (same : MeanTheSame (map part_of modules) (map part_of modules') size)
-    (ends : EndTheSame (map part_of modules) (map part_of modules') size) where
+    (imports : ImportTheSame names) (same : TellsAsMuch (map part_of modules) (map part_of modules') size)
+    (ends : EndsAsWell (map part_of modules) (map part_of modules') size) where
   abbrev G : Link
   G = linked_at parts size s
 

@@ -1,5 +1,5 @@
 -- Sources that mean the same and end alike, and that whole runs of their links end alike.
-use Rattle.std.specs.Prelude.{◌≡◌, ◌⊎◌, ◌↔◌, ℕ, ◌≤◌, ℤ, List, map, Some, None}
+use Rattle.std.specs.Prelude.{◌≡◌, ◌⊎◌, ◌↔◌, ℕ, ℤ, List, map, Some, None}
 use Rattle.cap_words.specs.declared.Word.{Word}
 use Rattle.cap_words.specs.declared.Word.TheVariants.{Int, Sealed}
 use Rattle.lcm_isa.specs.declared.Reg.TheVariants.{A0}
@@ -13,6 +13,7 @@ use Rattle.component_linker.specs.LinkedStarts.{IsStartOf}
 use Rattle.proc_language.specs.declared.module.ModuleFields.{ModuleFields}
 use Rattle.proc_program.specs.Lower.{part_of as program_of}
 use Rattle.source_events.specs.declared.Item.{Item}
+use Rattle.source_events.specs.declared.MeaningEnd.TheVariants.{OutOfFuel}
 use Rattle.proc_semantics.specs.Values.{World}
 use Rattle.proc_semantics.specs.Marked.{refined}
 use Rattle.source_starts.specs.Sources.{AreSources, linked_at}
@@ -21,12 +22,16 @@ use Rattle.context_laws.specs.Meanings.{FeedFits, MeanTheSame}
 
 -- ---- meanings
 
--- On each feed whose integers have 64 bits both end the same way, under every large enough fuel: by `halt`
--- with one value, by a failure, with nothing left in the feed, or out of fuel.
+-- Where the one ends on a feed whose integers have 64 bits, so does the other, under some fuel: by `halt` with
+-- the same value, by a failure, or with nothing left in the feed.
+abbrev pub EndsAsWell : World → World → ℕ → Type 0
+EndsAsWell world world' stack =
+    (feed : List Item) → FeedFits feed → (fuel : ℕ)
+    → ((refined world stack feed fuel).end ≡ OutOfFuel → ⊥) → (enough : ℕ)
+    × ((refined world' stack feed enough).end ≡ (refined world stack feed fuel).end)
+
 abbrev pub EndTheSame : World → World → ℕ → Type 0
-EndTheSame world world' stack =
-    (feed : List Item) → FeedFits feed → (enough : ℕ)
-    × ((f : ℕ) → enough ≤ f → (refined world stack feed f).end ≡ (refined world' stack feed f).end)
+EndTheSame world world' stack = EndsAsWell world world' stack × EndsAsWell world' world stack
 
 -- ---- plain runs
 

@@ -1,5 +1,5 @@
 -- Sources that mean the same, and that no code outside can tell them apart.
-use Rattle.std.specs.Prelude.{◌≡◌, ℕ, ◌≤◌, ◌==◌, true, false, List, [], ◌∷◌, ◌++◌, map, find}
+use Rattle.std.specs.Prelude.{◌≡◌, ℕ, ◌==◌, true, false, List, [], ◌∷◌, ◌++◌, map, find}
 use Rattle.std.specs.Prelude.{Option, Some, None, ℤ, if◌then◌else◌}
 use Rattle.std.specs.List.{Contains}
 use Rattle.component_file.specs.declared.component.Import.{Import}
@@ -78,11 +78,15 @@ FeedFits [] = Unit {0}
 FeedFits (Enter part name left ints pairs back ∷ is) = NumbersFit ints × FeedFits is
 FeedFits (Ret part site base v ∷ is) = NumberFits v × FeedFits is
 
--- on each such feed the same is observed, under every large enough fuel
+-- what the one tells of such a feed under a fuel, the other tells under some fuel, and perhaps more
+abbrev pub TellsAsMuch : World → World → ℕ → Type 0
+TellsAsMuch world world' stack =
+    (feed : List Item) → FeedFits feed → (fuel : ℕ) → (enough : ℕ) × (rest : List (Event Name ℕ))
+    × (observed world' stack feed enough ≡ observed world stack feed fuel ++ rest)
+
+-- each tells as much as the other: on each such feed the same is observed
 abbrev pub MeanTheSame : World → World → ℕ → Type 0
-MeanTheSame world world' stack =
-    (feed : List Item) → FeedFits feed → (enough : ℕ)
-    × ((f : ℕ) → enough ≤ f → observed world stack feed f ≡ observed world' stack feed f)
+MeanTheSame world world' stack = TellsAsMuch world world' stack × TellsAsMuch world' world stack
 
 -- ---- names of exports and sites
 
@@ -142,15 +146,16 @@ pub record DoesTheSameBy (g h : Link) (names : SameNames g h) (s s' : StartSeen)
   pub lets_go : (a : Round) → IsFirst s a → (b : Round) × IsFirst s' b × (cs : Calls)
       × SameCrossing g h names [] a b cs × GoesInStep g h names cs a.after b.after
 
--- Sources that mean the same, linked beside each other, do the same to code outside, for any choice of which
--- exports and sites stand for each other, as long as those do that have one name.
+-- Sources of which the second tell as much as the first, linked beside each other: whatever code outside does
+-- beside the first, it does beside the second, for any choice of which exports and sites stand for each other,
+-- as long as those do that have one name.
 abbrev pub SameMeaningsGoInStep : Type 0
 SameMeaningsGoInStep =
     (modules modules' : List ModuleFields) (parts parts' : List PartSeen) (size : ℕ) (s s' : StartSeen)
     → IsStartOf parts size s → IsStartOf parts' size s' → AreSources modules parts
     → AreSources modules' parts' → AreBeside (linked_at parts size s) (linked_at parts' size s')
     → (names : SameNames (linked_at parts size s) (linked_at parts' size s')) → GoByNames names
-    → MeanTheSame (map program_of modules) (map program_of modules') size
+    → TellsAsMuch (map program_of modules) (map program_of modules') size
     → DoesTheSameBy (linked_at parts size s) (linked_at parts' size s') names s s'
 
 -- there are names by which they do

@@ -89,11 +89,11 @@ pub fn whole_runs_go_in_step()
 /// Take two lists of modules, linked with the same untrusted parts at the same addresses, and let the refined
 /// meanings of both tell the same on each feed: of each call the name of its part and its number there, where
 /// its frame begins, the lowest wiped cell, and by names the pair by which it goes and what each argument
-/// register holds; of each procedure that leaves its part, its value, the lowest wiped cell, and the item that
-/// entered it. Then whatever code outside does beside the one, it does beside the other, and the other way
-/// round: it makes as many steps, comes in and is let go as often, the same items come in, and it ends alike.
-/// Where main is theirs, that is said from where they let go for the first time; where the one does, so does
-/// the other, with the same shown.
+/// register holds; of each procedure that leaves its part, its value, the lowest wiped cell, and the item
+/// that entered it. Then whatever code outside does beside the one, it does beside the other, and the other
+/// way round: it makes as many steps, comes in and is let go as often, the same items come in, and it ends
+/// alike. Where main is theirs, that is said from where they let go for the first time; where the one does,
+/// so does the other, with the same shown.
 pub fn same_meanings_are_not_told_apart()
     ensures { SameMeaningsAreNotToldApart }
 {
@@ -105,8 +105,9 @@ pub fn same_meanings_are_not_told_apart()
     sources_mean();
 }
 
-/// The same for any choice of which exports and sites stand for each other, as long as those do that have one
-/// name; and also where no part is untrusted.
+/// Of one direction alone: where the second sources tell as much as the first, whatever code outside does
+/// beside the first, it does beside the second; for any choice of which exports and sites stand for each
+/// other, as long as those do that have one name, and also where no part is untrusted.
 pub fn same_meanings_go_in_step()
     ensures { SameMeaningsGoInStep }
 {
