@@ -131,21 +131,6 @@ pub(crate) fn are_told(
     Ok(())
 }
 
-/// The calls of some lines come to the same.
-pub(crate) fn all_are_told(
-    rt: &impl Abort,
-    alloc: Global,
-    files: &mut MemFiles,
-    lines: &[&str],
-    told: (Status, &str, Option<u64>),
-) -> Result<(), AllocError> {
-    let (status, text, count) = told;
-    for line in lines {
-        is_told(rt, alloc, files, (*line, status, text, count))?;
-    }
-    Ok(())
-}
-
 /// The call of a case over a sink whose write of this number fails.
 pub(crate) fn is_told_unwritten(
     rt: &impl Abort,
@@ -166,35 +151,26 @@ pub(crate) fn is_told_unwritten(
     Ok(())
 }
 
-/// The call of a case over the one file `one.asm`.
-pub(crate) fn text_is_told(
-    rt: &impl Abort,
-    alloc: Global,
-    text: &str,
-    case: Case<'_>,
-) -> Result<(), AllocError> {
-    let mut files = MemFiles::new(alloc)?;
-    files.add("one.asm", text.as_bytes())?;
-    is_told(rt, alloc, &mut files, case)
-}
-
-/// The text of the part `one` with these lines of code and this integer.
-pub(crate) fn text(alloc: Global, code: &str, datum: &str) -> Result<String, AllocError> {
-    format!(in alloc;
-        ".name one\n.stack 65536\n.closure 1\n.code 100\n{code}.data 200\n.int {datum}\n\
-         .export main 0 shared\n"
-    )
-}
+const ONE_TEXT: &str = "\
+.name one
+.stack 65536
+.closure 1
+.code 100
+halt
+.data 200
+.int 0
+.export main 0 shared
+";
 
 /// A part of one instruction, `halt`, and one data word, 0.
 #[derive(Clone, Copy)]
 pub(crate) struct Small {
-    pub(crate) name: &'static str,
-    pub(crate) closure: u32,
-    pub(crate) code_base: u32,
-    pub(crate) data_base: u32,
+    name: &'static str,
+    closure: u32,
+    code_base: u32,
+    data_base: u32,
     /// Whether it has the one shared export, `main`.
-    pub(crate) has_main: bool,
+    has_main: bool,
 }
 
 /// The part `one`: closure seal 1, code at 100 and data at 200.
@@ -206,8 +182,8 @@ pub(crate) const ONE: Small = Small {
     has_main: true,
 };
 
-/// The part `two`, which has no export.
-pub(crate) const TWO: Small = Small {
+/// The part `two`, which has no export and stands well beside it.
+const TWO: Small = Small {
     name: "two",
     closure: 2,
     code_base: 102,
@@ -248,44 +224,21 @@ pub(crate) fn component(alloc: Global, part: &Small) -> Result<Vec<u8>, AllocErr
 }
 
 fn add_parts(alloc: Global, files: &mut MemFiles) -> Result<(), AllocError> {
-    for (name, part) in [
-        ("one.stc", ONE),
-        ("two.stc", TWO),
-        ("closure.stc", Small { closure: 1, ..TWO }),
-        (
-            "base.stc",
-            Small {
-                code_base: 101,
-                ..TWO
-            },
-        ),
-        ("name.stc", Small { name: "one", ..TWO }),
-        (
-            "near.stc",
-            Small {
-                data_base: 103,
-                ..TWO
-            },
-        ),
-    ] {
+    for (name, part) in [("one.stc", ONE), ("two.stc", TWO)] {
         files.add(name, component(alloc, &part)?.as_slice())?;
     }
     Ok(())
 }
 
-fn add_texts(alloc: Global, files: &mut MemFiles) -> Result<(), AllocError> {
-    files.add("one.asm", text(alloc, "halt\n", "0")?.as_bytes())?;
-    files.add("bad.asm", b"halt\n")?;
-    files.add("empty.stc", b"")?;
-    Ok(())
+fn add_texts(files: &mut MemFiles) -> Result<(), AllocError> {
+    files.add("one.asm", ONE_TEXT.as_bytes())?;
+    files.add("empty.stc", b"")
 }
 
-/// The files that most calls are made over: `one.asm` and `one.stc`; `two.stc`, which stands well
-/// beside them, and three that differ from it in one number; `near.stc`, whose data touches its
-/// code; `bad.asm`, which begins with an instruction; and `empty.stc` of no bytes.
+/// The files that most calls are made over: `one.asm` and `one.stc`, `two.stc`, and `empty.stc` of no bytes.
 pub(crate) fn files(alloc: Global) -> Result<MemFiles, AllocError> {
     let mut files = MemFiles::new(alloc)?;
-    add_texts(alloc, &mut files)?;
+    add_texts(&mut files)?;
     add_parts(alloc, &mut files)?;
     Ok(files)
 }

@@ -1,21 +1,10 @@
-//! Components that are put into files, and components that are shown.
+//! Components that are put into files and shown, with a read, a put or a write that fails.
 use crate::call::{Case, ONE, component, files, is_told_unwritten};
 use lcm_cli::Status;
 use outside_io::{MemFiles, read_whole};
 use std::alloc::{AllocError, Global};
 use std::process::Abort;
 use std::test::Fail;
-
-// A part whose data touches its code, which breaks a rule. Its text is one that `dis` writes.
-const NEAR: &str = "\
-.name near\n\
-.stack 65536\n\
-.closure 7\n\
-.code 100\n\
-move t1 pc\n\
-halt\n\
-.data 102\n\
-.int -3\n";
 
 // The text of the part `one`, which `dis` writes.
 const ONE_TEXT: &str = "\
@@ -30,42 +19,7 @@ halt\n\
 
 // The numbers of the read or put that fails, and of the write that fails, 0 where none does; what the call
 // comes to; and whether the file `new.stc` holds the part `one` then.
-static CASES: [(u32, u32, Case<'static>, bool); 32] = [
-    (
-        0,
-        0,
-        ("asm u:one.asm --out new.stc", Status::Done, "ok\n", None),
-        true,
-    ),
-    (
-        0,
-        0,
-        ("asm t:one.asm --out=new.stc", Status::Done, "ok\n", None),
-        true,
-    ),
-    (
-        0,
-        0,
-        ("--out new.stc asm -- u:one.asm", Status::Done, "ok\n", None),
-        true,
-    ),
-    (
-        0,
-        0,
-        ("asm u:near.asm --out new.stc", Status::Done, "ok\n", None),
-        false,
-    ),
-    (
-        0,
-        0,
-        (
-            "check u:near.asm",
-            Status::RuleBroken,
-            "rule 0 C2 0\n",
-            None,
-        ),
-        false,
-    ),
+static CASES: [(u32, u32, Case<'static>, bool); 12] = [
     // Two reads and a put, and then one write.
     (
         1,
@@ -113,83 +67,6 @@ static CASES: [(u32, u32, Case<'static>, bool); 32] = [
         ("asm u:one.asm --out new.stc", Status::Done, "ok\n", None),
         true,
     ),
-    // What is refused puts no file.
-    (
-        0,
-        0,
-        (
-            "asm u:bad.asm --out new.stc",
-            Status::AsmRefused,
-            "asm 0 7 0\n",
-            None,
-        ),
-        false,
-    ),
-    (
-        0,
-        0,
-        (
-            "asm u:missing.asm --out new.stc",
-            Status::ReadFault,
-            "read fault\n",
-            None,
-        ),
-        false,
-    ),
-    (
-        0,
-        0,
-        (
-            "asm u:one.stc --out new.stc",
-            Status::Usage,
-            "usage\n",
-            None,
-        ),
-        false,
-    ),
-    (
-        0,
-        0,
-        (
-            "asm u:one.asm u:bad.asm --out new.stc",
-            Status::Usage,
-            "usage\n",
-            None,
-        ),
-        false,
-    ),
-    (
-        0,
-        0,
-        ("asm u:one.asm", Status::Usage, "usage\n", None),
-        false,
-    ),
-    (
-        0,
-        0,
-        (
-            "asm u:one.asm --out -new.stc",
-            Status::Usage,
-            "usage\n",
-            None,
-        ),
-        false,
-    ),
-    (
-        0,
-        0,
-        (
-            "asm u:one.asm --stack 64 --out new.stc",
-            Status::Usage,
-            "usage\n",
-            None,
-        ),
-        false,
-    ),
-    // What is shown.
-    (0, 0, ("dis u:one.stc", Status::Done, ONE_TEXT, None), false),
-    (0, 0, ("dis t:one.asm", Status::Done, ONE_TEXT, None), false),
-    (0, 0, ("dis t:near.asm", Status::Done, NEAR, None), false),
     (
         1,
         0,
@@ -203,41 +80,6 @@ static CASES: [(u32, u32, Case<'static>, bool); 32] = [
         false,
     ),
     (3, 0, ("dis u:one.stc", Status::Done, ONE_TEXT, None), false),
-    (
-        0,
-        0,
-        ("dis u:empty.stc", Status::FileRefused, "file 0 3 0\n", None),
-        false,
-    ),
-    (
-        0,
-        0,
-        ("dis u:bad.asm", Status::AsmRefused, "asm 0 7 0\n", None),
-        false,
-    ),
-    (
-        0,
-        0,
-        ("dis u:one.prc", Status::ReadFault, "read fault\n", None),
-        false,
-    ),
-    (
-        0,
-        0,
-        (
-            "dis u:one.asm --out new.stc",
-            Status::Usage,
-            "usage\n",
-            None,
-        ),
-        false,
-    ),
-    (
-        0,
-        0,
-        ("dis u:one.asm u:two.stc", Status::Usage, "usage\n", None),
-        false,
-    ),
     // A text is written line by line.
     (0, 1, ("dis u:one.stc", Status::WriteFault, "", None), false),
     (
@@ -271,7 +113,6 @@ fn put_or_shown(
     unwritten: u32,
     case: Case<'_>,
 ) -> Result<bool, AllocError> {
-    files.add("near.asm", NEAR.as_bytes())?;
     files.fail_at(unread);
     is_told_unwritten(rt, alloc, files, unwritten, case)?;
     files.fail_at(0);

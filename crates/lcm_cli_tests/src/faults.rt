@@ -41,7 +41,24 @@ fn each_read_and_put_fails(rt: &impl Abort, alloc: Global) -> Result<(), AllocEr
         fails_at(rt, alloc, &mut files(alloc)?, number, case)?;
     }
     let case = (link, Status::WriteFault, "", None);
-    fails_at(rt, alloc, &mut files(alloc)?, 3, case)
+    fails_at(rt, alloc, &mut files(alloc)?, 3, case)?;
+    compiled_put_fails(rt, alloc, &mut sources::files(alloc)?)
+}
+
+// What can't be put isn't there.
+fn compiled_put_fails(
+    rt: &impl Abort,
+    alloc: Global,
+    files: &mut MemFiles,
+) -> Result<(), AllocError> {
+    let compile = "compile t:bank.prc --out b.stc";
+    fails_at(rt, alloc, files, 3, (compile, Status::WriteFault, "", None))?;
+    is_told(
+        rt,
+        alloc,
+        files,
+        ("dis u:b.stc", Status::ReadFault, "read fault\n", None),
+    )
 }
 
 #[test]

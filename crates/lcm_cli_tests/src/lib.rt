@@ -1,8 +1,7 @@
-//! Tests of the top call: whole calls over files and a sink in memory.
+//! Tests of the top call, over files and a sink in memory that fail, and of the machine that is kept: what a
+//! built program doesn't show. What it does show are the tables of `rows`.
 #![tactic(auto)]
 
-#[cfg(test)]
-mod audits;
 #[cfg(test)]
 mod call;
 #[cfg(test)]
@@ -12,28 +11,8 @@ mod faults;
 #[cfg(test)]
 mod images;
 #[cfg(test)]
-mod loads;
-#[cfg(test)]
-mod meanings;
-#[cfg(test)]
-mod movable;
-#[cfg(test)]
-mod parts;
-#[cfg(test)]
-mod runs;
-#[cfg(test)]
-mod secrets;
-#[cfg(test)]
-mod source_faults;
+mod kept;
 #[cfg(test)]
 mod sources;
 #[cfg(test)]
-mod starts;
-#[cfg(test)]
-mod texts;
-#[cfg(test)]
-mod tokens;
-#[cfg(test)]
-mod trusted;
-#[cfg(test)]
-mod words;
+mod writes;
