@@ -1,8 +1,7 @@
-//! Tests of what runs write, apart from it: a crate with tests is proved twice.
+//! Tests of runs and traces that take no step or whose write fails: what a built program doesn't show. What it
+//! does show are `rows/traces.rows` and the tables of adversaries.
 #![tactic(auto)]
 
-#[cfg(test)]
-mod adversaries;
 #[cfg(test)]
 mod parts;
 #[cfg(test)]

@@ -1,5 +1,5 @@
 //! Parts that tests work with, as assembler texts: the sequences of the calling convention for a stack from
-//! 65,536 on, pieces that texts are made of, and four parts.
+//! 65,536 on, pieces that texts are made of, and two parts.
 #![tactic(auto)]
 
 ghost use Rattle.std.specs.Prelude.{◌≡◌, ◌++◌, OnOk, IfOk, codes, string_bytes};
@@ -93,25 +93,7 @@ pub static CALLER: [Piece; 5] = [
     ),
 ];
 
-/// The same with a second entry at 52, which calls at 74 what its caller would go back to.
-pub static AGAIN: [Piece; 9] = [
-    Piece::Lines(
-        ".name t\n.stack 65536\n.closure 10\n.seals 11 2\n.code 4096\nstop: fail\nlit: .seal 11 12 11\n",
-    ),
-    Piece::Entry("main"),
-    Piece::Lines("load c1 data\ncca data 1\nload c2 data\n"),
-    Piece::Site("one", "0"),
-    Piece::Lines("halt\n"),
-    Piece::Entry("again"),
-    Piece::Lines("move c1 rcode\nmove c2 rdata\n"),
-    Piece::Site("two", "1"),
-    Piece::Lines(
-        "halt\n.data 8192\n.int 0\n.int 0\n.import adv go 0\n.export again again shared\n\
-         .export main main shared\n.site one\n.site two\n.fail stop\n.literal lit\n",
-    ),
-];
-
-/// What they call, which goes right back. Code at 12,288, data at 16,384.
+/// What it calls, which goes right back. Code at 12,288, data at 16,384.
 pub const BACK: &str = "\
 .name adv
 .stack 65536
@@ -120,23 +102,6 @@ pub const BACK: &str = "\
 xjmp rcode rdata
 .data 16384
 .int 0
-.export go 0 shared
-";
-
-/// What they call, which goes to the second entry. Code from 12,288 on, data from 16,384 on.
-pub const ENTERS: &str = "\
-.name adv
-.stack 65536
-.closure 20
-.code 12288
-load c1 data
-cca data 1
-load c2 data
-xjmp c1 c2
-.data 16384
-.int 0
-.int 0
-.import t again 0
 .export go 0 shared
 ";
 
