@@ -1,4 +1,5 @@
-//! Tests of the debugger, of scripts and of replies, apart from them: a crate with tests is proved twice.
+//! Tests of the debugger by its calls, of the commands of scripts, and of a write that fails: what a built
+//! program doesn't show. What it does show is `rows/debugger.rows`.
 #![tactic(auto)]
 
 #[cfg(test)]
