@@ -1,5 +1,5 @@
-//! A bank and its teller: the text of their reports, and each report by itself.
-use crate::parts::{assembled, compiled, linked, two_tell};
+//! A bank and its teller: each report by itself, which was worked out by hand.
+use crate::parts::{assembled, compiled, linked};
 use authority_report::{Reach, ReachSpan, report};
 use component_linker::Part;
 use std::alloc::{AllocError, Global};
@@ -53,32 +53,6 @@ fn bank_and_teller(rt: &impl Abort, alloc: Global) -> Result<Vec<Part>, AllocErr
     parts.push(compiled(rt, alloc, BANK))?;
     parts.push(assembled(rt, alloc, TELLER, false))?;
     Ok(parts)
-}
-
-#[test]
-fn a_bank_and_its_teller(rt: HostRuntime) -> Result<(), Fail> {
-    two_tell(
-        &rt,
-        rt.alloc(),
-        compiled(&rt, rt.alloc(), BANK),
-        assembled(&rt, rt.alloc(), TELLER, false),
-        64,
-        "\
-part bank
-at 4096 4219 r-x
-at 8192 8196 rw-
-at 65536 65599 rw-
-seals 11 14
-exit teller notify
-part teller
-at 12288 12303 rwx
-at 16384 16385 rw-
-at 65536 65599 rw-
-seals 21 21
-exit bank deposit
-",
-    )?;
-    Ok(())
 }
 
 // One span of a report. The rights are 4 for read, 2 for write and 1 for run, added up.

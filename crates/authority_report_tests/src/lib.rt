@@ -1,10 +1,8 @@
-//! Tests of reports, apart from their crate: a crate with tests is proved twice. Each text was worked out by
-//! hand.
+//! Tests of one part's report, which a built program doesn't show by itself. The text of all reports is in
+//! `rows/reach.rows`.
 #![tactic(auto)]
 
 #[cfg(test)]
 mod bank;
 #[cfg(test)]
 mod parts;
-#[cfg(test)]
-mod spans;

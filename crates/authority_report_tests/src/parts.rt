@@ -1,12 +1,11 @@
-//! Parts of texts, their starts, and what is told of them.
+//! Parts of texts, and their starts.
 ghost use Rattle.authority_report.specs.Entered.{IsLinked};
 
 use assembler::assemble;
-use authority_report::reach_text;
 use component_linker::{Part, Start, accept, link};
 use proc_language::Dialect;
 use proc_sources::component_of;
-use std::alloc::{AllocError, Global};
+use std::alloc::Global;
 use std::process::Abort;
 
 /// A part that is assembled of a text.
@@ -42,46 +41,4 @@ pub(crate) fn linked(rt: &impl Abort, alloc: Global, parts: &[Part], size: u32) 
         Ok(start) => start,
         Err(_) => panic!(rt; "not linked"),
     }
-}
-
-// What is told of parts is this text.
-fn tells(rt: &impl Abort, alloc: Global, parts: &[Part], size: u32, wanted: &str) {
-    let start = linked(rt, alloc, parts, size);
-    let Ok(text) = reach_text(alloc, &start) else {
-        panic!(rt; "no memory");
-    };
-    match std::str::from_utf8(text.as_slice()) {
-        Ok(text) => assert_eq!(rt; text, wanted),
-        Err(_) => panic!(rt; "not a text"),
-    }
-}
-
-/// What is told of one part is this text.
-pub(crate) fn one_tells(
-    rt: &impl Abort,
-    alloc: Global,
-    part: Part,
-    size: u32,
-    wanted: &str,
-) -> Result<(), AllocError> {
-    let mut parts = Vec::new(alloc);
-    parts.push(part)?;
-    tells(rt, alloc, &parts, size, wanted);
-    Ok(())
-}
-
-/// What is told of two parts is this text.
-pub(crate) fn two_tell(
-    rt: &impl Abort,
-    alloc: Global,
-    first: Part,
-    second: Part,
-    size: u32,
-    wanted: &str,
-) -> Result<(), AllocError> {
-    let mut parts = Vec::new(alloc);
-    parts.push(first)?;
-    parts.push(second)?;
-    tells(rt, alloc, &parts, size, wanted);
-    Ok(())
 }
