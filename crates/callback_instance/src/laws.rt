@@ -1,4 +1,4 @@
-//! That sources which call out can mean the same. This function does nothing; its contract is the law.
+//! That sources which call out can mean the same. These functions do nothing; their contracts are the laws.
 ghost use Rattle.callback_instance.specs.Passes.{TwoPassers};
 ghost use Rattle.callback_instance.specs.CalledBack.{PassersCallBack};
 
@@ -7,8 +7,8 @@ use context_laws::laws::{same_meanings_are_not_told_apart, same_meanings_end_ali
 /// Two modules that share a procedure which calls its callback with the double of its number, and gives back
 /// the answer, the one by a sum, the other over a global. Both are modules whose names are resolved; their
 /// components differ; a feed has them call and answer; and they mean the same and end the same way. So, linked
-/// with the same untrusted parts in the same places, whole plain runs end alike, and where one of these parts
-/// has main, no code outside can tell them apart; and there are such links of both.
+/// with the same untrusted parts at the same addresses, no code outside can tell them apart, and whole plain
+/// runs end alike; and there are such links of both.
 pub fn two_passers_are_one()
     ensures { TwoPassers }
 {
@@ -16,9 +16,10 @@ pub fn two_passers_are_one()
     same_meanings_end_alike();
 }
 
-/// In such a run the callback is called. Beside code outside that enters the procedure with 3 and with a pair of
-/// its own, the first module calls that pair with 6; it answers 9, is left to with 9, and halts. And by the law,
-/// the run of the other link goes in step: step by step, in as many rounds, with the same items coming in.
+/// There is a run in which the callback is called. Beside code outside that enters the procedure with 3 and
+/// with a pair of its own, the first module calls that pair with 6; it answers 9, is left to with 9, and
+/// halts. And by the law the run of the other link goes in step: step by step, in as many rounds, with the
+/// same items coming in.
 pub fn passers_are_called_back()
     ensures { PassersCallBack }
 {

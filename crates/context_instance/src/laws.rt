@@ -6,9 +6,8 @@ use context_laws::laws::{same_meanings_are_not_told_apart, same_meanings_end_ali
 
 /// Two modules that share a procedure which doubles its argument, the one by a sum, the other over a global
 /// and an `if`. Both are modules whose names are resolved; their components differ, in code and in data; and
-/// they mean the same and end the same way. So, linked with the same untrusted parts in the same places,
-/// whole plain runs end alike, and where one of these parts has main, no code outside can tell them apart;
-/// and there are such links of both.
+/// they mean the same and end the same way. So, linked with the same untrusted parts at the same addresses,
+/// no code outside can tell them apart, and whole plain runs end alike; and there are such links of both.
 pub fn two_ways_are_one()
     ensures { TwoWays }
 {
