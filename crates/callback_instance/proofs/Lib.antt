@@ -1,7 +1,11 @@
 pub mod Modules
+pub mod Single
 pub mod Passing
 pub mod Means
 pub mod Links
 pub mod Apart
 pub mod Run
 pub mod Round
+pub mod Calling
+pub mod CallersLinks
+pub mod CallersFirst

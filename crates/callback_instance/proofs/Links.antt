@@ -1,5 +1,5 @@
 -- Both modules link with the adversary that the other two link with.
-use Rattle.std.proofs.Common.{◌≡◌, true, [], ◌∷◌, map, Some, Ok, refl, arith, subst, rules}
+use Rattle.std.proofs.Common.{◌≡◌, true, List, [], ◌∷◌, map, Some, Ok, refl, arith, subst, rules}
 use Rattle.lcm_isa.specs.Numbers.{number_of}
 use Rattle.component_file.specs.Limits.{IsComponent}
 use Rattle.component_check.specs.declared.rule.Group.TheVariants.{C}
@@ -14,6 +14,7 @@ use Rattle.component_linker.specs.Standing.{placed}
 use Rattle.component_linker.specs.Start.{main_of}
 use Rattle.component_linker.specs.Started.{StartSeen}
 use Rattle.component_linker.specs.LinkedStarts.{IsStartOf}
+use Rattle.component_linker.specs.declared.owners.Site.{Site}
 use Rattle.component_linker.proofs.Offers.{first_broken_in, no_rule, site_of, sites_are}
 use Rattle.proc_names.specs.Names.{variable_named, callee_named}
 use Rattle.proc_program.specs.Lower.{part_of}
@@ -26,14 +27,14 @@ use Rattle.proc_templates.specs.Kept.{FitsComponent}
 use Rattle.proc_templates.proofs.Offers.{names_differ, limits_kept, keeps_flow}
 use Rattle.source_starts.specs.Sources.{AreSources, linked_at}
 use Rattle.context_laws.specs.Sources.{AreBeside}
-use Rattle.context_instance.proofs.Offers.{other, parts_of, main, Links, start, is_start_of, main_there}
-use Rattle.context_instance.proofs.Offers.{beside_of}
+use Rattle.context_instance.proofs.Offers.{adversary, adversary_is, parts_of, main, Links, start, is_start_of}
+use Rattle.context_instance.proofs.Offers.{main_there, beside_of}
 use Rattle.callback_instance.specs.Passes.{passes, stores}
 use Rattle.callback_instance.proofs.Modules.{limits, limits_too, resolved, resolved_too}
 
 -- ---- the components
 
-pub passes_fits : FitsComponent (part_of passes)
+passes_fits : FitsComponent (part_of passes)
 unfolding code_words data_count variable_named callee_named
 passes_fits = record { limits = part_fits passes limits; code = omega arith; data_words = omega arith }
 
@@ -41,13 +42,13 @@ stores_fits : FitsComponent (part_of stores)
 unfolding code_words data_count variable_named callee_named
 stores_fits = record { limits = part_fits stores limits_too; code = omega arith; data_words = omega arith }
 
-pub one_limits : IsComponent (compiled passes)
+one_limits : IsComponent (compiled passes)
 one_limits = limits_kept (part_of passes) passes_fits (names_differ passes resolved) (omega arith)
 
 two_limits : IsComponent (compiled stores)
 two_limits = limits_kept (part_of stores) stores_fits (names_differ stores resolved_too) (omega arith)
 
-pub one_checked : check_from (broken_at C) 1 (rules_c (compiled passes) true) ≡ Ok tt
+one_checked : check_from (broken_at C) 1 (rules_c (compiled passes) true) ≡ Ok tt
 unfolding c1 c2 c3 c4 c5 c6 c7 c8 c9 c10 c11 c12 number_of entry_code call_code return_code component_of
     frame_of
     laid_of lay_proc before_epilogue put instrs first_data exports_of imports_of variable_named callee_named
@@ -59,7 +60,7 @@ unfolding c1 c2 c3 c4 c5 c6 c7 c8 c9 c10 c11 c12 number_of entry_code call_code 
     laid_of lay_proc before_epilogue put instrs first_data exports_of imports_of variable_named callee_named
 two_checked = refl
 
-pub one_linked : check_from rule_at 1 (map by_part (rules_l (parts_of (compiled passes)) 8)) ≡ Ok tt
+one_linked : check_from rule_at 1 (map by_part (rules_l (parts_of (compiled passes)) 8)) ≡ Ok tt
 unfolding l1 l2 l3 l4 l5 l6 l7 l8 l9 number_of entry_code call_code return_code component_of frame_of
     laid_of lay_proc before_epilogue put instrs first_data exports_of imports_of variable_named callee_named
 one_linked = refl
@@ -71,10 +72,13 @@ two_linked = refl
 
 -- ---- what is asked of them; each has one site
 
-unfoldable pub one_links : Links (compiled passes) 137 2
+pub one_links : Links adversary main (compiled passes) 137 2 (site_of (compiled passes) 80 ∷ [])
 unfolding regions_of number_of entry_code call_code return_code component_of frame_of laid_of lay_proc
     before_epilogue put instrs first_data exports_of imports_of variable_named callee_named l10
 one_links = record {
+  outside = adversary_is;
+  its_base = refl;
+  its_still = refl;
   fits = one_limits;
   rules = no_rule (compiled passes) true one_checked;
   kept = keeps_flow (part_of passes) passes_fits;
@@ -85,8 +89,7 @@ one_links = record {
       (first_broken_in rule_at (l10 (parts_of (compiled passes)) ∷ [])));
   main_is = refl;
   still = refl;
-  sites = site_of (compiled passes) 80 ∷ [];
-  sites_are = sites_are (compiled passes) other.component 80 refl;
+  sites_are = sites_are (compiled passes) adversary 80 refl;
   code_base = refl;
   data_base = refl;
   code_long = refl;
@@ -97,10 +100,13 @@ one_links = record {
   spans = search (rules, arith);
 }
 
-pub two_links : Links (compiled stores) 143 3
+pub two_links : Links adversary main (compiled stores) 143 3 (site_of (compiled stores) 86 ∷ [])
 unfolding regions_of number_of entry_code call_code return_code component_of frame_of laid_of lay_proc
     before_epilogue put instrs first_data exports_of imports_of variable_named callee_named l10
 two_links = record {
+  outside = adversary_is;
+  its_base = refl;
+  its_still = refl;
   fits = two_limits;
   rules = no_rule (compiled stores) true two_checked;
   kept = keeps_flow (part_of stores) stores_fits;
@@ -111,8 +117,7 @@ two_links = record {
       (first_broken_in rule_at (l10 (parts_of (compiled stores)) ∷ [])));
   main_is = refl;
   still = refl;
-  sites = site_of (compiled stores) 86 ∷ [];
-  sites_are = sites_are (compiled stores) other.component 86 refl;
+  sites_are = sites_are (compiled stores) adversary 86 refl;
   code_base = refl;
   data_base = refl;
   code_long = refl;
@@ -125,17 +130,23 @@ two_links = record {
 
 -- ---- the starts
 
+abbrev pub passes_sites : List Site
+passes_sites = site_of (compiled passes) 80 ∷ []
+
+abbrev pub stores_sites : List Site
+stores_sites = site_of (compiled stores) 86 ∷ []
+
 abbrev pub passes_start : StartSeen
-passes_start = start (compiled passes) 137 2 one_links
+passes_start = start adversary main (compiled passes) 137 2 passes_sites one_links
 
 abbrev pub stores_start : StartSeen
-stores_start = start (compiled stores) 143 3 two_links
+stores_start = start adversary main (compiled stores) 143 3 stores_sites two_links
 
 pub passes_starts : IsStartOf (parts_of (compiled passes)) 8 passes_start
-passes_starts = is_start_of (compiled passes) 137 2 one_links
+passes_starts = is_start_of adversary main (compiled passes) 137 2 passes_sites one_links
 
 pub stores_starts : IsStartOf (parts_of (compiled stores)) 8 stores_start
-stores_starts = is_start_of (compiled stores) 143 3 two_links
+stores_starts = is_start_of adversary main (compiled stores) 143 3 stores_sites two_links
 
 pub passes_sources : AreSources (passes ∷ []) (parts_of (compiled passes))
 passes_sources = record { limits = (limits, tt); resolved = (resolved, tt); compiled = refl }
@@ -144,11 +155,13 @@ pub stores_sources : AreSources (stores ∷ []) (parts_of (compiled stores))
 stores_sources = record { limits = (limits_too, tt); resolved = (resolved_too, tt); compiled = refl }
 
 pub passes_main : main_of (placed (parts_of (compiled passes)) 8) ≡ Some main
-passes_main = main_there (compiled passes) 137 2 one_links
+passes_main = main_there adversary main (compiled passes) 137 2 passes_sites one_links
 
 pub stores_main : main_of (placed (parts_of (compiled stores)) 8) ≡ Some main
-stores_main = main_there (compiled stores) 143 3 two_links
+stores_main = main_there adversary main (compiled stores) 143 3 stores_sites two_links
 
 pub beside : AreBeside (linked_at (parts_of (compiled passes)) 8 passes_start)
     (linked_at (parts_of (compiled stores)) 8 stores_start)
-beside = beside_of (compiled passes) (compiled stores) 137 2 143 3 one_links two_links
+beside =
+    beside_of adversary main main (compiled passes) (compiled stores) 137 2 143 3 passes_sites stores_sites
+    one_links two_links

@@ -1,8 +1,7 @@
 -- Both modules mean the same: they tell the same of each feed, also while a call of the callback waits.
 use Rattle.std.proofs.Common.{◌≡◌, ℕ, suc, ◌+◌, ◌-◌, ℤ, pos, List, [], ◌∷◌, Option, Some, None}
-use Rattle.std.proofs.Common.{Bool, true, false, refl, sym, ap, ◌∙◌, subst}
-use Rattle.std.specs.Prelude.{slice_index_or, if◌then◌else◌, ◌&&◌}
-use Rattle.std.specs.Str.{bytes_eq}
+use Rattle.std.proofs.Common.{true, false, refl, ap, ◌∙◌, subst}
+use Rattle.std.specs.Prelude.{slice_index_or}
 use Rattle.source_events.specs.declared.FeedPair.{FeedPair}
 use Rattle.source_events.specs.declared.FeedPair.TheVariants as fed
 use Rattle.source_events.specs.declared.Item.TheVariants.{Enter}
@@ -17,23 +16,20 @@ use Rattle.proc_semantics.specs.declared.value.Pair.{Pair}
 use Rattle.proc_semantics.specs.declared.value.Pair.TheVariants.{Bad, Outside, Runs}
 use Rattle.proc_semantics.specs.declared.value.Value.TheVariants.{Num, Closure, Other}
 use Rattle.proc_semantics.specs.Told.{repeated}
-use Rattle.proc_semantics.specs.Values.{Store, target, found, main_target, register_of, pair_fed}
+use Rattle.proc_semantics.specs.Values.{Store, found, main_target, register_of, pair_fed}
 use Rattle.proc_semantics.specs.Values.{pair_found, if_there}
 use Rattle.proc_semantics.specs.Rules.{Then, Level, level, with_number, result_of, enough, call}
-use Rattle.proc_semantics.specs.Rules.{given_from, call_by, body_of, proc_of, finish, part_name_of}
+use Rattle.proc_semantics.specs.Rules.{given_from, call_by, body_of, proc_of, finish}
 use Rattle.proc_semantics.specs.Marked.{Whence, CameWord, Frame, Way}
 use Rattle.same_meanings.specs.Same.{tracing, LevelledThen, Waiter, wait_at, Sides, SameTold, SameThen}
-use Rattle.same_meanings.specs.Same.{SameCall, SameWaits, BothFound, SameProcedures, SameRefined}
+use Rattle.same_meanings.specs.Same.{SameCall, SameWaits, BothFound, SameRefined}
 use Rattle.same_meanings.specs.Same.{numbered}
 use Rattle.same_meanings.proofs.Offers.{both_deeper, both_higher, ticks, both_fail, both_wipe, both_call}
 use Rattle.same_meanings.proofs.Offers.{same_as}
-use Rattle.same_meanings.proofs.Offers.{both_number, both_place, starts_without, procedures_decide}
+use Rattle.same_meanings.proofs.Offers.{both_number, both_place, starts_without}
 use Rattle.same_meanings.proofs.Offers.{tick}
 use Rattle.callback_instance.specs.Passes.{passes, stores}
-
-abbrev head_of : List Procedure → Procedure
-head_of [] = record { name = []; shared = false; callbacks = []; locals = 0; need = 0; body = [] }
-head_of (p ∷ ps) = p
+use Rattle.callback_instance.proofs.Single.{head_of, it, Both, IsSingle, both_found, single_decides}
 
 abbrev U : Program
 U = part_of passes
@@ -46,9 +42,6 @@ P = head_of U.procs
 
 abbrev Q : Procedure
 Q = head_of V.procs
-
-abbrev it : Target
-it = target 0 0
 
 -- the globals of the other: one word
 abbrev one_word : ℤ → Store
@@ -91,19 +84,11 @@ stores_body l left words v w p k = refl
 
 -- ---- whom names lead to
 
-found_by : (p n : List ℕ) (a b : Bool) → bytes_eq p (116 ∷ []) ≡ a → bytes_eq n (102 ∷ []) ≡ b
-    → found (U ∷ []) p n ≡ (if a && b then Some it else None)
-unfolding found
-found_by p n false b ea eb = rw ea refl
-found_by p n true true ea eb = rw (ea, eb) refl
-found_by p n true false ea eb = rw (ea, eb) refl
+one_single : IsSingle U (116 ∷ []) (102 ∷ [])
+one_single = record { procedure = P; only = refl; part_is = refl; name_is = refl; shared = refl }
 
-found_too : (p n : List ℕ) (a b : Bool) → bytes_eq p (116 ∷ []) ≡ a → bytes_eq n (102 ∷ []) ≡ b
-    → found (V ∷ []) p n ≡ (if a && b then Some it else None)
-unfolding found
-found_too p n false b ea eb = rw ea refl
-found_too p n true true ea eb = rw (ea, eb) refl
-found_too p n true false ea eb = rw (ea, eb) refl
+other_single : IsSingle V (116 ∷ []) (102 ∷ [])
+other_single = record { procedure = Q; only = refl; part_is = refl; name_is = refl; shared = refl }
 
 no_main : main_target (U ∷ []) ≡ None
 unfolding main_target
@@ -112,10 +97,6 @@ no_main = refl
 no_main_too : main_target (V ∷ []) ≡ None
 unfolding main_target
 no_main_too = refl
-
--- the one procedure of both
-abbrev Both : Target → Target → Type 0
-Both t t' = (it ≡ t) × (it ≡ t')
 
 -- a pair that comes with an item, in both
 data SamePair : Pair → Pair → Type 0 where
@@ -146,17 +127,8 @@ module _ (N : Type 0) (name name' : Whence → N)
   abbrev At' : ℕ → Level tracing
   At' d = level tracing (V ∷ []) d
 
-  both_found : (p n : List ℕ) → BothFound S Both (found (U ∷ []) p n) (found (V ∷ []) p n)
-  both_found p n =
-      subst (λ o. BothFound S Both o (found (V ∷ []) p n)) (sym (found_by p n _ _ refl refl))
-      (subst (λ o. BothFound S Both
-      (if bytes_eq p (116 ∷ []) && bytes_eq n (102 ∷ []) then Some it else None) o)
-      (sym (found_too p n _ _ refl refl))
-      (by (bytes_eq p (116 ∷ []) && bytes_eq n (102 ∷ []))))
-    where
-      by : (b : Bool) → BothFound S Both (if b then Some it else None) (if b then Some it else None)
-      by true = (refl, refl)
-      by false = tt
+  names_same : (p n : List ℕ) → BothFound S Both (found (U ∷ []) p n) (found (V ∷ []) p n)
+  names_same p n = both_found S U V (116 ∷ []) (102 ∷ []) p n one_single other_single
 
   found_pair : (o o' : Option Target) → BothFound S Both o o'
       → SamePair (pair_found o) (pair_found o')
@@ -171,7 +143,7 @@ module _ (N : Type 0) (name name' : Whence → N)
   fed_pair fed.Nothing = no_pair
   fed_pair fed.Bad = a_pair bad_pair
   fed_pair fed.Out = a_pair outer_pair
-  fed_pair (fed.Hop p n) = a_pair (found_pair (found (U ∷ []) p n) (found (V ∷ []) p n) (both_found p n))
+  fed_pair (fed.Hop p n) = a_pair (found_pair (found (U ∷ []) p n) (found (V ∷ []) p n) (names_same p n))
 
   -- with one number in the registers it fails, as there is no callback
   alone : (n : ℕ) (left : Option ℕ) (v : ℤ) (ws ws' : List (Option Whence)) (k k' : LevelledThen)
@@ -297,35 +269,11 @@ module _ (N : Type 0) (name name' : Whence → N)
         (alone n left v (None ∷ []) (None ∷ []) (λ d. (At d).hop (wait_at c (suc d)) left it)
         (λ d. (At' d).hop (wait_at c' (suc d)) left it) st st')
 
-  same_procedures : (size : ℕ) → SameProcedures S size
-  same_procedures size = record {
-    Targets = Both;
-    found = both_found;
-    parts = λ t t' b.
-        subst (λ x. part_name_of (U ∷ []) x.home ≡ part_name_of (V ∷ []) t'.home) b.0
-        (subst (λ x. part_name_of (U ∷ []) it.home ≡ part_name_of (V ∷ []) x.home) b.1 refl);
-    enters = λ n waits t t' b part called left ints pairs back fits k q q' s st st' h.
-        subst (λ x. SameTold S n
-        (λ d. (At d).proc x left
-        (tracing.fed (U ∷ []) (numbered k (Enter part called left ints pairs back)) ints pairs) (q d) st)
-        (λ d. (At' d).proc t' left
-        (tracing.fed (V ∷ []) (numbered k (Enter part called left ints pairs back)) ints pairs) (q' d) st'))
-        b.0
-        (subst (λ x. SameTold S n
-        (λ d. (At d).proc it left
-        (tracing.fed (U ∷ []) (numbered k (Enter part called left ints pairs back)) ints pairs) (q d) st)
-        (λ d. (At' d).proc x left
-        (tracing.fed (V ∷ []) (numbered k (Enter part called left ints pairs back)) ints pairs) (q' d) st'))
-        b.1
-        (enters n waits part called left ints pairs back k q q' s st st' h));
-    hops = λ n waits t t' b c c' w left v st st' h.
-        subst (λ x. SameTold S n (λ d. (At d).hop (wait_at c d) left x v st)
-        (λ d. (At' d).hop (wait_at c' d) left t' v st')) b.0
-        (subst (λ x. SameTold S n (λ d. (At d).hop (wait_at c d) left it v st)
-        (λ d. (At' d).hop (wait_at c' d) left x v st')) b.1 (hops n waits c c' left v st st'));
-    starts = λ n waits. starts_without S size n no_main no_main_too (pos 0, refl) waits;
-  }
-
   -- on each feed
   pub passes_same : (size : ℕ) → SameRefined S size
-  passes_same size = procedures_decide S size (same_procedures size)
+  passes_same size =
+      single_decides S size names_same refl
+      (λ n waits part called left ints pairs back k q q' s st st' h.
+      enters n waits part called left ints pairs back k q q' s st st' h)
+      (λ n waits c c' left v st st' h. hops n waits c c' left v st st')
+      (λ n waits. starts_without S size n no_main no_main_too (pos 0, refl) waits)

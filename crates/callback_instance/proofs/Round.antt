@@ -1,5 +1,6 @@
 -- The run's rounds, and that the run of the other link goes in step.
-use Rattle.std.proofs.Common.{◌≡◌, ℕ, suc, ◌+◌, pos, true, false, List, [], ◌∷◌, ◌++◌, Some, None, refl, ap, ◌∙◌}
+use Rattle.std.proofs.Common.{◌≡◌, ℕ, suc, ◌+◌, pos, true, false, List, [], ◌∷◌, ◌++◌, Some, None, refl, ap}
+use Rattle.std.proofs.Common.{◌∙◌}
 use Rattle.std.proofs.Common.{Bool, sym}
 use Rattle.cap_words.specs.declared.Word.TheVariants.{Int, Mem}
 use Rattle.cap_words.specs.declared.Sealable.TheVariants.{Mem as MemIn}
@@ -24,7 +25,7 @@ use Rattle.overlay_machine.specs.Events.{step_event, event_after, note_by}
 use Rattle.overlay_machine.specs.Flat.{flat}
 use Rattle.overlay_machine.specs.Starting.{overlay_at}
 use Rattle.trace_tool.specs.Cuts.{is_inside}
-use Rattle.trace_tool.specs.Layout.{layout, part_name, entry_name, site_of}
+use Rattle.trace_tool.specs.Layout.{part_name, entry_name, site_of}
 use Rattle.trace_tool.specs.Views.{flat_view}
 use Rattle.proc_names.specs.Names.{variable_named, callee_named}
 use Rattle.proc_templates.specs.Items as items
@@ -43,17 +44,20 @@ use Rattle.context_laws.specs.Lockstep.{Round, IsRound, Path}
 use Rattle.context_laws.specs.Lockstep as path
 use Rattle.context_laws.specs.Meanings.{SameMeaningsAreNotToldApart, item_by, items_in}
 use Rattle.known_steps.specs.Known.{Partly, Stays, here, on}
-use Rattle.known_steps.proofs.Offers.{Steps_to, whole, step_known, Crosses_to, call_known, return_known, Runs_to}
+use Rattle.known_steps.proofs.Offers.{Steps_to, whole, step_known, Crosses_to, call_known, return_known}
+use Rattle.known_steps.proofs.Offers.{Runs_to}
 use Rattle.known_steps.proofs.Offers.{runs_known, jump_note}
 use Rattle.known_steps.proofs.Offers.{halts_known, event_by, jump_event, known_at_start}
-use Rattle.context_instance.proofs.Offers.{other, parts_of, main, is_linked, other_there}
-use Rattle.callback_instance.specs.Passes.{passes, stores, asked, PassersBeside}
+use Rattle.context_instance.proofs.Offers.{adversary, outsider, main, is_linked, other_there}
+use Rattle.callback_instance.specs.Passes.{passes, stores, asked}
 use Rattle.callback_instance.specs.CalledBack.{RunCallsBack, PassersCallBack}
-use Rattle.callback_instance.proofs.Links.{passes_start, one_links}
+use Rattle.callback_instance.proofs.Links.{passes_start, passes_sites, one_links}
 use Rattle.callback_instance.proofs.Means.{mean_the_same}
 use Rattle.callback_instance.proofs.Apart.{links_there}
-use Rattle.callback_instance.proofs.Run.{P, L, K, its_code, its_data, stack, beginning, entering, entered, calling}
-use Rattle.callback_instance.proofs.Run.{pushed, frame, called, answering, site, answered, leaving, left, computed}
+use Rattle.callback_instance.proofs.Run.{P, L, K, its_code, its_data, stack, beginning, entering, entered}
+use Rattle.callback_instance.proofs.Run.{calling}
+use Rattle.callback_instance.proofs.Run.{pushed, frame, called, answering, site, answered, leaving, left}
+use Rattle.callback_instance.proofs.Run.{computed}
 use Rattle.callback_instance.proofs.Run.{crossed}
 
 -- ---- stretches of a run in a path
@@ -72,7 +76,7 @@ stays_outside {j = j} (here i) r = (j, r)
 stays_outside (on i e more) r =
     let s = stays_outside more r in (suc s.0, path.outside i e (starts more) s.1)
 
-stays_until : {l : Layout} {o p q : OState} → Stays l true p q → Until l o p → Until l o q
+pub stays_until : {l : Layout} {o p q : OState} → Stays l true p q → Until l o p → Until l o q
 stays_until (here i) u = u
 stays_until (on i e more) u = stays_until more (one_more u e (starts more))
 
@@ -115,7 +119,8 @@ sides = record {
 to_entry : Runs_to K S L [] 0 false entering at_start
 to_entry =
     runs_known K S L [] 0 false 12 beginning entering at_start.maps.cells
-    (known_at_start P 8 passes_start (is_linked (compiled passes) 137 2 one_links)) sides.begins
+    (known_at_start P 8 passes_start (is_linked adversary main (compiled passes) 137 2 passes_sites
+    one_links)) sides.begins
     computed.to_entry
 
 enters : Steps_to K S L [] 0 entered (overlay_step L (before_call entering to_entry.0))
@@ -127,7 +132,8 @@ to_call =
 
 calls : Crosses_to K S L 0 [] called (frame ∷ []) 1 (before_call calling to_call.0)
 calls =
-    call_known K S L 0 [] calling called to_call.0 0 6 site (stack 307 301) (Plain (Int (pos 0))) pushed to_call.1
+    call_known K S L 0 [] calling called to_call.0 0 6 site (stack 307 301) (Plain (Int (pos 0))) pushed
+    to_call.1
     refl refl crossed.knows_call crossed.calls crossed.site_is crossed.calls_on refl refl computed.pushes refl
     computed.jumps
 
@@ -206,27 +212,32 @@ two = Ret (116 ∷ []) 0 301 (Some (pos 9))
 
 entry_seen : (m : Cells) → event_after L (jump_note K S L [] 0 entering) (before_call entered m)
     ≡ Some (Entered 0 0 Out)
-unfolding start_cell part_word regions_of component_of frame_of laid_of lay_proc before_epilogue items.put instrs
+unfolding start_cell part_word regions_of component_of frame_of laid_of lay_proc before_epilogue items.put
+    instrs
     first_data exports_of imports_of variable_named callee_named entry_code call_code return_code number_of
-    decode_of candidate all_with numbers.table faces opens owner_of flat table.need table.ask one_links
+    decode_of candidate all_with numbers.table faces opens owner_of flat table.need table.ask
 entry_seen m = refl
 
 entry_item : (m : Cells) → event_items L (flat_view L (before_call entered m)) (Some (Entered 0 0 Out))
     ≡ one ∷ []
-unfolding component_of frame_of laid_of lay_proc before_epilogue items.put instrs first_data exports_of imports_of
+unfolding component_of frame_of laid_of lay_proc before_epilogue items.put instrs first_data exports_of
+    imports_of
     variable_named callee_named entry_code call_code return_code flat owner_of part_name entry_name table.need
     table.ask
 entry_item m = refl
 
-answer_item : (m : Cells) → event_items L (flat_view L (behind_call answered m)) (Some (Returned false 0 301 307))
+answer_item : (m : Cells) → event_items L (flat_view L (behind_call answered m)) (Some (Returned false 0 301
+    307))
     ≡ two ∷ []
-unfolding component_of frame_of laid_of lay_proc before_epilogue items.put instrs first_data exports_of imports_of
-    variable_named callee_named entry_code call_code return_code flat owner_of part_name site_of one_links
+unfolding component_of frame_of laid_of lay_proc before_epilogue items.put instrs first_data exports_of
+    imports_of
+    variable_named callee_named entry_code call_code return_code flat owner_of part_name site_of
 answer_item m = refl
 
 answer_seen : (m : Cells) (q : OState)
     → event_after L (note_by L (in_call answering m) (Back Rcode Rdata)) q ≡ Some (Returned false 0 301 307)
-unfolding component_of frame_of laid_of lay_proc before_epilogue items.put instrs first_data exports_of imports_of
+unfolding component_of frame_of laid_of lay_proc before_epilogue items.put instrs first_data exports_of
+    imports_of
     variable_named callee_named entry_code call_code return_code faces owner_of
 answer_seen m q = refl
 
@@ -253,7 +264,7 @@ came =
 
 -- ---- the law
 
-abbrev callback : Opened
+abbrev pub callback : Opened
 callback = record { seal = 30; code = its_code 263; half = MemIn (its_data 272) }
 
 abbrev back : Opened
@@ -320,8 +331,9 @@ run = record {
 pub passers_call_back : SameMeaningsAreNotToldApart → PassersCallBack
 passers_call_back law =
     let t = links_there in
-    let both = law (passes ∷ []) (stores ∷ []) t.parts t.parts_too t.size t.start t.start_too t.is t.is_too t.sources
-    t.sources_too t.beside other (other_there (compiled passes) 137 2 one_links) (mean_the_same t.size) in
+    let both = law (passes ∷ []) (stores ∷ []) t.parts t.parts_too t.size t.start t.start_too t.is t.is_too
+    t.sources t.sources_too t.beside (outsider adversary)
+    (other_there adversary main (compiled passes) 137 2 passes_sites one_links) (mean_the_same t.size) in
     let r = both.0.2.begins sides.begins run.steps run.last (run.first ∷ run.second ∷ []) run.path in
     record {
       there = t;

@@ -1,6 +1,5 @@
 -- The run of the first module beside the adversary, computed: the callback is called, and answers.
-use Rattle.std.proofs.Common.{◌≡◌, ℕ, ◌+◌, pos, true, false, List, [], ◌∷◌, ◌++◌, Some, None, refl, ap, ◌∙◌}
-use Rattle.cap_words.specs.declared.Word.{Word}
+use Rattle.std.proofs.Common.{◌≡◌, ℕ, pos, true, false, List, [], ◌∷◌, Some, refl}
 use Rattle.cap_words.specs.declared.Word.TheVariants.{Int, Mem, Sealed}
 use Rattle.cap_words.specs.declared.Sealable.TheVariants.{Mem as MemIn}
 use Rattle.cap_words.specs.declared.Perm.TheVariants.{Rw, Rx, Rwx}
@@ -10,11 +9,9 @@ use Rattle.lcm_isa.specs.declared.Instr.TheVariants.{Halt, Xjmp}
 use Rattle.lcm_isa.specs.declared.Reg.TheVariants.{Rcode, Rdata, C1, C2}
 use Rattle.lcm_isa.specs.Numbers as numbers
 use Rattle.lcm_isa.specs.Numbers.{number_of, decode_of, candidate, all_with}
-use Rattle.lcm_machine.specs.declared.cells.Span.{Span}
 use Rattle.lcm_machine.specs.Spans.{zero_regs}
 use Rattle.lcm_machine.specs.Row.{faces, opens, some, clear}
 use Rattle.lcm_machine.specs.Table as table
-use Rattle.call_sequence.specs.declared.TheConstants.{CALL_WORDS, RETURN_WORDS}
 use Rattle.call_sequence.specs.Sequences.{call_code, return_code, entry_code}
 use Rattle.component_linker.specs.Parts.{PartSeen}
 use Rattle.component_linker.specs.Regions.{regions_of}
@@ -22,16 +19,13 @@ use Rattle.component_linker.specs.Start.{start_cell, start_regs, part_word}
 use Rattle.component_linker.specs.Owners.{owner_of}
 use Rattle.trusted_border.specs.declared.layout.Layout.{Layout}
 use Rattle.trusted_border.specs.declared.layout.SiteCode.{SiteCode}
-use Rattle.trusted_border.specs.declared.events.Back.TheVariants.{Out}
-use Rattle.trusted_border.specs.declared.events.Event.TheVariants.{Entered, Returned}
 use Rattle.trusted_border.specs.Layout.{site_code}
 use Rattle.overlay_machine.specs.declared.words.OWord.{OWord}
 use Rattle.overlay_machine.specs.declared.words.OWord.TheVariants.{Plain, RetCode, RetData}
 use Rattle.overlay_machine.specs.declared.cases.Case.TheVariants.{Call, Back, Other}
 use Rattle.overlay_machine.specs.Copies.{plain_regs}
-use Rattle.overlay_machine.specs.State.{OpenFrame, OState, Cells}
+use Rattle.overlay_machine.specs.State.{OpenFrame}
 use Rattle.overlay_machine.specs.Step.{entry_step, own_stack, need}
-use Rattle.overlay_machine.specs.Starting.{overlay_at}
 use Rattle.trace_tool.specs.Layout.{layout}
 use Rattle.proc_names.specs.Names.{variable_named, callee_named}
 use Rattle.proc_templates.specs.Items as items
@@ -39,12 +33,13 @@ use Rattle.proc_templates.specs.Items.{instrs}
 use Rattle.proc_templates.specs.Templates.{before_epilogue}
 use Rattle.proc_templates.specs.Compiled.{frame_of, laid_of, lay_proc, first_data, exports_of, imports_of}
 use Rattle.proc_templates.specs.Compiled.{component_of, compiled}
-use Rattle.known_steps.specs.Known.{Known, Partly, blank, knows, fetched, case_by, by_fetched, at_pc, known_step}
-use Rattle.known_steps.specs.Known.{known_run, words_since, gone, restored, at_xjmp, behind_return}
+use Rattle.known_steps.specs.Known.{Known, Partly, blank, knows, fetched, case_by, by_fetched, at_pc}
+use Rattle.known_steps.specs.Known.{known_step}
+use Rattle.known_steps.specs.Known.{known_run, words_since, gone, at_xjmp, behind_return}
 use Rattle.known_steps.proofs.Offers.{known_from}
 use Rattle.context_instance.proofs.Offers.{main, parts_of}
 use Rattle.callback_instance.specs.Passes.{passes}
-use Rattle.callback_instance.proofs.Links.{passes_start, one_links}
+use Rattle.callback_instance.proofs.Links.{passes_start}
 
 abbrev pub P : List PartSeen
 P = parts_of (compiled passes)
@@ -72,14 +67,14 @@ its_data n = record { perm = Rw; lin = Normal; base = 272; end = 277; addr = pos
 abbrev pub stack : ℕ → ℕ → CapFields
 stack e n = record { perm = Rw; lin = Linear; base = 300; end = e; addr = pos n }
 
-abbrev number : ℕ → OWord
+abbrev pub number : ℕ → OWord
 number n = Plain (Int (pos n))
 
 -- an export of the adversary, at its address
-abbrev its : ℕ → OWord
+abbrev pub its : ℕ → OWord
 its n = Plain (Sealed 30 (MemIn (its_code n)))
 
-abbrev its_half : OWord
+abbrev pub its_half : OWord
 its_half = Plain (Sealed 30 (MemIn (its_data 272)))
 
 -- ---- states
@@ -193,7 +188,7 @@ pub computed : Computed
 unfolding start_cell start_regs part_word regions_of component_of frame_of laid_of lay_proc before_epilogue
     items.put instrs first_data exports_of imports_of variable_named callee_named entry_code call_code
     return_code number_of decode_of candidate all_with numbers.table faces opens owner_of clear table.need
-    table.ask table.by_cap entry_step own_stack need known_run one_links
+    table.ask table.by_cap entry_step own_stack need known_run
 computed = record {
   to_entry = refl;
   enters = refl;
@@ -224,7 +219,6 @@ pub crossed : Crossed
 unfolding start_cell start_regs part_word regions_of component_of frame_of laid_of lay_proc before_epilogue
     items.put instrs first_data exports_of imports_of variable_named callee_named entry_code call_code
     return_code number_of decode_of candidate all_with numbers.table faces opens owner_of own_stack site_code
-    one_links
 crossed = record {
   site_is = refl;
   knows_call = refl;

@@ -1,6 +1,7 @@
 //! That sources which call out can mean the same. These functions do nothing; their contracts are the laws.
 ghost use Rattle.callback_instance.specs.Passes.{TwoPassers};
 ghost use Rattle.callback_instance.specs.CalledBack.{PassersCallBack};
+ghost use Rattle.callback_instance.specs.Callers.{CallersLetGo};
 
 use context_laws::laws::{same_meanings_are_not_told_apart, same_meanings_end_alike};
 
@@ -22,6 +23,16 @@ pub fn two_passers_are_one()
 /// same items coming in.
 pub fn passers_are_called_back()
     ensures { PassersCallBack }
+{
+    same_meanings_are_not_told_apart();
+}
+
+/// Two modules that have main themselves, which calls out with 6, or with 3 + 3, and halts with the answer.
+/// They mean the same; there are links of both beside each other; the one lets go for the first time by that
+/// call. So, by the law, the other lets go too, with the same shown, and from there on no code outside can
+/// tell them apart.
+pub fn callers_let_go()
+    ensures { CallersLetGo }
 {
     same_meanings_are_not_told_apart();
 }

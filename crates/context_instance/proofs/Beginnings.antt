@@ -38,12 +38,13 @@ use Rattle.source_starts.specs.Sources.{AreSources, linked_at}
 use Rattle.context_laws.specs.Sources.{AreBeside}
 use Rattle.context_instance.specs.Doubles.{sums, keeps}
 use Rattle.context_instance.proofs.Modules.{limits, limits_too, resolved, resolved_too}
-use Rattle.context_instance.proofs.Links.{other, parts_of, each_of, one_limits, two_limits, one_flow}
+use Rattle.context_instance.proofs.Links.{adversary, adversary_is, outsider, parts_with, parts_of, each_with}
+use Rattle.context_instance.proofs.Links.{one_limits, two_limits, one_flow}
 use Rattle.context_instance.proofs.Links.{two_flow, one_checked, two_checked, one_linked, two_linked}
 
 abbrev pub main : Exported
 main = record {
-  part = other;
+  part = outsider adversary;
   export = record { name = 109 ∷ 97 ∷ 105 ∷ 110 ∷ []; offset = 0; shared = true };
 }
 
@@ -57,37 +58,40 @@ regions_are n d =
     ∷ record { base = 250; end = 265; linear = false } ∷ record { base = 272; end = 277; linear = false }
     ∷ record { base = 300; end = 307; linear = true } ∷ []
 
--- what is asked of a module's component
-pub record Links (c : ComponentFields) (n d : ℕ) : Type 0 where
+-- what is asked of a module's component beside that of a part that isn't trusted
+pub record Links (u : ComponentFields) (m : Exported) (c : ComponentFields) (n d : ℕ) (sites : List Site)
+    : Type 0 where
+  pub outside : IsPart (outsider u)
+  pub its_base : u.code_base ≡ 250
+  pub its_still : u.movable ≡ false
   pub fits : IsComponent c
   pub rules : NoneBroken (rules_c c true)
   pub kept : IsKept c
-  pub links : NoneIsBroken (rules_l (parts_of c) 8)
-  pub room : NoneIsBroken (l10 (parts_of c) ∷ [])
-  pub main_is : main_of (parts_of c) ≡ Some main
+  pub links : NoneIsBroken (rules_l (parts_with u c) 8)
+  pub room : NoneIsBroken (l10 (parts_with u c) ∷ [])
+  pub main_is : main_of (parts_with u c) ≡ Some m
   pub still : c.movable ≡ false
-  pub sites : List Site
-  pub sites_are : AreSites (parts_of c) sites
+  pub sites_are : AreSites (parts_with u c) sites
   pub code_base : c.code_base ≡ 1
   pub data_base : c.data_base ≡ 200
   pub code_long : length c.code ≡ n
   pub data_long : length c.data_words ≡ d
   pub stack_base : c.stack_base ≡ 300
-  pub stack_is : stack_span (parts_of c) 8 ≡ Some stack
-  pub regions : regions_of (parts_of c) 8 ≡ regions_are n d
-  pub spans : AreSpans 0 (map region_span (regions_of (parts_of c) 8))
+  pub stack_is : stack_span (parts_with u c) 8 ≡ Some stack
+  pub regions : regions_of (parts_with u c) 8 ≡ regions_are n d
+  pub spans : AreSpans 0 (map region_span (regions_of (parts_with u c) 8))
 
 -- a module that calls nothing has no sites
-pub without_sites : (c : ComponentFields) → c.sites ≡ [] → AreSites (parts_of c) []
-without_sites c none = record {
+pub without_sites : (u c : ComponentFields) → c.sites ≡ [] → AreSites (parts_with u c) []
+without_sites u c none = record {
   ascend = λ i j x lt le. absurd (omega (arith, lt, le));
   all = λ s. (λ m. absurd (contains_none s m), λ i. absurd (no_site s i));
 }
   where
-    no_site : (s : Site) → IsSite (parts_of c) s → ⊥
+    no_site : (s : Site) → IsSite (parts_with u c) s → ⊥
     no_site s i = by s.part i.of i.of_is i.trusted i.offset_is
       where
-        by : (k : ℕ) (p : PartSeen) → slice_get (parts_of c) k ≡ Some p → p.trusted ≡ true
+        by : (k : ℕ) (p : PartSeen) → slice_get (parts_with u c) k ≡ Some p → p.trusted ≡ true
             → slice_get p.component.sites s.index ≡ Some i.offset → ⊥
         by zero p at t e =
             let k : record { component = c; trusted = true } ≡ p = cc in
@@ -95,15 +99,18 @@ without_sites c none = record {
             ∙ ap (λ (x : PartSeen). slice_get x.component.sites s.index) k ∙ e in
             cc
         by (suc zero) p at t e =
-            let k : other ≡ p = cc in
+            let k : outsider u ≡ p = cc in
             let bad : false ≡ true = ap (λ (x : PartSeen). x.trusted) k ∙ t in
             cc
         by (suc (suc k)) p at t e = cc
 
-pub one_links : Links (compiled sums) 71 2
+pub one_links : Links adversary main (compiled sums) 71 2 []
 unfolding regions_of number_of entry_code call_code return_code component_of frame_of laid_of lay_proc
     before_epilogue put instrs first_data exports_of imports_of variable_named l10
 one_links = record {
+  outside = adversary_is;
+  its_base = refl;
+  its_still = refl;
   fits = one_limits;
   rules = no_rule (compiled sums) true one_checked;
   kept = one_flow;
@@ -114,8 +121,7 @@ one_links = record {
       (first_broken_in rule_at (l10 (parts_of (compiled sums)) ∷ [])));
   main_is = refl;
   still = refl;
-  sites = [];
-  sites_are = without_sites (compiled sums) refl;
+  sites_are = without_sites adversary (compiled sums) refl;
   code_base = refl;
   data_base = refl;
   code_long = refl;
@@ -126,10 +132,13 @@ one_links = record {
   spans = search (rules, arith);
 }
 
-pub two_links : Links (compiled keeps) 109 3
+pub two_links : Links adversary main (compiled keeps) 109 3 []
 unfolding regions_of number_of entry_code call_code return_code component_of frame_of laid_of lay_proc
     before_epilogue put instrs first_data exports_of imports_of variable_named l10
 two_links = record {
+  outside = adversary_is;
+  its_base = refl;
+  its_still = refl;
   fits = two_limits;
   rules = no_rule (compiled keeps) true two_checked;
   kept = two_flow;
@@ -140,8 +149,7 @@ two_links = record {
       (first_broken_in rule_at (l10 (parts_of (compiled keeps)) ∷ [])));
   main_is = refl;
   still = refl;
-  sites = [];
-  sites_are = without_sites (compiled keeps) refl;
+  sites_are = without_sites adversary (compiled keeps) refl;
   code_base = refl;
   data_base = refl;
   code_long = refl;
@@ -154,26 +162,27 @@ two_links = record {
 
 -- ---- a start
 
-module _ (c : ComponentFields) (n d : ℕ) (is : Links c n d) where
+module _ (u : ComponentFields) (m : Exported) (c : ComponentFields) (n d : ℕ) (sites : List Site)
+    (is : Links u m c n d sites) where
   abbrev pub P : List PartSeen
-  P = parts_of c
+  P = parts_with u c
 
   each : (k : ℕ) (p : PartSeen) → slice_get P k ≡ Some p → IsPart p
-  each = each_of c is.fits is.rules is.kept
+  each = each_with u c is.outside is.fits is.rules is.kept
 
   abbrev pub start : StartSeen
   start = record {
     state = record {
       maps = record {
-        regs = start_regs P 8 main;
+        regs = start_regs P 8 m;
         cells = filled (start_cell P 8) 1048576;
         spans = map region_span (regions_of P 8);
       };
       count = 0;
       end = None;
     };
-    sites = is.sites;
-    owners = owners_of c other.component;
+    sites = sites;
+    owners = owners_of c u;
     stack = stack;
   }
 
@@ -182,7 +191,7 @@ module _ (c : ComponentFields) (n d : ℕ) (is : Links c n d) where
 
   is_start : IsStart P 8 start.state
   is_start = record {
-    main = main;
+    main = m;
     main_is = is.main_is;
     regs = refl;
     cells = cells_filled P 8 made;
@@ -195,7 +204,7 @@ module _ (c : ComponentFields) (n d : ℕ) (is : Links c n d) where
   starts = record {
     state = is_start;
     sites = is.sites_are;
-    owners = owners_are c other.component (let b = is.code_base in omega (arith, b));
+    owners = owners_are c u (let b = is.code_base in let v = is.its_base in omega (arith, b, v));
     stack = is.stack_is;
   }
 
@@ -203,20 +212,20 @@ module _ (c : ComponentFields) (n d : ℕ) (is : Links c n d) where
   is_linked = record { accepted = each; room = is.room; rules = is.links; starts = starts }
 
   pub placed_same : placed P 8 ≡ P
-  placed_same = rw (is.still) refl
+  placed_same = rw (is.still, is.its_still) refl
 
   pub is_start_of : IsStartOf P 8 start
   is_start_of = subst (λ ps. IsLinkedStart ps 8 start) (sym placed_same) is_linked
 
-  -- the adversary alone is untrusted
-  pub other_there : IsUntrusted (linked_at P 8 start) other
-  other_there = (subst (λ ps. Contains ps other) (sym placed_same) (1, omega arith, refl), refl)
+  -- what stands beside the module alone is untrusted
+  pub other_there : IsUntrusted (linked_at P 8 start) (outsider u)
+  other_there = (subst (λ ps. Contains ps (outsider u)) (sym placed_same) (1, omega arith, refl), refl)
 
-  only_other : (p : PartSeen) → IsUntrusted (linked_at P 8 start) p → other ≡ p
-  only_other p u = elim (contains_cases (record { component = c; trusted = true }) (other ∷ []) p
-      (subst (λ ps. Contains ps p) placed_same u.0)) as (λ _. other ≡ p) [
-        | inl e ↦ absurd (let bad : true ≡ false = ap (λ (x : PartSeen). x.trusted) e ∙ u.1 in cc)
-        | inr m ↦ elim (contains_cases other [] p m) as (λ _. other ≡ p) [
+  only_other : (p : PartSeen) → IsUntrusted (linked_at P 8 start) p → outsider u ≡ p
+  only_other p t = elim (contains_cases (record { component = c; trusted = true }) (outsider u ∷ []) p
+      (subst (λ ps. Contains ps p) placed_same t.0)) as (λ _. outsider u ≡ p) [
+        | inl e ↦ absurd (let bad : true ≡ false = ap (λ (x : PartSeen). x.trusted) e ∙ t.1 in cc)
+        | inr m ↦ elim (contains_cases (outsider u) [] p m) as (λ _. outsider u ≡ p) [
           | inl e ↦ e
           | inr k ↦ absurd (contains_none p k)
         ]
@@ -225,16 +234,16 @@ module _ (c : ComponentFields) (n d : ℕ) (is : Links c n d) where
 -- ---- both
 
 abbrev pub sums_start : StartSeen
-sums_start = start (compiled sums) 71 2 one_links
+sums_start = start adversary main (compiled sums) 71 2 [] one_links
 
 abbrev pub keeps_start : StartSeen
-keeps_start = start (compiled keeps) 109 3 two_links
+keeps_start = start adversary main (compiled keeps) 109 3 [] two_links
 
 pub sums_starts : IsStartOf (parts_of (compiled sums)) 8 sums_start
-sums_starts = is_start_of (compiled sums) 71 2 one_links
+sums_starts = is_start_of adversary main (compiled sums) 71 2 [] one_links
 
 pub keeps_starts : IsStartOf (parts_of (compiled keeps)) 8 keeps_start
-keeps_starts = is_start_of (compiled keeps) 109 3 two_links
+keeps_starts = is_start_of adversary main (compiled keeps) 109 3 [] two_links
 
 pub sums_sources : AreSources (sums ∷ []) (parts_of (compiled sums))
 sums_sources = record { limits = (limits, tt); resolved = (resolved, tt); compiled = refl }
@@ -242,26 +251,29 @@ sums_sources = record { limits = (limits, tt); resolved = (resolved, tt); compil
 pub keeps_sources : AreSources (keeps ∷ []) (parts_of (compiled keeps))
 keeps_sources = record { limits = (limits_too, tt); resolved = (resolved_too, tt); compiled = refl }
 
--- the adversary has main in both
-pub main_there : (c : ComponentFields) (n d : ℕ) → Links c n d → main_of (placed (parts_of c) 8) ≡ Some main
-main_there c n d is = ap main_of (placed_same c n d is) ∙ is.main_is
+-- the same part has main in both
+pub main_there : (u : ComponentFields) (m : Exported) (c : ComponentFields) (n d : ℕ) (sites : List Site)
+    → Links u m c n d sites → main_of (placed (parts_with u c) 8) ≡ Some m
+main_there u m c n d sites is = ap main_of (placed_same u m c n d sites is) ∙ is.main_is
 
--- and is what is untrusted in both
-pub beside_of : (c e : ComponentFields) (n d k l : ℕ) (is : Links c n d) (are : Links e k l)
-    → AreBeside (linked_at (parts_of c) 8 (start c n d is)) (linked_at (parts_of e) 8 (start e k l are))
-beside_of c e n d k l is are p = (
-  λ u. subst (IsUntrusted (linked_at (parts_of e) 8 (start e k l are))) (only_other c n d is p u)
-      (other_there e k l are),
-  λ u. subst (IsUntrusted (linked_at (parts_of c) 8 (start c n d is))) (only_other e k l are p u)
-      (other_there c n d is),
+-- two modules beside the same part, which is what is untrusted in both; either may have main
+pub beside_of : (u : ComponentFields) (m w : Exported) (c e : ComponentFields) (n d k l : ℕ)
+    (sites more : List Site) (is : Links u m c n d sites) (are : Links u w e k l more)
+    → AreBeside (linked_at (parts_with u c) 8 (start u m c n d sites is))
+    (linked_at (parts_with u e) 8 (start u w e k l more are))
+beside_of u m w c e n d k l sites more is are p = (
+  λ t. subst (IsUntrusted (linked_at (parts_with u e) 8 (start u w e k l more are)))
+      (only_other u m c n d sites is p t) (other_there u w e k l more are),
+  λ t. subst (IsUntrusted (linked_at (parts_with u c) 8 (start u m c n d sites is)))
+      (only_other u w e k l more are p t) (other_there u m c n d sites is),
 )
 
 pub sums_main : main_of (placed (parts_of (compiled sums)) 8) ≡ Some main
-sums_main = main_there (compiled sums) 71 2 one_links
+sums_main = main_there adversary main (compiled sums) 71 2 [] one_links
 
 pub keeps_main : main_of (placed (parts_of (compiled keeps)) 8) ≡ Some main
-keeps_main = main_there (compiled keeps) 109 3 two_links
+keeps_main = main_there adversary main (compiled keeps) 109 3 [] two_links
 
 pub beside : AreBeside (linked_at (parts_of (compiled sums)) 8 sums_start)
     (linked_at (parts_of (compiled keeps)) 8 keeps_start)
-beside = beside_of (compiled sums) (compiled keeps) 71 2 109 3 one_links two_links
+beside = beside_of adversary main main (compiled sums) (compiled keeps) 71 2 109 3 [] [] one_links two_links

@@ -18,7 +18,7 @@ use Rattle.proc_semantics.specs.Told.{repeated}
 use Rattle.proc_semantics.specs.Values.{World, Store, target, found, proc_at, main_target, taken}
 use Rattle.proc_semantics.specs.Rules.{Then, Level, enough, with_place, body_of, begin, proc_of, entered}
 use Rattle.proc_semantics.specs.Rules.{by_item, level}
-use Rattle.proc_semantics.specs.Marked.{Thing, Whence, Frame, Regs, numbered_items, refined}
+use Rattle.proc_semantics.specs.Marked.{Thing, Whence, Regs, numbered_items, refined}
 use Rattle.proc_semantics.specs.Marked as tagged
 use Rattle.context_laws.specs.Meanings.{observed}
 use Rattle.context_laws.proofs.Offers.{settled_mean, end_later}

@@ -97,7 +97,7 @@ adversary = record {
   movable = false;
 }
 
-adversary_fits : IsComponent adversary
+pub adversary_fits : IsComponent adversary
 unfolding is_name number_of
 adversary_fits = record {
   name = refl;
@@ -111,7 +111,16 @@ adversary_fits = record {
   data_words = ((omega arith, omega arith), search (rules, arith));
   imports = (
     omega arith,
-    ((refl, refl, omega arith, refl), ((refl, refl, omega arith, refl), ((refl, refl, omega arith, refl), tt))),
+    (
+      (refl, refl, omega arith, refl),
+      (
+        (refl, refl, omega arith, refl),
+        (
+          (refl, refl, omega arith, refl),
+          tt,
+        ),
+      ),
+    ),
   );
   exports = (
     omega arith,
@@ -127,27 +136,30 @@ adversary_checked : check_from (broken_at C) 1 (rules_c adversary false) ≡ Ok 
 unfolding c1 c2 c3 c4 c5 c6 c7 c8 c9 number_of
 adversary_checked = refl
 
-abbrev pub other : PartSeen
-other = record { component = adversary; trusted = false }
+-- a part that isn't trusted, behind the module's
+abbrev pub outsider : ComponentFields → PartSeen
+outsider u = record { component = u; trusted = false }
+
+abbrev pub parts_with : ComponentFields → ComponentFields → List PartSeen
+parts_with u c = record { component = c; trusted = true } ∷ outsider u ∷ []
 
 abbrev pub parts_of : ComponentFields → List PartSeen
-parts_of c = record { component = c; trusted = true } ∷ other ∷ []
+parts_of c = parts_with adversary c
 
-pub each_of : (c : ComponentFields) → IsComponent c → NoneBroken (rules_c c true) → IsKept c
-    → (k : ℕ) (p : PartSeen) → slice_get (parts_of c) k ≡ Some p → IsPart p
-each_of c fits rules kept zero p at =
+pub adversary_is : IsPart (outsider adversary)
+adversary_is = record {
+  limits = adversary_fits;
+  rules = no_rule adversary false adversary_checked;
+  flow = λ t. absurd cc;
+}
+
+pub each_with : (u c : ComponentFields) → IsPart (outsider u) → IsComponent c → NoneBroken (rules_c c true)
+    → IsKept c → (k : ℕ) (p : PartSeen) → slice_get (parts_with u c) k ≡ Some p → IsPart p
+each_with u c out fits rules kept zero p at =
     let is : record { component = c; trusted = true } ≡ p = cc in
     subst IsPart is (record { limits = fits; rules = rules; flow = λ t. kept })
-each_of c fits rules kept (suc zero) p at =
-    let is : other ≡ p = cc in
-    subst IsPart is
-    (record {
-      limits = adversary_fits;
-      rules = no_rule adversary false adversary_checked;
-      flow =
-          λ t. absurd cc;
-    })
-each_of c fits rules kept (suc (suc k)) p at = absurd cc
+each_with u c out fits rules kept (suc zero) p at = let is : outsider u ≡ p = cc in subst IsPart is out
+each_with u c out fits rules kept (suc (suc k)) p at = absurd cc
 
 pub one_linked : check_from rule_at 1 (map by_part (rules_l (parts_of (compiled sums)) 8)) ≡ Ok tt
 unfolding l1 l2 l3 l4 l5 l6 l7 l8 l9 number_of entry_code call_code return_code component_of frame_of

@@ -1,13 +1,12 @@
 -- The overlay goes on as a state of which so much is known.
-use Rattle.std.proofs.Common.{◌≡◌, ℕ, zero, suc, ◌+◌, true, false, List, [], ◌∷◌, Option, Some, None, Bool, refl}
+use Rattle.std.proofs.Common.{◌≡◌, ℕ, true, false, List, ◌∷◌, Option, Some, None, Bool, refl}
 use Rattle.std.proofs.Common.{sym, ap, ◌∙◌, inl, inr, is_some, subst, eqb-true, eq-eqb}
-use Rattle.std.specs.Prelude.{◌==◌, ◌&&◌, if◌then◌else◌, option_map, option_and_then, unwrap_or}
+use Rattle.std.specs.Prelude.{◌==◌, if◌then◌else◌, option_map, unwrap_or}
 use Rattle.std.specs.FinMap as maps
-use Rattle.std.proofs.lemmas.Bool.{cases_Bool, cases_eq, and_parts}
+use Rattle.std.proofs.lemmas.Bool.{cases_Bool}
 use Rattle.cap_words.specs.declared.Word.{Word}
-use Rattle.cap_words.specs.declared.Face.{Face}
 use Rattle.cap_words.specs.declared.CapFields.{CapFields}
-use Rattle.cap_words.specs.Faces.{target_of, memory_in}
+use Rattle.cap_words.specs.Faces.{memory_in}
 use Rattle.cap_words.specs.Linear.{is_linear, zero_word}
 use Rattle.lcm_isa.specs.declared.Reg.{Reg}
 use Rattle.lcm_isa.specs.declared.Reg.TheVariants.{Pc}
@@ -20,11 +19,12 @@ use Rattle.lcm_machine.specs.declared.plan.Effect.{Effect}
 use Rattle.lcm_machine.specs.declared.plan.Made.{Made}
 use Rattle.lcm_machine.specs.declared.plan.Moved.{Moved}
 use Rattle.lcm_machine.specs.Plan.{Plan, Fails, Halts, Goes}
-use Rattle.lcm_machine.specs.Maps.{Regs, State}
-use Rattle.lcm_machine.specs.Places.{reg, set_reg}
+use Rattle.lcm_machine.specs.Maps.{State}
+use Rattle.lcm_machine.specs.Places.{reg}
 use Rattle.lcm_machine.specs.Cells.{cell, set_cell}
-use Rattle.lcm_machine.specs.Table.{plan, target}
-use Rattle.lcm_machine.specs.Row.{faces, opens, cell_faces, look_face, face_there, fetch, Fetched, none, some, put}
+use Rattle.lcm_machine.specs.Table.{plan}
+use Rattle.lcm_machine.specs.Row.{faces, opens, cell_faces, look_face, face_there, fetch, Fetched, none, some}
+use Rattle.lcm_machine.specs.Row.{put}
 use Rattle.lcm_machine.specs.Row.{clear, move_on, spend, make, go_on, perform, word_in, plan_in, outcome, row}
 use Rattle.lcm_machine.specs.Row.{step_fetched, step_of, went, Outcome}
 use Rattle.lcm_machine.proofs.Offers.{cell-set_same, cell-set_other, fetch_by}
@@ -37,11 +37,13 @@ use Rattle.overlay_machine.specs.declared.cases.Case.TheVariants.{Call, Entry, B
 use Rattle.overlay_machine.specs.Words.{look}
 use Rattle.overlay_machine.specs.State.{OpenFrame, OState, Cells}
 use Rattle.overlay_machine.specs.Step.{Ending, goes, halts, fails, case_fetched, case_trusted, case_of}
-use Rattle.overlay_machine.specs.Step.{entry_step, own_stack, need, step_by, other_step, with_frames, overlay_step}
-use Rattle.overlay_machine.specs.Events.{step_event}
+use Rattle.overlay_machine.specs.Step.{entry_step, own_stack, need, step_by, other_step, with_frames}
+use Rattle.overlay_machine.specs.Step.{overlay_step}
 use Rattle.known_steps.specs.Known.{Known, Changes, word_since, AreIn, Partly, blank, known_word, set_place}
-use Rattle.known_steps.specs.Known.{taken_from, moved, others, with_others, face_since, knows, by_plan, target_in}
-use Rattle.known_steps.specs.Known.{known_plan, by_fetched, by_ending, fetched, at_blank, by_case, case_by, at_pc}
+use Rattle.known_steps.specs.Known.{taken_from, moved, others, with_others, face_since, knows, by_plan}
+use Rattle.known_steps.specs.Known.{target_in}
+use Rattle.known_steps.specs.Known.{known_plan, by_fetched, by_ending, fetched, at_blank, by_case, case_by}
+use Rattle.known_steps.specs.Known.{at_pc}
 use Rattle.known_steps.specs.Known.{known_step}
 
 -- ---- memory holds what is known
@@ -85,10 +87,12 @@ module _ (k : Known) (spans : List Span) where
       let c = take_by (is_linear (look w)) s m p h in (
         c.0,
         c.1,
-        ap (λ v. if is_linear (look v) then put (with_cells s m) p (zero_word Plain) else with_cells s m) e ∙ c.2,
+        ap (λ v. if is_linear (look v) then put (with_cells s m) p (zero_word Plain) else with_cells s m) e ∙
+            c.2,
       )
 
-  word_known : (s : Partly) (m : Cells) (p : Place) (w : OWord) → AreIn k s.changes m → known_word k s p ≡ Some w
+  word_known : (s : Partly) (m : Cells) (p : Place) (w : OWord) → AreIn k s.changes m → known_word k s p ≡
+      Some w
       → word_in Plain (with_cells s m) p ≡ w
   word_known s m (R r) w h e = cc
   word_known s m (Cell a) w h e = ap (λ o. unwrap_or o (zero_word Plain)) (h a w e)
@@ -150,9 +154,11 @@ module _ (k : Known) (spans : List Span) where
       let two = spend look Plain one e.also_spent in
       let three = make Plain two e.first in
       let four = make Plain three e.second in
-      ap (λ x. go_on Plain (make Plain (make Plain (spend look Plain x e.also_spent) e.first) e.second) e.next)
+      ap (λ x. go_on Plain (make Plain (make Plain (spend look Plain x e.also_spent) e.first) e.second)
+      e.next)
       (spend_over s m e.spent)
-      ∙ ap (λ x. go_on Plain (make Plain (make Plain x e.first) e.second) e.next) (spend_over one m e.also_spent)
+      ∙ ap (λ x. go_on Plain (make Plain (make Plain x e.first) e.second) e.next) (spend_over one m
+      e.also_spent)
       ∙ ap (λ x. go_on Plain (make Plain x e.second) e.next) (make_over two m e.first)
       ∙ ap (λ x. go_on Plain x e.next) (make_over three m e.second) ∙ go_over four m e.next
 
@@ -212,7 +218,8 @@ module _ (k : Known) (spans : List Span) where
       (c.0, c.1, ap (outcome look Plain (with_cells s m)) (plan_known s m i next h e) ∙ c.2)
   row_by false s t m i next h e is = absurd cc
 
-  pub fetched_goes : (s t : Partly) (m : Cells) (f : Fetched) → AreIn k s.changes m → by_fetched k s f ≡ Some t
+  pub fetched_goes : (s t : Partly) (m : Cells) (f : Fetched) → AreIn k s.changes m → by_fetched k s f ≡ Some
+      t
       → Goes_to t (step_fetched look Plain (with_cells s m) f)
   fetched_goes s t m (none f) h e = absurd cc
   fetched_goes s t m (some i next) h e = row_by _ s t m i next h refl e
@@ -281,7 +288,8 @@ module _ (k : Known) (spans : List Span) where
     case_goes s t m (Back r1 r2) h e is = absurd cc
 
     step_by_knows : (b : Bool) (s t : Partly) (m : Cells) → AreIn k s.changes m → knows k s (at_pc k s) ≡ b
-        → (if b then by_case k l s (case_by k l s) else None) ≡ Some t → Steps_to t (overlay_step l (whole s m))
+        → (if b then by_case k l s (case_by k l s) else None) ≡ Some t → Steps_to t (overlay_step l (whole s
+        m))
     unfolding overlay_step
     step_by_knows true s t m h e is =
         let c = case_goes s t m (case_by k l s) h e is in

@@ -1,5 +1,6 @@
 -- Stretches of a run, computed.
-use Rattle.std.proofs.Common.{◌≡◌, ℕ, zero, suc, true, false, List, Option, Some, None, Bool, refl, sym, ap, ◌∙◌}
+use Rattle.std.proofs.Common.{◌≡◌, ℕ, zero, suc, true, false, List, Option, Some, None, Bool, refl, sym, ap}
+use Rattle.std.proofs.Common.{◌∙◌}
 use Rattle.std.proofs.Common.{subst}
 use Rattle.std.specs.Prelude.{if◌then◌else◌, option_and_then, option_map, not}
 use Rattle.lcm_isa.specs.declared.Instr.TheVariants.{Halt, Xjmp}
@@ -19,7 +20,8 @@ use Rattle.overlay_machine.specs.Words.{look}
 use Rattle.overlay_machine.specs.State.{OpenFrame, OState, Cells}
 use Rattle.overlay_machine.specs.Step.{goes, halts, overlay_step, step_by, other_step, with_frames}
 use Rattle.trace_tool.specs.Cuts.{is_inside}
-use Rattle.known_steps.specs.Known.{Known, AreIn, Partly, blank, knows, fetched, at_blank, case_by, at_pc, known_step}
+use Rattle.known_steps.specs.Known.{Known, AreIn, Partly, blank, knows, fetched, at_blank, case_by, at_pc}
+use Rattle.known_steps.specs.Known.{known_step}
 use Rattle.known_steps.specs.Known.{is_or_not, known_run, Stays, here, on}
 use Rattle.known_steps.proofs.Known.{with_cells, whole, case_known, fetch_known, step_known}
 
@@ -55,7 +57,8 @@ module _ (k : Known) (spans : List Span) (l : Layout) (fs : List OpenFrame) (n :
       → ((x : Partly) (m' : Cells) → AreIn k x.changes m' → is_inside l (at x m') ≡ b
       → known_run k l b j x ≡ Some t → Runs_to b t (at x m'))
       → AreIn k s.changes m → is_inside l (at s m) ≡ b → known_step k l s ≡ o
-      → option_and_then (λ x. if is_or_not k b (is_inside l (at_blank k x)) then known_run k l b j x else None) o
+      → option_and_then (λ x. if is_or_not k b (is_inside l (at_blank k x)) then known_run k l b j x else
+      None) o
       ≡ Some t → Runs_to b t (at s m)
   run_by b j s t m None more h i step e = absurd cc
   run_by b j s t m (Some x) more h i step e =
@@ -70,7 +73,8 @@ module _ (k : Known) (spans : List Span) (l : Layout) (fs : List OpenFrame) (n :
       run_by b j s t m _ (λ x m' g inside known. runs_known b j x t m' g inside known) h i refl e
 
   -- a state at which `halt` is next
-  pub halts_known : (s : Partly) (m : Cells) (next : Word) → AreIn k s.changes m → knows k s (at_pc k s) ≡ true
+  pub halts_known : (s : Partly) (m : Cells) (next : Word) → AreIn k s.changes m → knows k s (at_pc k s) ≡
+      true
       → case_by k l s ≡ Other → fetched k s ≡ some Halt next → overlay_step l (at s m) ≡ halts
   unfolding overlay_step other_step step_of row plan_in
   halts_known s m next h there case is =
@@ -105,6 +109,8 @@ module _ (k : Known) (spans : List Span) (l : Layout) (fs : List OpenFrame) (n :
   unfolding faces
   jump_event s m q h there case =
       event_by s m q Other h there case
-      ∙ ap (λ f. event_after l (note_jump (option_map (λ p. p.part) (trusted_owner l (faces look (blank s.regs) Pc)))
+      ∙ ap (λ f. event_after l (note_jump (option_map (λ p. p.part) (trusted_owner l (faces look (blank
+      s.regs) Pc)))
       f) q)
-      (ap (jump_seal (with_cells k spans s m)) (fetch_known k spans s m h there) ∙ seal_same s m (fetched k s))
+      (ap (jump_seal (with_cells k spans s m)) (fetch_known k spans s m h there) ∙ seal_same s m (fetched k
+      s))

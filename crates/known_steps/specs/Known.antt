@@ -1,17 +1,15 @@
 -- States of which the registers are known, and the words of some cells, and how they go on.
-use Rattle.std.specs.Prelude.{◌≡◌, ℕ, zero, suc, ◌+◌, ◌-◌, ◌==◌, true, false, Bool, List, [], ◌∷◌, ◌++◌, Option}
-use Rattle.std.specs.Prelude.{Some, None, is_some, if◌then◌else◌, option_map, option_and_then, pos, not}
+use Rattle.std.specs.Prelude.{◌≡◌, ℕ, zero, suc, ◌+◌, ◌-◌, ◌==◌, true, false, Bool, List, [], ◌∷◌, Option}
+use Rattle.std.specs.Prelude.{Some, None, is_some, if◌then◌else◌, option_map, option_and_then, not}
 use Rattle.std.specs.FinMap as maps
 use Rattle.cap_words.specs.declared.Word.{Word}
-use Rattle.cap_words.specs.declared.Word.TheVariants.{Int}
 use Rattle.cap_words.specs.declared.Face.{Face}
 use Rattle.cap_words.specs.declared.CapFields.{CapFields}
 use Rattle.cap_words.specs.Faces.{target_of, address}
 use Rattle.cap_words.specs.Linear.{is_linear, zero_word}
 use Rattle.lcm_isa.specs.declared.Reg.{Reg}
-use Rattle.lcm_isa.specs.declared.Reg.TheVariants.{Pc, C1, C2}
+use Rattle.lcm_isa.specs.declared.Reg.TheVariants.{Pc}
 use Rattle.lcm_isa.specs.declared.Instr.{Instr}
-use Rattle.lcm_isa.specs.declared.Instr.TheVariants.{Xjmp}
 use Rattle.lcm_machine.specs.declared.Place.{Place}
 use Rattle.lcm_machine.specs.declared.Place.TheVariants.{R, Cell}
 use Rattle.lcm_machine.specs.declared.plan.Effect.{Effect}
@@ -21,7 +19,8 @@ use Rattle.lcm_machine.specs.Maps.{Regs, State}
 use Rattle.lcm_machine.specs.Places.{reg, set_reg}
 use Rattle.lcm_machine.specs.Cells.{cell}
 use Rattle.lcm_machine.specs.Table.{plan, target}
-use Rattle.lcm_machine.specs.Row.{faces, opens, look_face, face_there, fetch, Fetched, none, some, spend, make}
+use Rattle.lcm_machine.specs.Row.{faces, opens, look_face, face_there, fetch, Fetched, none, some, spend}
+use Rattle.lcm_machine.specs.Row.{make}
 use Rattle.lcm_machine.specs.Row.{go_on, put}
 use Rattle.trusted_border.specs.declared.layout.Layout.{Layout}
 use Rattle.trusted_border.specs.declared.layout.SiteCode.{SiteCode}
@@ -32,7 +31,8 @@ use Rattle.overlay_machine.specs.declared.cases.Case.{Case}
 use Rattle.overlay_machine.specs.declared.cases.Case.TheVariants.{Entry, Other}
 use Rattle.overlay_machine.specs.Words.{look}
 use Rattle.overlay_machine.specs.State.{OpenFrame, OState, Cells}
-use Rattle.overlay_machine.specs.Step.{Ending, goes, case_fetched, case_trusted, entry_step, at_call, state_resumed}
+use Rattle.overlay_machine.specs.Step.{Ending, goes, case_fetched, case_trusted, entry_step, at_call}
+use Rattle.overlay_machine.specs.Step.{state_resumed}
 use Rattle.overlay_machine.specs.Step.{rest_words, overlay_step}
 use Rattle.trace_tool.specs.Cuts.{is_inside}
 
@@ -82,7 +82,8 @@ module _ (k : Known) where
   -- what an effect does to registers, once its word is moved
   abbrev pub others : Effect → State OWord → State OWord
   others e s =
-      go_on Plain (make Plain (make Plain (spend look Plain (spend look Plain s e.spent) e.also_spent) e.first)
+      go_on Plain (make Plain (make Plain (spend look Plain (spend look Plain s e.spent) e.also_spent)
+      e.first)
       e.second) e.next
 
   abbrev pub with_others : Effect → Partly → Partly

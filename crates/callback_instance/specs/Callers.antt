@@ -1,0 +1,89 @@
+-- Two modules that have main themselves: it calls out, and halts with what is answered.
+use Rattle.std.specs.Prelude.{◌≡◌, ◌≢◌, ℕ, pos, false, true, [], ◌∷◌, List, map}
+use Rattle.component_linker.specs.Parts.{PartSeen}
+use Rattle.component_linker.specs.Started.{StartSeen}
+use Rattle.component_linker.specs.LinkedStarts.{IsStartOf}
+use Rattle.overlay_machine.specs.Starting.{overlay_at}
+use Rattle.trace_tool.specs.Cuts.{is_inside}
+use Rattle.trace_tool.specs.Layout.{layout}
+use Rattle.proc_language.specs.declared.tree.Op.TheVariants.{Plus}
+use Rattle.proc_language.specs.declared.module.ModuleFields.{ModuleFields}
+use Rattle.proc_language.specs.Tree.{Expr, number, op, call, value, no_args, halt}
+use Rattle.proc_language.specs.Limits.{IsModule}
+use Rattle.proc_names.specs.NameFaults.{name_faults}
+use Rattle.proc_program.specs.Lower.{part_of}
+use Rattle.proc_templates.specs.Compiled.{compiled}
+use Rattle.template_runs.specs.Border.{Opened}
+use Rattle.source_starts.specs.Sources.{AreSources, linked_at}
+use Rattle.context_laws.specs.Related.{SameNames, Calls}
+use Rattle.context_laws.specs.Lockstep.{Round, SameCrossing}
+use Rattle.context_laws.specs.Sources.{AreBeside, IsFirst}
+use Rattle.context_laws.specs.Meanings.{MeanTheSame, GoByNames, GoesInStep}
+use Rattle.callback_instance.specs.Passes.{lettered}
+use Rattle.callback_instance.specs.CalledBack.{CallsWith}
+
+-- module t; import u.g/1; export proc main() { halt g(e); }
+abbrev pub caller : Expr → ModuleFields
+caller e = record {
+  at = 0;
+  name = lettered 116;
+  code = 1;
+  data_base = 200;
+  closure = 10;
+  returns = 12;
+  return_count = 1;
+  stack = 300;
+  movable = false;
+  imports = record { at = 0; part = lettered 117; name = lettered 103; arity = 1 } ∷ [];
+  globals = [];
+  procs = record {
+    at = 0;
+    shared = true;
+    name = record { text = 109 ∷ 97 ∷ 105 ∷ 110 ∷ []; at = 0 };
+    params = [];
+    locals = [];
+    body = halt 0 (call 0 (lettered 103) (value e no_args)) ∷ [];
+  } ∷ [];
+}
+
+-- with 6, and with 3 + 3
+abbrev pub says : ModuleFields
+says = caller (number 0 6)
+
+abbrev pub adds : ModuleFields
+adds = caller (op 0 Plus (number 0 3) (number 0 3))
+
+-- Both are modules whose names are resolved; their components differ, and they mean the same. There are links
+-- of both beside each other, in which main is theirs. In the one, trusted code lets go for the first time by a
+-- call with 6; so in the other it lets go too, with the same shown, and from there on code outside does the
+-- same.
+pub record CallersLetGo : Type 0 where
+  pub limits : IsModule says × IsModule adds
+  pub resolved : (name_faults says ≡ []) × (name_faults adds ≡ [])
+  pub differ : compiled says ≢ compiled adds
+  pub same : (size : ℕ) → MeanTheSame (map part_of (says ∷ [])) (map part_of (adds ∷ [])) size
+  pub parts : List PartSeen
+  pub parts_too : List PartSeen
+  pub size : ℕ
+  pub start : StartSeen
+  pub start_too : StartSeen
+  pub is : IsStartOf parts size start
+  pub is_too : IsStartOf parts_too size start_too
+  pub sources : AreSources (says ∷ []) parts
+  pub sources_too : AreSources (adds ∷ []) parts_too
+  pub beside : AreBeside (linked_at parts size start) (linked_at parts_too size start_too)
+  pub inside : is_inside (layout start) (overlay_at start).state ≡ true
+  pub inside_too : is_inside (layout start_too) (overlay_at start_too).state ≡ true
+  pub first : Round
+  pub lets_go : IsFirst start first
+  pub pair : Opened
+  pub calls : CallsWith (layout start) pair (pos 6) first
+  pub names : SameNames (linked_at parts size start) (linked_at parts_too size start_too)
+  pub by_names : GoByNames names
+  pub first_too : Round
+  pub lets_go_too : IsFirst start_too first_too
+  pub in_both : Calls
+  pub shows : SameCrossing (linked_at parts size start) (linked_at parts_too size start_too) names [] first
+      first_too in_both
+  pub on : GoesInStep (linked_at parts size start) (linked_at parts_too size start_too) names in_both
+      first.after first_too.after
