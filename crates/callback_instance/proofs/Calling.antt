@@ -19,8 +19,9 @@ use Rattle.same_meanings.proofs.Offers.{same_as}
 use Rattle.same_meanings.proofs.Offers.{tick}
 use Rattle.context_laws.specs.Meanings.{name_of, MeanTheSame}
 use Rattle.context_laws.specs.Meanings as observing
+use Rattle.context_laws.proofs.Offers.{settled_mean}
 use Rattle.callback_instance.specs.Callers.{says, adds}
-use Rattle.callback_instance.proofs.Single.{head_of, it, IsSingle, both_found, single_decides}
+use Rattle.same_meanings.proofs.Offers.{head_of, it, IsSingle, both_found, single_decides}
 
 abbrev U : Program
 U = part_of says
@@ -152,5 +153,6 @@ any_feed [] = tt
 any_feed (i ∷ feed) = (tt, any_feed feed)
 
 pub callers_mean_the_same : (size : ℕ) → MeanTheSame (map part_of (says ∷ [])) (map part_of (adds ∷ [])) size
-callers_mean_the_same size feed fits =
-    let r = callers_same size feed (any_feed feed) in (r.0, λ f le. (r.1 f le).0)
+callers_mean_the_same size =
+    settled_mean (part_of says ∷ []) (part_of adds ∷ []) size
+    (λ feed fits. let r = callers_same size feed (any_feed feed) in (r.0, λ f le. (r.1 f le).0))

@@ -1,5 +1,4 @@
 pub mod Modules
-pub mod Single
 pub mod Passing
 pub mod Means
 pub mod Links

@@ -29,7 +29,7 @@ use Rattle.same_meanings.proofs.Offers.{same_as}
 use Rattle.same_meanings.proofs.Offers.{both_number, both_place, starts_without}
 use Rattle.same_meanings.proofs.Offers.{tick}
 use Rattle.callback_instance.specs.Passes.{passes, stores}
-use Rattle.callback_instance.proofs.Single.{head_of, it, Both, IsSingle, both_found, single_decides}
+use Rattle.same_meanings.proofs.Offers.{head_of, it, Both, IsSingle, both_found, single_decides}
 
 abbrev U : Program
 U = part_of passes

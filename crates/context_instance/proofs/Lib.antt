@@ -1,6 +1,5 @@
 pub mod Modules
-pub mod Means
-pub mod Ends
+pub mod Doubled
 pub mod Same
 pub mod Halts
 pub mod Apart

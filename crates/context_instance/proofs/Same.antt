@@ -1,35 +1,38 @@
--- Both modules mean the same, and end the same way.
-use Rattle.std.proofs.Common.{◌≡◌, ℕ, ◌+◌, ◌-◌, ℤ, pos, List, [], ◌∷◌, map, length, Option, Some, None}
-use Rattle.std.proofs.Common.{Bool, true, false, refl, sym, ap, ◌∙◌, arith}
-use Rattle.std.specs.Prelude.{slice_index_or, if◌then◌else◌}
+-- Both modules mean the same, and end the same way: their code is straight, and comes to the same.
+use Rattle.std.proofs.Common.{◌≡◌, ℕ, zero, suc, ◌+◌, ◌-◌, ℤ, pos, negsuc, List, [], ◌∷◌, ◌++◌, map}
+use Rattle.std.proofs.Common.{Option, Some, None, true, false, refl, sym, ap, ◌∙◌, arith, subst}
+use Rattle.std.specs.Prelude.{slice_index_or, ◌^◌}
 use Rattle.std.proofs.lemmas.Bool.Decides.{Decides-int_eq}
 use Rattle.source_events.specs.declared.Item.{Item}
-use Rattle.source_events.specs.declared.Item.TheVariants.{Enter, Ret}
-use Rattle.source_events.specs.declared.FeedBack.{FeedBack}
-use Rattle.source_events.specs.declared.FeedBack.TheVariants as way
+use Rattle.source_events.specs.declared.MeaningEnd.TheVariants.{OutOfFuel}
 use Rattle.proc_language.specs.declared.tree.Op.TheVariants.{Plus}
 use Rattle.proc_names.specs.Names.{variable_named}
 use Rattle.proc_program.specs.declared.program.Program.{Program}
 use Rattle.proc_program.specs.declared.program.Procedure.{Procedure}
 use Rattle.proc_program.specs.Lower.{part_of}
-use Rattle.proc_semantics.specs.declared.value.Value.TheVariants.{Num}
+use Rattle.proc_semantics.specs.declared.value.Value.{Value}
+use Rattle.proc_semantics.specs.declared.value.Value.TheVariants.{Num, Other}
 use Rattle.proc_semantics.specs.Told.{repeated}
-use Rattle.proc_semantics.specs.Values.{World, Store, main_target}
-use Rattle.proc_semantics.specs.Rules.{Then, Level, result_of, with_number, enough, body_of, finish, start}
+use Rattle.proc_semantics.specs.Values.{Store, found, main_target, number_in}
+use Rattle.proc_semantics.specs.Rules.{Then, Level, Wait, result_of, with_number, with_place, enough, body_of}
+use Rattle.proc_semantics.specs.Rules.{finish}
 use Rattle.proc_semantics.specs.Rules.{level}
-use Rattle.source_events.specs.declared.MeaningEnd.{MeaningEnd}
-use Rattle.proc_semantics.specs.Marked.{Event, Leaves, Whence, Frame, numbered_items, event_to, refined}
-use Rattle.context_laws.specs.Meanings.{Name, name_of, observed, MeanTheSame}
+use Rattle.proc_semantics.specs.Marked.{Whence, Frame, Thing}
+use Rattle.proc_semantics.specs.Marked as tagged
+use Rattle.same_meanings.specs.Same.{wait_at, tracing, Upshot, upshot, Sides, SameTold, FeedOf, SameRefined}
+use Rattle.same_meanings.specs.Straight.{Outcome, Gives, GoesOn, with_some, followed, body_outcome}
+use Rattle.same_meanings.specs.Straight.{SameOutcome}
+use Rattle.same_meanings.specs.Straight.{both_break, both_give, SameValue, SameValues, a_number, a_closure}
+use Rattle.same_meanings.specs.Straight.{an_other, no_values, and_value, SameStraight}
+use Rattle.same_meanings.proofs.Offers.{tick, both_deeper, ticks, both_place, both_wipe, both_number}
+use Rattle.same_meanings.proofs.Offers.{same_as, starts_without, straight_decide, behind_same}
+use Rattle.same_meanings.proofs.Offers.{head_of, it, Both, of_both, HopSame, IsSingle, both_found}
+use Rattle.context_laws.specs.Meanings.{name_of, MeanTheSame}
+use Rattle.context_laws.specs.Meanings as observing
 use Rattle.context_laws.specs.Ends.{EndTheSame}
 use Rattle.context_laws.proofs.Offers.{settled_mean, settled_ends}
 use Rattle.context_instance.specs.Doubles.{sums, keeps}
-use Rattle.context_instance.proofs.Means.{M, tick, tell, tell_item, tell_left, tell_number, tell_value}
-use Rattle.context_instance.proofs.Means.{tell_back, is_it, told, Told}
-use Rattle.context_instance.proofs.Ends.{ends, end_of}
-
-abbrev pub first : List Procedure → Procedure
-first [] = record { name = []; shared = false; callbacks = []; locals = 0; need = 0; body = [] }
-first (p ∷ ps) = p
+use Rattle.context_instance.proofs.Doubled.{Grows, doubled, at_last}
 
 abbrev U : Program
 U = part_of sums
@@ -37,170 +40,273 @@ U = part_of sums
 abbrev V : Program
 V = part_of keeps
 
--- ---- the first
+abbrev P : Procedure
+P = head_of U.procs
 
-sums_body : (l : Level M) (f : Frame Whence ℕ) (v : ℤ) (k : Then M) (st : Store)
-    → body_of M (U ∷ []) l f (first U.procs) (Some (Num v ∷ [])) k st
-    ≡ repeated tick 4 (with_number M (result_of Plus v v) (finish M (U ∷ []) (first U.procs).need k) st)
-unfolding variable_named
-sums_body l f v k st = refl
+abbrev Q : Procedure
+Q = head_of V.procs
 
-sums_told : (feed : List Item) (k : ℕ) (st : Store)
-    → Told U (first U.procs) (102 ∷ []) refl refl refl refl (λ st. Unit {0}) 4 (λ v st. st) (λ v st i. i)
-    (λ l f v k st h i. sums_body l f v k st) feed k st
-sums_told feed k st =
-    told U (first U.procs) (102 ∷ []) refl refl refl refl (λ st. Unit {0}) 4 (λ v st. st) (λ v st i. i)
-    (λ l f v k st h i. sums_body l f v k st) feed k st tt
-
--- ---- the other: its one global holds a number
-
-abbrev Holds : Store → Type 0
-Holds st = (w : ℤ) × (st ≡ (w ∷ []) ∷ [])
-
+-- the globals of the other: one word
 abbrev one_word : ℤ → Store
 one_word v = (v ∷ []) ∷ []
 
-keeps_home : (l : Level M) (left need : ℕ) (words : List (Option Whence)) (v w : ℤ) (k : Then M)
-    → body_of M (V ∷ []) l (record { home = 0; left = left; need = need; words = words }) (first V.procs)
+abbrev Holds : Store → Type 0
+Holds st = (w : ℤ) × (st ≡ one_word w)
+
+abbrev S : Sides
+S = record {
+  one = U ∷ [];
+  other = V ∷ [];
+  Names = observing.Name;
+  name = name_of (U ∷ []);
+  name_too = name_of (V ∷ []);
+  Fits = λ i. Unit {0};
+  Stores = λ st st'. Holds st';
+}
+
+-- ---- what the bodies come to
+
+number_same : (i : ℕ) (vs ws : List Value) → SameValues vs ws
+    → number_in (slice_index_or vs i Other) ≡ number_in (slice_index_or ws i Other)
+number_same i _ _ no_values = refl
+number_same zero _ _ (and_value v m) = by _ _ v
+  where
+    by : (x y : Value) → SameValue x y → number_in x ≡ number_in y
+    by _ _ (a_number v) = refl
+    by _ _ (a_closure p q) = refl
+    by _ _ an_other = refl
+number_same (suc i) _ _ (and_value {vs = vs} {ws = ws} v m) = number_same i vs ws m
+
+-- with a sum
+abbrev gives : Option ℤ → Store → Outcome
+gives o st =
+    followed (followed (with_some o (λ v. Gives v st)) (λ env st. GoesOn env st)) (λ env st. Gives (pos 0) st)
+
+sum_same : (o : Option ℤ) (st st' : Store) → Holds st' → SameOutcome S.Stores (gives o st) (gives o st')
+sum_same None st st' h = both_break
+sum_same (Some v) st st' h = both_give v st st' h
+
+sums_gives : (env : List Value) (st : Store)
+    → body_outcome 0 P env st ≡ gives (result_of Plus (number_in (slice_index_or (env ++ []) 0 Other))
+    (number_in (slice_index_or (env ++ []) 0 Other))) st
+unfolding variable_named
+sums_gives env st = refl
+
+-- a sum that is given ends a procedure, whatever stands behind
+gives_first : (o : Option ℤ) (st : Store) (f : List Value → Store → Outcome)
+    → followed (followed (followed (with_some o (λ v. Gives v st)) (λ env st. GoesOn env st)) f)
+    (λ env st. Gives (pos 0) st) ≡ gives o st
+gives_first None st f = refl
+gives_first (Some v) st f = refl
+
+keeps_gives : (env : List Value) (w : ℤ)
+    → body_outcome 0 Q env (one_word w) ≡ gives (result_of Plus (number_in (slice_index_or (env ++ []) 0
+    Other))
+    (number_in (slice_index_or (env ++ []) 0 Other))) (one_word (number_in (slice_index_or (env ++ []) 0
+    Other)))
+unfolding variable_named
+keeps_gives env w =
+    let x = number_in (slice_index_or (env ++ []) 0 Other) in
+    rw ((Decides-int_eq x x).1 refl) (gives_first (result_of Plus x x) (one_word x) _)
+
+bodies : (env env' : List Value) → SameValues env env' → (st st' : Store) → Holds st'
+    → SameOutcome S.Stores (body_outcome 0 P env st) (body_outcome 0 Q env' st')
+bodies env env' v st st' h =
+    let x = number_in (slice_index_or (env ++ []) 0 Other) in
+    let y = number_in (slice_index_or (env' ++ []) 0 Other) in
+    let same : x ≡ y = number_same 0 (env ++ []) (env' ++ []) (behind_same env env' [] [] v no_values) in
+    subst (λ z. SameOutcome S.Stores (body_outcome 0 P env st) (body_outcome 0 Q env' z)) (sym h.1)
+    (subst (λ z. SameOutcome S.Stores z (body_outcome 0 Q env' (one_word h.0))) (sym (sums_gives env st))
+    (subst (λ z. SameOutcome S.Stores (gives (result_of Plus x x) st) z) (sym (keeps_gives env' h.0))
+    (subst (λ z. SameOutcome S.Stores (gives (result_of Plus x x) st) (gives (result_of Plus z z) (one_word
+    z)))
+    same (sum_same (result_of Plus x x) st (one_word x) (x, refl)))))
+
+they_are : SameStraight S it it
+they_are = record {
+  one = P;
+  other = Q;
+  one_is = refl;
+  other_is = refl;
+  need = refl;
+  callbacks = refl;
+  straight = ((tt, tt), tt);
+  straight_too = (tt, (((tt, tt), ((tt, tt), tt), tt), (tt, tt)));
+  same = bodies;
+}
+
+-- ---- hops: one that hops to itself doubles its value until the sum is too large, or goes on with 0
+
+abbrev At : ℕ → Level tracing
+At d = level tracing (U ∷ []) d
+
+abbrev At' : ℕ → Level tracing
+At' d = level tracing (V ∷ []) d
+
+sums_body : (l : Level tracing) (f : Frame Whence ℕ) (v : ℤ) (k : Then tracing) (st : Store)
+    → body_of tracing (U ∷ []) l f P (Some (Num v ∷ [])) k st
+    ≡ repeated tick 4 (with_number tracing (result_of Plus v v) (finish tracing (U ∷ []) P.need k) st)
+unfolding variable_named
+sums_body l f v k st = refl
+
+keeps_home : (l : Level tracing) (left need : ℕ) (words : List (Option Whence)) (v w : ℤ) (k : Then tracing)
+    → body_of tracing (V ∷ []) l (record { home = 0; left = left; need = need; words = words }) Q
     (Some (Num v ∷ [])) k (one_word w)
     ≡ repeated tick 10
-    (with_number M (result_of Plus v v) (finish M (V ∷ []) (first V.procs).need k) (one_word v))
+    (with_number tracing (result_of Plus v v) (finish tracing (V ∷ []) Q.need k) (one_word v))
 unfolding variable_named
 keeps_home l left need words v w k = rw ((Decides-int_eq v v).1 refl) refl
 
-keeps_body : (l : Level M) (f : Frame Whence ℕ) (v : ℤ) (k : Then M) (st : Store) → f.home ≡ 0 → Holds st
-    → body_of M (V ∷ []) l f (first V.procs) (Some (Num v ∷ [])) k st
+keeps_body : (l : Level tracing) (left need : ℕ) (words : List (Option Whence)) (v : ℤ) (k : Then tracing)
+    (st : Store) → Holds st
+    → body_of tracing (V ∷ []) l (record { home = 0; left = left; need = need; words = words }) Q
+    (Some (Num v ∷ [])) k st
     ≡ repeated tick 10
-    (with_number M (result_of Plus v v) (finish M (V ∷ []) (first V.procs).need k) (one_word v))
-keeps_body l f v k st h i =
-    ap (body_of M (V ∷ []) l f (first V.procs) (Some (Num v ∷ [])) k) i.1
-    ∙ ap (λ z. body_of M (V ∷ []) l (record { home = z; left = f.left; need = f.need; words = f.words })
-    (first V.procs) (Some (Num v ∷ [])) k (one_word i.0)) h
-    ∙ keeps_home l f.left f.need f.words v i.0 k
+    (with_number tracing (result_of Plus v v) (finish tracing (V ∷ []) Q.need k) (one_word v))
+keeps_body l left need words v k st h =
+    ap (body_of tracing (V ∷ []) l (record { home = 0; left = left; need = need; words = words }) Q
+    (Some (Num v ∷ [])) k) h.1
+    ∙ keeps_home l left need words v h.0 k
 
-keeps_told : (feed : List Item) (k : ℕ) (st : Store) → Holds st
-    → Told V (first V.procs) (102 ∷ []) refl refl refl refl Holds 10 (λ v st. one_word v)
-    (λ v st i. (v, refl))
-    keeps_body feed k st
-keeps_told feed k st h =
-    told V (first V.procs) (102 ∷ []) refl refl refl refl Holds 10 (λ v st. one_word v) (λ v st i. (v, refl))
-    keeps_body feed k st h
+module _ (left : Option ℕ) where
+  abbrev Waits : Type 0
+  Waits = ℕ → Option (Wait tracing)
+
+  abbrev Hops : ℕ → ℤ → Type 0
+  Hops n v = (cs cs' : Waits) (st st' : Store) → Holds st'
+      → SameTold S n (λ d. (At d).hop (cs d) left it v st) (λ d. (At' d).hop (cs' d) left it v st')
+
+  -- one hop more
+  once : (n : ℕ) (v : ℤ) → ((w : ℤ) → result_of Plus v v ≡ Some w → Hops n w) → Hops n v
+  once n v more cs cs' st st' h =
+      both_deeper S n _ _
+      (ticks S (1 + P.need) (1 + Q.need) n _ _
+      (both_place S n (enough P.need left) _ _
+      (λ given e. both_wipe S n (given - P.need) _ _
+      (same_as S n _ _ _ _
+      (λ d. sums_body (At d) (tracing.frame 0 given P (tracing.single v)) v ((At d).hop (cs (suc d)) left it)
+      st)
+      (λ d. keeps_body (At' d) given Q.need (None ∷ []) v ((At' d).hop (cs' (suc d)) left it) st' h)
+      (ticks S 4 10 n _ _
+      (both_number S n (result_of Plus v v) _ _ st (one_word v)
+      (λ w e. ticks S (1 + P.need) (1 + Q.need) n _ _
+      (more w e (λ d. cs (suc d)) (λ d. cs' (suc d)) st (one_word v) (v, refl)))))))))
+
+  grows : (j n : ℕ) (v : ℤ) → Grows j v → Hops n v
+  grows zero n v g = once n v (λ w e. let bad : None ≡ Some w = sym (at_last v g) ∙ e in absurd cc)
+  grows (suc j) n v g = once n v (λ w e. grows j n w (doubled j v w g e))
+
+  -- with 0 neither ever has fuel enough
+  abbrev never : Upshot observing.Name
+  never = record { events = []; end = OutOfFuel }
+
+  record Never (name : Whence → observing.Name) (m : tracing.Comp) : Type 0 where
+    pub is : (low : Option ℕ) (f : ℕ) (feed : List (Thing Whence ℕ)) → upshot name (m low f feed) ≡ never
+
+  tick_never : (name : Whence → observing.Name) (m : tracing.Comp) → Never name m → Never name (tick m)
+  tick_never name m s = record { is = is }
+    where
+      is : (low : Option ℕ) (f : ℕ) (feed : List (Thing Whence ℕ)) → upshot name (tick m low f feed) ≡ never
+      is low zero feed = refl
+      is low (suc f) feed = s.is low f feed
+
+  ticks_never : (name : Whence → observing.Name) (n : ℕ) (m : tracing.Comp) → Never name m
+      → Never name (repeated tick n m)
+  ticks_never name zero m s = s
+  ticks_never name (suc n) m s = tick_never name (repeated tick n m) (ticks_never name n m s)
+
+  wipes_never : (name : Whence → observing.Name) (n : ℕ) (m : tracing.Comp) → Never name m
+      → Never name (tagged.wipes Whence ℕ n m)
+  wipes_never name n m s =
+      record { is = λ low f feed. s.is (Some (tagged.lower Whence ℕ low n)) f feed }
+
+  module _ (given : ℕ) (e : enough P.need left ≡ Some given) where
+    sums_never : (d : ℕ) (c : Option (Wait tracing)) (st : Store)
+        → Never S.name ((At d).hop c left it (pos 0) st)
+    sums_never zero c st = record { is = λ low f feed. refl }
+    sums_never (suc d) c st =
+        subst (Never S.name)
+        (sym (ap (λ o. repeated tick (1 + P.need) (with_place tracing o
+        (λ g. tagged.wipes Whence ℕ (g - P.need) (body_of tracing (U ∷ []) (At d)
+        (tracing.frame 0 g P (tracing.single (pos 0))) P (Some (Num (pos 0) ∷ [])) ((At d).hop c left it)
+        st)))) e))
+        (ticks_never S.name (1 + P.need) _
+        (wipes_never S.name (given - P.need) _
+        (subst (Never S.name)
+        (sym (sums_body (At d) (tracing.frame 0 given P (tracing.single (pos 0))) (pos 0) ((At d).hop c left
+        it) st))
+        (ticks_never S.name 4 _ (ticks_never S.name (1 + P.need) _ (sums_never d c st))))))
+
+    keeps_never : (d : ℕ) (c : Option (Wait tracing)) (st : Store) → Holds st
+        → Never S.name_too ((At' d).hop c left it (pos 0) st)
+    keeps_never zero c st h = record { is = λ low f feed. refl }
+    keeps_never (suc d) c st h =
+        subst (Never S.name_too)
+        (sym (ap (λ o. repeated tick (1 + Q.need) (with_place tracing o
+        (λ g. tagged.wipes Whence ℕ (g - Q.need) (body_of tracing (V ∷ []) (At' d)
+        (tracing.frame 0 g Q (tracing.single (pos 0))) Q (Some (Num (pos 0) ∷ [])) ((At' d).hop c left it)
+        st)))) e))
+        (ticks_never S.name_too (1 + Q.need) _
+        (wipes_never S.name_too (given - Q.need) _
+        (subst (Never S.name_too)
+        (sym (keeps_body (At' d) given Q.need (None ∷ []) (pos 0) ((At' d).hop c left it) st h))
+        (ticks_never S.name_too 10 _ (ticks_never S.name_too (1 + Q.need) _
+        (keeps_never d c (one_word (pos 0)) (pos 0, refl)))))))
+
+  zeros : (n : ℕ) (o : Option ℕ) → enough P.need left ≡ o → Hops n (pos 0)
+  zeros n None none cs cs' st st' h =
+      both_deeper S n _ _
+      (ticks S (1 + P.need) (1 + Q.need) n _ _
+      (both_place S n (enough P.need left) _ _
+      (λ given e. let bad : None ≡ Some given = sym none ∙ e in absurd cc)))
+  zeros n (Some given) e cs cs' st st' h = record {
+    is = λ low k feed lt fits. (
+      never,
+      record { enough = 0; is = λ d f a b. (sums_never given e d (cs d) st).is low f _ },
+      record { enough = 0; is = λ d f a b. (keeps_never given e d (cs' d) st' h).is low f _ },
+    );
+  }
+
+  hops : (n : ℕ) (v : ℤ) → Hops n v
+  hops n (pos zero) = zeros n _ refl
+  hops n (pos (suc j)) = grows (2 ^ 63) n (pos (suc j)) (omega arith, omega arith)
+  hops n (negsuc j) = grows (2 ^ 63) n (negsuc j) (omega arith)
 
 -- ---- both
 
--- an end of a procedure has no names in it
-tell_named : (n : Whence → Name) (part name : List ℕ) (need k : ℕ) (is : List Item)
-    → map (event_to n (λ (k : ℕ). k)) (tell part name need k is) ≡ tell part name need k is
-tell_named n part name need k [] = refl
-tell_named n part name need k (i ∷ is) = by_item i (tell_named n part name need (k + 1) is)
-  where
-    back : (b : FeedBack) (left : ℕ) (v : ℤ) (es : List (Event Whence ℕ)) (fs : List (Event Name ℕ))
-        → map (event_to n (λ (k : ℕ). k)) es ≡ fs
-        → map (event_to n (λ (k : ℕ). k)) (tell_back part name need b left v k es) ≡ tell_back part name need
-        b left v k fs
-    back way.Out left v es fs e = ap (λ z. Leaves part v (Some (left - need)) k ∷ z) e
-    back way.Bad left v es fs e = refl
-    back (way.Hop p m) left v es fs e = refl
-    back (way.Pair p site base) left v es fs e = refl
+one_single : IsSingle U (116 ∷ []) (102 ∷ [])
+one_single = record { procedure = P; only = refl; part_is = refl; name_is = refl; shared = refl }
 
-    value : (o : Option ℤ) (b : FeedBack) (left : ℕ) (es : List (Event Whence ℕ)) (fs : List (Event Name ℕ))
-        → map (event_to n (λ (k : ℕ). k)) es ≡ fs
-        → map (event_to n (λ (k : ℕ). k)) (tell_value part name need o b left k es)
-        ≡ tell_value part name need o b left k fs
-    value None b left es fs e = refl
-    value (Some v) b left es fs e = back b left v es fs e
+other_single : IsSingle V (116 ∷ []) (102 ∷ [])
+other_single = record { procedure = Q; only = refl; part_is = refl; name_is = refl; shared = refl }
 
-    number : (o : Option ℤ) (b : FeedBack) (left : ℕ) (es : List (Event Whence ℕ)) (fs : List (Event Name ℕ))
-        → map (event_to n (λ (k : ℕ). k)) es ≡ fs
-        → map (event_to n (λ (k : ℕ). k)) (tell_number part name need o b left k es)
-        ≡ tell_number part name need o b left k fs
-    number None b left es fs e = refl
-    number (Some v) b left es fs e = value (result_of Plus v v) b left es fs e
-
-    lefts : (o : Option ℕ) (v : Option ℤ) (b : FeedBack) (es : List (Event Whence ℕ))
-        (fs : List (Event Name ℕ)) → map (event_to n (λ (k : ℕ). k)) es ≡ fs
-        → map (event_to n (λ (k : ℕ). k)) (tell_left part name need o v b k es) ≡ tell_left part name need o v
-        b k fs
-    lefts None v b es fs e = refl
-    lefts (Some left) v b es fs e = number v b left es fs e
-
-    by_test : (t : Bool) (o : Option ℕ) (v : Option ℤ) (b : FeedBack) (es : List (Event Whence ℕ))
-        (fs : List (Event Name ℕ)) → map (event_to n (λ (k : ℕ). k)) es ≡ fs
-        → map (event_to n (λ (k : ℕ). k)) (if t then tell_left part name need o v b k es else [])
-        ≡ (if t then tell_left part name need o v b k fs else [])
-    by_test true o v b es fs e = lefts o v b es fs e
-    by_test false o v b es fs e = refl
-
-    by_item : (i : Item) → map (event_to n (λ (k : ℕ). k)) (tell part name need (k + 1) is)
-        ≡ tell part name need (k + 1) is
-        → map (event_to n (λ (k : ℕ). k)) (tell_item part name need i k (tell part name need (k + 1) is))
-        ≡ tell_item part name need i k (tell part name need (k + 1) is)
-    by_item (Enter p m left ints pairs b) e =
-        by_test (is_it part name p m) (enough need left) (slice_index_or ints 0 None) b _ _ e
-    by_item (Ret p site base v) e = refl
-
-no_main : main_target (U ∷ []) ≡ None
+no_main : (main_target (U ∷ []) ≡ None) × (main_target (V ∷ []) ≡ None)
 unfolding main_target
-no_main = refl
+no_main = (refl, refl)
 
-no_main_too : main_target (V ∷ []) ≡ None
-unfolding main_target
-no_main_too = refl
+ways_same : (size : ℕ) → SameRefined S size
+ways_same size = straight_decide S size (record {
+  Targets = Both;
+  straight = of_both (SameStraight S) they_are;
+  found = λ p n. both_found S U V (116 ∷ []) (102 ∷ []) p n one_single other_single;
+  parts = of_both _ refl;
+  hops = λ n waits t t' b c c' w left v st st' h.
+      of_both (HopSame S n) (λ c c' left v st st' h. hops left n v (wait_at c) (wait_at c') st st' h) t t' b c
+      c'
+      left v st st' h;
+  starts = λ n waits. starts_without S size n no_main.0 no_main.1 (pos 0, refl) waits;
+})
 
--- what is observed of a module without main, by what is told of it
-pub observed_is : (W : World) (size : ℕ) (feed : List Item) (f : ℕ) (es : List (Event Whence ℕ))
-    → main_target W ≡ None
-    → ((level M W (f + length (numbered_items 0 feed) + 1)).wait None (map (λ (u : Program). u.globals) W)
-    None f
-    (numbered_items 0 feed)).events ≡ es
-    → observed W size feed f ≡ map (event_to (name_of W) (λ (k : ℕ). k)) es
-observed_is W size feed f es none e =
-    ap (map (event_to (name_of W) (λ (k : ℕ). k)))
-    (ap (λ t.
-    (start M W (level M W (f + length (numbered_items 0 feed) + 1)) size t
-    (map (λ (u : Program). u.globals) W) None f
-    (numbered_items 0 feed)).events) none ∙ e)
+any_feed : (feed : List Item) → FeedOf (λ i. Unit {0}) feed
+any_feed [] = tt
+any_feed (i ∷ feed) = (tt, any_feed feed)
 
 pub mean_the_same : (size : ℕ) → MeanTheSame (map part_of (sums ∷ [])) (map part_of (keeps ∷ [])) size
-mean_the_same size = settled_mean (U ∷ []) (V ∷ []) size (λ feed fits.
-    let a = sums_told feed 0 ([] ∷ []) in
-    let b = keeps_told feed 0 (one_word (pos 0)) (pos 0, refl) in (
-      a.0 + a.1 + b.0 + b.1,
-      λ f le.
-          observed_is (U ∷ []) size feed f (tell U.name (102 ∷ []) (first U.procs).need 0 feed) no_main
-          (a.2 (f + length (numbered_items 0 feed) + 1) f (omega (arith, le)) (omega (arith, le)))
-          ∙ tell_named (name_of (U ∷ [])) U.name (102 ∷ []) (first U.procs).need 0 feed
-          ∙ sym
-          (observed_is (V ∷ []) size feed f (tell V.name (102 ∷ []) (first V.procs).need 0 feed) no_main_too
-          (b.2 (f + length (numbered_items 0 feed) + 1) f (omega (arith, le)) (omega (arith, le)))
-          ∙ tell_named (name_of (V ∷ [])) V.name (102 ∷ []) (first V.procs).need 0 feed),
-    ))
-
--- ---- how they end
-
--- of a module without main
-pub end_is : (W : World) (size : ℕ) (feed : List Item) (f : ℕ) (e : MeaningEnd) → main_target W ≡ None
-    → ((level M W (f + length (numbered_items 0 feed) + 1)).wait None (map (λ (u : Program). u.globals) W)
-    None f
-    (numbered_items 0 feed)).end ≡ e
-    → (refined W size feed f).end ≡ e
-end_is W size feed f e none x =
-    ap (λ t.
-    (start M W (level M W (f + length (numbered_items 0 feed) + 1)) size t
-    (map (λ (u : Program). u.globals) W) None f
-    (numbered_items 0 feed)).end) none ∙ x
+mean_the_same size =
+    settled_mean (U ∷ []) (V ∷ []) size
+    (λ feed fits. let r = ways_same size feed (any_feed feed) in (r.0, λ f le. (r.1 f le).0))
 
 pub end_the_same : (size : ℕ) → EndTheSame (map part_of (sums ∷ [])) (map part_of (keeps ∷ [])) size
-end_the_same size = settled_ends (U ∷ []) (V ∷ []) size (λ feed fits.
-    let a = ends U (first U.procs) (102 ∷ []) refl refl refl refl (λ st. Unit {0}) 4 (λ v st. st)
-    (λ v st i. i) (λ l f v k st h i. sums_body l f v k st) feed 0 ([] ∷ []) tt in
-    let b = ends V (first V.procs) (102 ∷ []) refl refl refl refl Holds 10 (λ v st. one_word v)
-    (λ v st i. (v, refl)) keeps_body feed 0 (one_word (pos 0)) (pos 0, refl) in (
-      a.0 + a.1 + b.0 + b.1,
-      λ f le.
-          end_is (U ∷ []) size feed f (end_of U.name (102 ∷ []) (first U.procs).need feed) no_main
-          (a.2 (f + length (numbered_items 0 feed) + 1) f (omega (arith, le)) (omega (arith, le)))
-          ∙ sym
-          (end_is (V ∷ []) size feed f (end_of V.name (102 ∷ []) (first V.procs).need feed) no_main_too
-          (b.2 (f + length (numbered_items 0 feed) + 1) f (omega (arith, le)) (omega (arith, le)))),
-    ))
+end_the_same size =
+    settled_ends (U ∷ []) (V ∷ []) size
+    (λ feed fits. let r = ways_same size feed (any_feed feed) in (r.0, λ f le. (r.1 f le).1))

@@ -3,5 +3,5 @@ pub mod Steps
 pub mod Waits
 pub mod Straight
 pub mod Bodies
-mod Examples
+pub mod Single
 pub mod Offers

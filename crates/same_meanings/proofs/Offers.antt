@@ -11,6 +11,11 @@ pub use Rattle.same_meanings.proofs.Steps.{both_number, both_place, both_choose}
 pub use Rattle.same_meanings.proofs.Waits.{all_waits, starts_without, procedures_decide}
 -- code without calls and loops tells what its outcome tells, whatever ticks it takes
 pub use Rattle.same_meanings.proofs.Straight.{went, expr_tells, stmt_tells, block_tells, body_tells}
-pub use Rattle.same_meanings.proofs.Bodies.{bodies_same, straight_same, fed_same, straight_decide}
+pub use Rattle.same_meanings.proofs.Bodies.{behind_same, bodies_same, straight_same, fed_same}
+pub use Rattle.same_meanings.proofs.Bodies.{straight_decide}
 pub use Rattle.same_meanings.proofs.Bodies.{SameRegister, SameRegisters, no_registers, and_register}
 pub use Rattle.same_meanings.proofs.Bodies.{value_register}
+-- two modules with one procedure each
+pub use Rattle.same_meanings.proofs.Single.{head_of, it, Both, of_both, IsSingle, both_found, EnterSame}
+pub use Rattle.same_meanings.proofs.Single.{HopSame}
+pub use Rattle.same_meanings.proofs.Single.{StartSame, single_decides}

@@ -15,7 +15,7 @@ use Rattle.proc_semantics.specs.Values.{Store, target, found, main_target}
 use Rattle.proc_semantics.specs.Rules.{level, start, part_name_of}
 use Rattle.same_meanings.specs.Same.{tracing, LevelledThen, Waiter, wait_at, Sides, SameTold, SameThen}
 use Rattle.same_meanings.specs.Same.{SameWaits, BothFound, SameRefined, first_store, numbered}
-use Rattle.same_meanings.proofs.Offers.{procedures_decide}
+use Rattle.same_meanings.proofs.Waits.{procedures_decide}
 
 abbrev pub head_of : List Procedure → Procedure
 head_of [] = record { name = []; shared = false; callbacks = []; locals = 0; need = 0; body = [] }
@@ -43,6 +43,10 @@ unfolding found
 found_by u part name p n s false b ea eb = rw (s.part_is, ea) refl
 found_by u part name p n s true true ea eb = rw (s.part_is, ea, s.only, s.shared, s.name_is, eb) refl
 found_by u part name p n s true false ea eb = rw (s.part_is, ea, s.only, s.shared, s.name_is, eb) refl
+
+-- what holds of that procedure in both
+pub of_both : (P : Target → Target → Type 0) → P it it → (t t' : Target) → Both t t' → P t t'
+of_both P p t t' b = subst (λ x. P x t') b.0 (subst (P it) b.1 p)
 
 module _ (S : Sides) where
   pub both_found : (u v : Program) (part name p n : List ℕ) → IsSingle u part name → IsSingle v part name
@@ -78,9 +82,6 @@ module _ (S : Sides) where
       SameTold S n (λ d. start tracing S.one (level tracing S.one d) size (main_target S.one) (first_store
       S.one))
       (λ d. start tracing S.other (level tracing S.other d) size (main_target S.other) (first_store S.other))
-
-  of_both : (P : Target → Target → Type 0) → P it it → (t t' : Target) → Both t t' → P t t'
-  of_both P p t t' b = subst (λ x. P x t') b.0 (subst (P it) b.1 p)
 
   pub single_decides : (size : ℕ)
       → ((part name : List ℕ) → BothFound S Both (found S.one part name) (found S.other part name))
