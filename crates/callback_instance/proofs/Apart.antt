@@ -1,8 +1,9 @@
 -- The law: two ways to call a callback are one to code outside.
 use Rattle.std.proofs.Common.{[], ◌∷◌, refl}
 use Rattle.proc_templates.specs.Compiled.{compiled}
-use Rattle.context_laws.specs.Meanings.{SameMeaningsAreNotToldApart}
+use Rattle.context_laws.specs.Meanings.{by_number, SameMeaningsAreNotToldApart}
 use Rattle.context_laws.specs.Ends.{SameMeaningsEndAlike}
+use Rattle.context_laws.proofs.Offers.{numbers_apart}
 use Rattle.callback_instance.specs.Passes.{passes, stores, PassersBeside, TwoPassers}
 use Rattle.callback_instance.proofs.Modules.{limits, limits_too, resolved, resolved_too, differ}
 use Rattle.context_instance.proofs.Offers.{parts_of, main}
@@ -37,9 +38,10 @@ two_passers law alike = record {
   same = mean_the_same;
   ends = end_the_same;
   apart = λ parts parts' size s s' is is' src src' b p u.
-      law (passes ∷ []) (stores ∷ []) parts parts' size s s' is is' src src' b p u (mean_the_same size);
+      law by_number numbers_apart (passes ∷ []) (stores ∷ []) parts parts' size s s' is is' src src' b p u
+      (mean_the_same size);
   alike = λ parts parts' size s s' is is' src src' b.
-      alike (passes ∷ []) (stores ∷ []) parts parts' size s s' is is' src src' b (mean_the_same size)
-      (end_the_same size);
+      alike by_number numbers_apart (passes ∷ []) (stores ∷ []) parts parts' size s s' is is' src src' b
+      (mean_the_same size) (end_the_same size);
   there = links_there;
 }

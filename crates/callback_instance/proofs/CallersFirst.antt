@@ -38,7 +38,8 @@ use Rattle.proc_templates.specs.Compiled.{component_of, compiled}
 use Rattle.source_laws.specs.Secrets.{still_there}
 use Rattle.context_laws.specs.Lockstep.{Round}
 use Rattle.context_laws.specs.Sources.{IsFirst}
-use Rattle.context_laws.specs.Meanings.{SameMeaningsAreNotToldApart}
+use Rattle.context_laws.specs.Meanings.{by_number, SameMeaningsAreNotToldApart}
+use Rattle.context_laws.proofs.Offers.{numbers_apart}
 use Rattle.known_steps.specs.Known.{Known, Partly, blank, knows, case_by, by_fetched, at_pc, known_run}
 use Rattle.known_steps.specs.Known.{words_since}
 use Rattle.known_steps.specs.Known.{gone, at_xjmp}
@@ -184,7 +185,8 @@ is_first = record {
 
 pub callers_go : SameMeaningsAreNotToldApart → CallersLetGo
 callers_go law =
-    let both = law (says ∷ []) (adds ∷ []) P (parts_with answerer (compiled adds)) 8 says_start adds_start
+    let both = law by_number numbers_apart (says ∷ []) (adds ∷ []) P (parts_with answerer (compiled adds)) 8
+    says_start adds_start
     says_starts adds_starts says_sources adds_sources callers_beside (outsider answerer)
     (other_there answerer (main_in (compiled says)) (compiled says) 95 4 says_sites says_links)
     (callers_mean_the_same 8) in

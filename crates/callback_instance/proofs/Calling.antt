@@ -17,7 +17,7 @@ use Rattle.same_meanings.specs.Same.{FeedOf, SameRefined, first_store}
 use Rattle.same_meanings.proofs.Offers.{both_deeper, ticks, both_wipe, both_call, both_halt, both_place}
 use Rattle.same_meanings.proofs.Offers.{same_as}
 use Rattle.same_meanings.proofs.Offers.{tick}
-use Rattle.context_laws.specs.Meanings.{name_of, MeanTheSame}
+use Rattle.context_laws.specs.Meanings.{name_of, by_number, MeanTheSame}
 use Rattle.context_laws.specs.Meanings as observing
 use Rattle.context_laws.proofs.Offers.{settled_mean}
 use Rattle.callback_instance.specs.Callers.{says, adds}
@@ -152,7 +152,8 @@ any_feed : (feed : List Item) → FeedOf (λ i. Unit {0}) feed
 any_feed [] = tt
 any_feed (i ∷ feed) = (tt, any_feed feed)
 
-pub callers_mean_the_same : (size : ℕ) → MeanTheSame (map part_of (says ∷ [])) (map part_of (adds ∷ [])) size
+pub callers_mean_the_same : (size : ℕ) → MeanTheSame by_number (map part_of (says ∷ []))
+    (map part_of (adds ∷ [])) size
 callers_mean_the_same size =
     settled_mean (part_of says ∷ []) (part_of adds ∷ []) size
     (λ feed fits. let r = callers_same size feed (any_feed feed) in (r.0, λ f le. (r.1 f le).0))

@@ -5,7 +5,7 @@ use Rattle.proc_names.specs.Names.{variable_named, callee_named}
 use Rattle.proc_program.specs.Lower.{part_of}
 use Rattle.proc_semantics.specs.Values.{found, main_target}
 use Rattle.same_meanings.specs.Same.{FeedOf}
-use Rattle.context_laws.specs.Meanings.{name_of, observed, MeanTheSame}
+use Rattle.context_laws.specs.Meanings.{name_of, observed, by_number, MeanTheSame}
 use Rattle.context_laws.specs.Meanings as observing
 use Rattle.context_laws.specs.Ends.{EndTheSame}
 use Rattle.context_laws.proofs.Offers.{settled_mean, settled_ends}
@@ -16,13 +16,15 @@ any_feed : (feed : List Item) → FeedOf (λ i. Unit {0}) feed
 any_feed [] = tt
 any_feed (i ∷ feed) = (tt, any_feed feed)
 
-pub mean_the_same : (size : ℕ) → MeanTheSame (map part_of (passes ∷ [])) (map part_of (stores ∷ [])) size
+pub mean_the_same : (size : ℕ) → MeanTheSame by_number (map part_of (passes ∷ [])) (map part_of (stores ∷ []))
+    size
 mean_the_same size = settled_mean (part_of passes ∷ []) (part_of stores ∷ []) size (λ feed fits.
     let r = passes_same observing.Name (name_of (part_of passes ∷ [])) (name_of (part_of stores ∷ []))
     (λ k j. refl) size feed (any_feed feed) in
     (r.0, λ f le. (r.1 f le).0))
 
-pub end_the_same : (size : ℕ) → EndTheSame (map part_of (passes ∷ [])) (map part_of (stores ∷ [])) size
+pub end_the_same : (size : ℕ) → EndTheSame by_number (map part_of (passes ∷ [])) (map part_of (stores ∷ []))
+    size
 end_the_same size = settled_ends (part_of passes ∷ []) (part_of stores ∷ []) size (λ feed fits.
     let r = passes_same observing.Name (name_of (part_of passes ∷ [])) (name_of (part_of stores ∷ []))
     (λ k j. refl) size feed (any_feed feed) in

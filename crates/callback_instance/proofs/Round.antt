@@ -42,7 +42,8 @@ use Rattle.source_laws.specs.Trace.{event_items}
 use Rattle.source_laws.specs.Secrets.{Until, still_there, one_more}
 use Rattle.context_laws.specs.Lockstep.{Round, IsRound, Path}
 use Rattle.context_laws.specs.Lockstep as path
-use Rattle.context_laws.specs.Meanings.{SameMeaningsAreNotToldApart, item_by, items_in}
+use Rattle.context_laws.specs.Meanings.{by_number, SameMeaningsAreNotToldApart, item_by, items_in}
+use Rattle.context_laws.proofs.Offers.{numbers_apart, one_feed}
 use Rattle.known_steps.specs.Known.{Partly, Stays, here, on}
 use Rattle.known_steps.proofs.Offers.{Steps_to, whole, step_known, Crosses_to, call_known, return_known}
 use Rattle.known_steps.proofs.Offers.{Runs_to}
@@ -331,8 +332,8 @@ run = record {
 pub passers_call_back : SameMeaningsAreNotToldApart → PassersCallBack
 passers_call_back law =
     let t = links_there in
-    let both = law (passes ∷ []) (stores ∷ []) t.parts t.parts_too t.size t.start t.start_too t.is t.is_too
-    t.sources t.sources_too t.beside (outsider adversary)
+    let both = law by_number numbers_apart (passes ∷ []) (stores ∷ []) t.parts t.parts_too t.size t.start
+    t.start_too t.is t.is_too t.sources t.sources_too t.beside (outsider adversary)
     (other_there adversary main (compiled passes) 137 2 passes_sites one_links) (mean_the_same t.size) in
     let r = both.0.2.begins sides.begins run.steps run.last (run.first ∷ run.second ∷ []) run.path in
     record {
@@ -344,5 +345,5 @@ passers_call_back law =
       last = r.0;
       path = r.2;
       in_step = r.3;
-      came = sym r.4 ∙ run.came;
+      came = sym (one_feed _ _ r.4) ∙ run.came;
     }

@@ -12,7 +12,7 @@ use Rattle.template_runs.specs.Border.{Opened, code_word, half_word, ShowsCall, 
 use Rattle.source_starts.specs.Sources.{linked_at}
 use Rattle.context_laws.specs.Related.{SameNames}
 use Rattle.context_laws.specs.Lockstep.{Round, Path, InStep}
-use Rattle.context_laws.specs.Meanings.{GoByNames, items_in}
+use Rattle.context_laws.specs.Meanings.{by_number, GoByNames, items_in}
 use Rattle.callback_instance.specs.Passes.{asked, PassersBeside}
 
 -- by a round trusted code calls out by a pair, with a number
@@ -54,7 +54,7 @@ pub record PassersCallBack : Type 0 where
   pub one : RunCallsBack there.start
   pub names : SameNames (linked_at there.parts there.size there.start)
       (linked_at there.parts_too there.size there.start_too)
-  pub by_names : GoByNames names
+  pub by_names : GoByNames by_number names
   pub rounds : List Round
   pub last : OState
   pub path : Path (layout there.start_too) one.steps (overlay_at there.start_too).state rounds last

@@ -18,7 +18,7 @@ use Rattle.source_starts.specs.Sources.{AreSources, linked_at}
 use Rattle.context_laws.specs.Related.{SameNames, Calls}
 use Rattle.context_laws.specs.Lockstep.{Round, SameCrossing}
 use Rattle.context_laws.specs.Sources.{AreBeside, IsFirst}
-use Rattle.context_laws.specs.Meanings.{MeanTheSame, GoByNames, GoesInStep}
+use Rattle.context_laws.specs.Meanings.{by_number, MeanTheSame, GoByNames, GoesInStep}
 use Rattle.callback_instance.specs.Passes.{lettered}
 use Rattle.callback_instance.specs.CalledBack.{CallsWith}
 
@@ -61,7 +61,7 @@ pub record CallersLetGo : Type 0 where
   pub limits : IsModule says × IsModule adds
   pub resolved : (name_faults says ≡ []) × (name_faults adds ≡ [])
   pub differ : compiled says ≢ compiled adds
-  pub same : (size : ℕ) → MeanTheSame (map part_of (says ∷ [])) (map part_of (adds ∷ [])) size
+  pub same : (size : ℕ) → MeanTheSame by_number (map part_of (says ∷ [])) (map part_of (adds ∷ [])) size
   pub parts : List PartSeen
   pub parts_too : List PartSeen
   pub size : ℕ
@@ -79,11 +79,11 @@ pub record CallersLetGo : Type 0 where
   pub pair : Opened
   pub calls : CallsWith (layout start) pair (pos 6) first
   pub names : SameNames (linked_at parts size start) (linked_at parts_too size start_too)
-  pub by_names : GoByNames names
+  pub by_names : GoByNames by_number names
   pub first_too : Round
   pub lets_go_too : IsFirst start_too first_too
   pub in_both : Calls
   pub shows : SameCrossing (linked_at parts size start) (linked_at parts_too size start_too) names [] first
       first_too in_both
-  pub on : GoesInStep (linked_at parts size start) (linked_at parts_too size start_too) names in_both
+  pub on : GoesInStep by_number (linked_at parts size start) (linked_at parts_too size start_too) names in_both
       first.after first_too.after

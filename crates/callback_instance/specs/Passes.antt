@@ -22,7 +22,7 @@ use Rattle.source_events.specs.declared.FeedBack.TheVariants as way
 use Rattle.proc_semantics.specs.Marked.{Event, Calls, Leaves, Number}
 use Rattle.source_starts.specs.Sources.{AreSources, linked_at}
 use Rattle.context_laws.specs.Sources.{AreBeside}
-use Rattle.context_laws.specs.Meanings.{Came, observed, MeanTheSame, DoesTheSame}
+use Rattle.context_laws.specs.Meanings.{Came, observed, by_number, MeanTheSame, DoesTheSame}
 use Rattle.context_laws.specs.Meanings as observing
 use Rattle.context_laws.specs.Ends.{EndTheSame, RunsEndAlike}
 
@@ -129,14 +129,14 @@ pub record TwoPassers : Type 0 where
   pub resolved : (name_faults passes ≡ []) × (name_faults stores ≡ [])
   pub differ : compiled passes ≢ compiled stores
   pub calls : (size : ℕ) → observed (map part_of (passes ∷ [])) size asked 40 ≡ called_and_left
-  pub same : (size : ℕ) → MeanTheSame (map part_of (passes ∷ [])) (map part_of (stores ∷ [])) size
-  pub ends : (size : ℕ) → EndTheSame (map part_of (passes ∷ [])) (map part_of (stores ∷ [])) size
+  pub same : (size : ℕ) → MeanTheSame by_number (map part_of (passes ∷ [])) (map part_of (stores ∷ [])) size
+  pub ends : (size : ℕ) → EndTheSame by_number (map part_of (passes ∷ [])) (map part_of (stores ∷ [])) size
   pub apart : (parts parts' : List PartSeen) (size : ℕ) (s s' : StartSeen) → IsStartOf parts size s
       → IsStartOf parts' size s' → AreSources (passes ∷ []) parts → AreSources (stores ∷ []) parts'
       → AreBeside (linked_at parts size s) (linked_at parts' size s')
       → (p : PartSeen) → IsUntrusted (linked_at parts size s) p
-      → DoesTheSame (linked_at parts size s) (linked_at parts' size s') s s'
-      × DoesTheSame (linked_at parts' size s') (linked_at parts size s) s' s
+      → DoesTheSame by_number (linked_at parts size s) (linked_at parts' size s') s s'
+      × DoesTheSame by_number (linked_at parts' size s') (linked_at parts size s) s' s
   pub alike : (parts parts' : List PartSeen) (size : ℕ) (s s' : StartSeen) → IsStartOf parts size s
       → IsStartOf parts' size s' → AreSources (passes ∷ []) parts → AreSources (stores ∷ []) parts'
       → AreBeside (linked_at parts size s) (linked_at parts' size s') → RunsEndAlike s s'

@@ -1,8 +1,9 @@
 -- The law: two ways to double a number are one to code outside.
 use Rattle.std.proofs.Common.{[], ◌∷◌, refl}
 use Rattle.proc_templates.specs.Compiled.{compiled}
-use Rattle.context_laws.specs.Meanings.{SameMeaningsAreNotToldApart}
+use Rattle.context_laws.specs.Meanings.{by_number, SameMeaningsAreNotToldApart}
 use Rattle.context_laws.specs.Ends.{SameMeaningsEndAlike}
+use Rattle.context_laws.proofs.Offers.{numbers_apart}
 use Rattle.context_instance.specs.Doubles.{sums, keeps, TwoWays}
 use Rattle.context_instance.proofs.Modules.{limits, limits_too, resolved, resolved_too, differ}
 use Rattle.context_instance.proofs.Same.{mean_the_same, end_the_same}
@@ -18,10 +19,11 @@ two_ways law alike = record {
   same = mean_the_same;
   ends = end_the_same;
   apart = λ parts parts' size s s' is is' src src' b p u.
-      law (sums ∷ []) (keeps ∷ []) parts parts' size s s' is is' src src' b p u (mean_the_same size);
+      law by_number numbers_apart (sums ∷ []) (keeps ∷ []) parts parts' size s s' is is' src src' b p u
+      (mean_the_same size);
   alike = λ parts parts' size s s' is is' src src' b.
-      alike (sums ∷ []) (keeps ∷ []) parts parts' size s s' is is' src src' b (mean_the_same size)
-      (end_the_same size);
+      alike by_number numbers_apart (sums ∷ []) (keeps ∷ []) parts parts' size s s' is is' src src' b
+      (mean_the_same size) (end_the_same size);
   there = record {
     parts = parts_of (compiled sums);
     parts_too = parts_of (compiled keeps);

@@ -211,7 +211,8 @@ ends_count = record {
       (λ feed fits. (0, λ f le. nothing_observed 1 size feed f ∙ sym (nothing_observed 2 size feed f)));
   ends = λ size e. (
       let one = ends_so 1 size 10 (omega arith) in
-      let z = e.0 entry (tt, tt) 10 (λ out. (let bad : Halted (pos 1) ≡ OutOfFuel = sym one ∙ out in cc)) in
+      let z = e.0 entry entry refl (tt, tt) 10
+      (λ out. (let bad : Halted (pos 1) ≡ OutOfFuel = sym one ∙ out in cc)) in
       let two = end_later (W 2) size entry z.0 10 (Halted (pos 1)) (z.1 ∙ one) (λ out. cc) in
       let h : Halted (pos 1) ≡ Halted (pos 2) = sym two ∙ ends_so 2 size (z.0 + 10) (omega arith) in
       cc

@@ -27,7 +27,7 @@ use Rattle.same_meanings.specs.Straight.{an_other, no_values, and_value, SameStr
 use Rattle.same_meanings.proofs.Offers.{tick, both_deeper, ticks, both_place, both_wipe, both_number}
 use Rattle.same_meanings.proofs.Offers.{same_as, starts_without, straight_decide, behind_same}
 use Rattle.same_meanings.proofs.Offers.{head_of, it, Both, of_both, HopSame, IsSingle, both_found}
-use Rattle.context_laws.specs.Meanings.{name_of, MeanTheSame}
+use Rattle.context_laws.specs.Meanings.{name_of, by_number, MeanTheSame}
 use Rattle.context_laws.specs.Meanings as observing
 use Rattle.context_laws.specs.Ends.{EndTheSame}
 use Rattle.context_laws.proofs.Offers.{settled_mean, settled_ends}
@@ -301,12 +301,13 @@ any_feed : (feed : List Item) → FeedOf (λ i. Unit {0}) feed
 any_feed [] = tt
 any_feed (i ∷ feed) = (tt, any_feed feed)
 
-pub mean_the_same : (size : ℕ) → MeanTheSame (map part_of (sums ∷ [])) (map part_of (keeps ∷ [])) size
+pub mean_the_same : (size : ℕ) → MeanTheSame by_number (map part_of (sums ∷ [])) (map part_of (keeps ∷ []))
+    size
 mean_the_same size =
     settled_mean (U ∷ []) (V ∷ []) size
     (λ feed fits. let r = ways_same size feed (any_feed feed) in (r.0, λ f le. (r.1 f le).0))
 
-pub end_the_same : (size : ℕ) → EndTheSame (map part_of (sums ∷ [])) (map part_of (keeps ∷ [])) size
+pub end_the_same : (size : ℕ) → EndTheSame by_number (map part_of (sums ∷ [])) (map part_of (keeps ∷ [])) size
 end_the_same size =
     settled_ends (U ∷ []) (V ∷ []) size
     (λ feed fits. let r = ways_same size feed (any_feed feed) in (r.0, λ f le. (r.1 f le).1))

@@ -16,7 +16,7 @@ use Rattle.proc_program.specs.Lower.{part_of}
 use Rattle.proc_templates.specs.Compiled.{compiled}
 use Rattle.source_starts.specs.Sources.{AreSources, linked_at}
 use Rattle.context_laws.specs.Sources.{AreBeside}
-use Rattle.context_laws.specs.Meanings.{MeanTheSame, DoesTheSame}
+use Rattle.context_laws.specs.Meanings.{by_number, MeanTheSame, DoesTheSame}
 use Rattle.context_laws.specs.Ends.{EndTheSame, RunsEndAlike}
 
 abbrev pub named : ℕ → Name
@@ -112,14 +112,14 @@ pub record TwoWays : Type 0 where
   pub limits : IsModule sums × IsModule keeps
   pub resolved : (name_faults sums ≡ []) × (name_faults keeps ≡ [])
   pub differ : compiled sums ≢ compiled keeps
-  pub same : (size : ℕ) → MeanTheSame (map part_of (sums ∷ [])) (map part_of (keeps ∷ [])) size
-  pub ends : (size : ℕ) → EndTheSame (map part_of (sums ∷ [])) (map part_of (keeps ∷ [])) size
+  pub same : (size : ℕ) → MeanTheSame by_number (map part_of (sums ∷ [])) (map part_of (keeps ∷ [])) size
+  pub ends : (size : ℕ) → EndTheSame by_number (map part_of (sums ∷ [])) (map part_of (keeps ∷ [])) size
   pub apart : (parts parts' : List PartSeen) (size : ℕ) (s s' : StartSeen) → IsStartOf parts size s
       → IsStartOf parts' size s' → AreSources (sums ∷ []) parts → AreSources (keeps ∷ []) parts'
       → AreBeside (linked_at parts size s) (linked_at parts' size s')
       → (p : PartSeen) → IsUntrusted (linked_at parts size s) p
-      → DoesTheSame (linked_at parts size s) (linked_at parts' size s') s s'
-      × DoesTheSame (linked_at parts' size s') (linked_at parts size s) s' s
+      → DoesTheSame by_number (linked_at parts size s) (linked_at parts' size s') s s'
+      × DoesTheSame by_number (linked_at parts' size s') (linked_at parts size s) s' s
   pub alike : (parts parts' : List PartSeen) (size : ℕ) (s s' : StartSeen) → IsStartOf parts size s
       → IsStartOf parts' size s' → AreSources (sums ∷ []) parts → AreSources (keeps ∷ []) parts'
       → AreBeside (linked_at parts size s) (linked_at parts' size s') → RunsEndAlike s s'

@@ -5,7 +5,7 @@ use Rattle.proc_language.specs.Tree.{number, halt}
 use Rattle.proc_language.specs.Limits.{IsModule}
 use Rattle.proc_names.specs.NameFaults.{name_faults}
 use Rattle.proc_program.specs.Lower.{part_of}
-use Rattle.context_laws.specs.Meanings.{MeanTheSame}
+use Rattle.context_laws.specs.Meanings.{by_number, MeanTheSame}
 use Rattle.context_laws.specs.Ends.{EndTheSame}
 use Rattle.context_instance.specs.Doubles.{named}
 
@@ -38,5 +38,6 @@ halts n = record {
 pub record EndsCount : Type 0 where
   pub limits : IsModule (halts 1) × IsModule (halts 2)
   pub resolved : (name_faults (halts 1) ≡ []) × (name_faults (halts 2) ≡ [])
-  pub same : (size : ℕ) → MeanTheSame (map part_of (halts 1 ∷ [])) (map part_of (halts 2 ∷ [])) size
-  pub ends : (size : ℕ) → EndTheSame (map part_of (halts 1 ∷ [])) (map part_of (halts 2 ∷ [])) size → ⊥
+  pub same : (size : ℕ) → MeanTheSame by_number (map part_of (halts 1 ∷ [])) (map part_of (halts 2 ∷ [])) size
+  pub ends : (size : ℕ) → EndTheSame by_number (map part_of (halts 1 ∷ [])) (map part_of (halts 2 ∷ [])) size
+      → ⊥

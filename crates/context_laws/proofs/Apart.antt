@@ -15,7 +15,8 @@ use Rattle.source_starts.specs.Words.{SourcesTellWords}
 use Rattle.source_starts.specs.Wiped.{WipedCellsAreTold}
 use Rattle.context_laws.specs.Lockstep.{Round}
 use Rattle.context_laws.specs.Sources.{AreBeside, IsFirst}
-use Rattle.context_laws.specs.Meanings.{MeanTheSame, DoesTheSame, SameMeaningsGoInStep}
+use Rattle.context_laws.specs.Meanings.{CallNames, AreOneToOne, swapped, MeanTheSame, DoesTheSame}
+use Rattle.context_laws.specs.Meanings.{SameMeaningsGoInStep}
 use Rattle.context_laws.specs.Meanings.{SameMeaningsAreNotToldApart}
 use Rattle.context_laws.proofs.Sources.{StartsAgree}
 use Rattle.context_laws.proofs.Starts.{placed_alike}
@@ -25,8 +26,9 @@ use Rattle.context_laws.proofs.Beside.{beside_by_names, import_by_names}
 use Rattle.context_laws.proofs.Meanings.{SourcesMeanAll, first_inside, first_point, go_in_step}
 use Rattle.context_laws.proofs.Arrivals.{lets_go_too}
 
-pub mean_back : (w v : World) (size : ℕ) → MeanTheSame w v size → MeanTheSame v w size
-mean_back w v size same = (same.1, same.0)
+pub mean_back : (calls : CallNames) (w v : World) (size : ℕ) → MeanTheSame calls w v size
+    → MeanTheSame (swapped calls) v w size
+mean_back calls w v size same = (same.1, same.0)
 
 -- trusted code runs first where it lets go for the first time
 inside_first : (s : StartSeen) (a : Round) → IsFirst s a → is_inside (layout s) (overlay_at s).state ≡ true
@@ -36,7 +38,7 @@ inside_first s a fa =
 module _ (begin : StartsBegin) (agree : StartsAgree) (leaves : SourcesLeaveNothing) (words : SourcesTellWords)
     (wipes : WipedCellsAreTold) (means : SourcesMeanAll) where
   pub goes_in_step : SameMeaningsGoInStep
-  goes_in_step modules modules' parts parts' size s s' is is' src src' beside names by_names same =
+  goes_in_step calls modules modules' parts parts' size s s' is is' src src' beside names by_names same =
       let imports = import_by_names begin agree leaves modules modules' parts parts' size s s' is is' src src'
       beside names by_names in
       let both = same_first begin agree leaves parts parts' size s s' is is' beside in
@@ -53,25 +55,27 @@ module _ (begin : StartsBegin) (agree : StartsAgree) (leaves : SourcesLeaveNothi
             s s' is is' src src' names by_names beside imports same (sym both ∙ inside_first s a fa) a fa;
       }
 
-  one_way : (modules modules' : List ModuleFields) (parts parts' : List PartSeen) (size : ℕ)
+  one_way : (calls : CallNames) → AreOneToOne calls → (modules modules' : List ModuleFields)
+      (parts parts' : List PartSeen) (size : ℕ)
       (s s' : StartSeen)
       → IsStartOf parts size s → IsStartOf parts' size s' → AreSources modules parts
       → AreSources modules' parts' → AreBeside (linked_at parts size s) (linked_at parts' size s')
       → (p : PartSeen) → IsUntrusted (linked_at parts size s) p
-      → MeanTheSame (map part_of modules) (map part_of modules') size
-      → DoesTheSame (linked_at parts size s) (linked_at parts' size s') s s'
-  one_way modules modules' parts parts' size s s' is is' src src' beside p u same =
-      let b = beside_by_names begin agree leaves modules modules' parts parts' size s s' is is' src src'
+      → MeanTheSame calls (map part_of modules) (map part_of modules') size
+      → DoesTheSame calls (linked_at parts size s) (linked_at parts' size s') s s'
+  one_way calls apart modules modules' parts parts' size s s' is is' src src' beside p u same =
+      let b = beside_by_names calls apart begin agree leaves modules modules' parts parts' size s s' is is'
+      src src'
       beside (one_stack parts parts' size s s' is is' beside p u) in (
         b.0,
         b.1,
-        goes_in_step modules modules' parts parts' size s s' is is' src src' beside b.0 b.1 same.0,
+        goes_in_step calls modules modules' parts parts' size s s' is is' src src' beside b.0 b.1 same.0,
       )
 
   pub not_told_apart : SameMeaningsAreNotToldApart
-  not_told_apart modules modules' parts parts' size s s' is is' src src' beside p u same = (
-    one_way modules modules' parts parts' size s s' is is' src src' beside p u same,
-    one_way modules' modules parts' parts size s' s is' is src' src
+  not_told_apart calls apart modules modules' parts parts' size s s' is is' src src' beside p u same = (
+    one_way calls apart modules modules' parts parts' size s s' is is' src src' beside p u same,
+    one_way (swapped calls) (apart.1, apart.0) modules' modules parts' parts size s' s is' is src' src
         (beside_back (linked_at parts size s) (linked_at parts' size s') beside) p ((beside p).0 u)
-        (mean_back (map part_of modules) (map part_of modules') size same),
+        (mean_back calls (map part_of modules) (map part_of modules') size same),
   )

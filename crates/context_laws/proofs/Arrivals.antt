@@ -29,7 +29,7 @@ use Rattle.source_starts.specs.Wiped.{WipedCellsAreTold}
 use Rattle.context_laws.specs.Related.{SameNames, Calls}
 use Rattle.context_laws.specs.Lockstep.{Round, SameCrossing, by_call, by_leave, SameWiped, Holds, Tidies}
 use Rattle.context_laws.specs.Sources.{AreBeside, ImportTheSame, IsFirst}
-use Rattle.context_laws.specs.Meanings.{name_of, TellsAsMuch, GoByNames, GoesInStep}
+use Rattle.context_laws.specs.Meanings.{CallNames, name_of, event_named, TellsAsMuch, GoByNames, GoesInStep}
 use Rattle.context_laws.proofs.Counts.{until_reached}
 use Rattle.context_laws.proofs.Whole.{runs_outside}
 use Rattle.context_laws.proofs.Sources.{StartsAgree, linked_is, holds_is, tidies_is}
@@ -42,17 +42,19 @@ use Rattle.context_laws.proofs.Naming.{IsNamed, is_named, named_same}
 use Rattle.context_laws.proofs.Progress.{tells_of, goes_out, TellsMore}
 use Rattle.context_laws.proofs.Crossing.{crossed}
 use Rattle.context_laws.proofs.Rounds.{RoundTold, round_told}
-use Rattle.context_laws.proofs.Meanings.{SourcesMeanAll, observed_at, told_too, wiped_same, same_ends}
-use Rattle.context_laws.proofs.Meanings.{all_behind, calls_behind, Point, go_in_step}
+use Rattle.context_laws.proofs.Behind.{wiped_same, same_ends, all_behind, calls_behind}
+use Rattle.context_laws.proofs.Meanings.{SourcesMeanAll, observed_at, told_too, Point, go_in_step}
 
 module _ (begin : StartsBegin) (agree : StartsAgree) (leaves : SourcesLeaveNothing) (words : SourcesTellWords)
     (wipes : WipedCellsAreTold) (means : SourcesMeanAll)
     (modules modules' : List ModuleFields) (parts parts' : List PartSeen) (size : ℕ) (s s' : StartSeen)
     (is : IsStartOf parts size s) (is' : IsStartOf parts' size s') (src : AreSources modules parts)
     (src' : AreSources modules' parts')
-    (names : SameNames (linked_at parts size s) (linked_at parts' size s')) (by_names : GoByNames names)
+    (names : SameNames (linked_at parts size s) (linked_at parts' size s')) {calls : CallNames}
+    (by_names : GoByNames calls names)
     (beside : AreBeside (linked_at parts size s) (linked_at parts' size s'))
-    (imports : ImportTheSame names) (same : TellsAsMuch (map part_of modules) (map part_of modules') size)
+    (imports : ImportTheSame names) (same : TellsAsMuch calls (map part_of modules) (map part_of modules')
+    size)
     (inside' : is_inside (layout s') (overlay_at s').state ≡ true) where
   abbrev G : Link
   G = linked_at parts size s
@@ -92,7 +94,7 @@ module _ (begin : StartsBegin) (agree : StartsAgree) (leaves : SourcesLeaveNothi
 
   abbrev Behind : Round → Type 0
   Behind a = (b : Round) × IsFirst s' b × (cs : Calls) × SameCrossing G H names [] a b cs
-      × GoesInStep G H names cs a.after b.after
+      × GoesInStep calls G H names cs a.after b.after
 
   -- a round from the start on
   module _ (last after : OState)
@@ -120,13 +122,13 @@ module _ (begin : StartsBegin) (agree : StartsAgree) (leaves : SourcesLeaveNothi
 
       tells_more : TellsMore W' size s' (means modules' parts' size s' is' src') [] []
       tells_more = (
-        (same [] tt told.enough).0,
+        (same [] [] refl tt told.enough).0,
         λ f le. (
             let x = told.event told.enough (omega arith) in
             let y = observed_at begin agree leaves words wipes means modules modules' parts parts' size s s'
             is
             is' src src'
-            names by_names same [] tt told.enough 0 x.0 x.1 in
+            names by_names same [] [] refl tt told.enough 0 x.0 x.1 in
             told_too begin agree leaves words wipes means modules modules' parts parts' size s s' is is' src
             src' names
             by_names same [] _ 0 y.0 y.1 f le),
@@ -175,7 +177,7 @@ module _ (begin : StartsBegin) (agree : StartsAgree) (leaves : SourcesLeaveNothi
       F = told.enough + told.wiped.enough
 
       abbrev F' : ℕ
-      F' = (same [] tt F).0 + (told_b.enough + told_b.wiped.enough)
+      F' = (same [] [] refl tt F).0 + (told_b.enough + told_b.wiped.enough)
 
       record Both : Type 0 where
         pub one : Event Whence ℕ
@@ -187,7 +189,8 @@ module _ (begin : StartsBegin) (agree : StartsAgree) (leaves : SourcesLeaveNothi
         pub two_shown : event_outs (layout s') B.after (step_event (layout s') Q B.after)
             ≡ shown_of (event_to (word_from (slots modules' (placed parts' size) s') []) (back_at []) two)
             ∷ []
-        pub names_same : event_to (name_of W) (λ (k : ℕ). k) one ≡ event_to (name_of W') (λ (k : ℕ). k) two
+        pub names_same : event_named calls.one (event_to (name_of W) (λ (k : ℕ). k) one)
+            ≡ event_named calls.other (event_to (name_of W') (λ (k : ℕ). k) two)
 
       both : Both
       both =
@@ -195,8 +198,9 @@ module _ (begin : StartsBegin) (agree : StartsAgree) (leaves : SourcesLeaveNothi
           let y = told_b.event F' (omega arith) in
           let z = observed_at begin agree leaves words wipes means modules modules' parts parts' size s s' is
           is' src src'
-          names by_names same [] tt F 0 x.0 x.1 in
-          let at : Some z.0 ≡ Some y.0 = sym (event_later W' size [] (same [] tt F).0 _ 0 z.0 z.1) ∙ y.1 in
+          names by_names same [] [] refl tt F 0 x.0 x.1 in
+          let at : Some z.0 ≡ Some y.0 = sym (event_later W' size [] (same [] [] refl tt F).0 _ 0 z.0 z.1) ∙
+          y.1 in
           let one : z.0 ≡ y.0 = cc in
           record {
             one = x.0;
@@ -205,7 +209,8 @@ module _ (begin : StartsBegin) (agree : StartsAgree) (leaves : SourcesLeaveNothi
             two_is = y.1;
             one_shown = x.2;
             two_shown = y.2;
-            names_same = z.2 ∙ ap (event_to (name_of W') (λ (k : ℕ). k)) one;
+            names_same = z.2
+                ∙ ap (λ v. event_named calls.other (event_to (name_of W') (λ (k : ℕ). k) v)) one;
           }
 
       cross : (ds : Calls) × SameCrossing G H names [] A B ds × (low_of both.one ≡ low_of both.two)
@@ -237,13 +242,10 @@ module _ (begin : StartsBegin) (agree : StartsAgree) (leaves : SourcesLeaveNothi
 
       wiped : SameWiped G A B
       wiped =
-          wiped_same begin agree leaves words wipes means modules modules' parts parts' size s s' is is' src
-          src' names
-          by_names same [] A B (start_cells_alike begin parts parts' size size s s' is is' names beside imports) ga gb
+          wiped_same G H names O O' hg hh [] A B (start_cells_alike begin parts parts' size size s s' is is'
+          names beside imports) ga gb
           told.wiped.low told_b.wiped.low told.wiped.wiped told_b.wiped.wiped lows
-          (same_ends begin agree leaves words wipes means modules modules' parts parts' size s s' is is' src
-          src' names
-          by_names same [] cross.0 A B cross.1 told.wiped.wiped.end told_b.wiped.wiped.end
+          (same_ends G H names [] cross.0 A B cross.1 told.wiped.wiped.end told_b.wiped.wiped.end
           told.wiped.wiped.stk
           told_b.wiped.wiped.stk)
 
@@ -265,14 +267,9 @@ module _ (begin : StartsBegin) (agree : StartsAgree) (leaves : SourcesLeaveNothi
             since = told.since.1;
             since' = told_b.since.1;
             count = refl;
-            all = all_behind begin agree leaves words wipes means modules modules' parts parts' size s s' is
-                is'
-                src src'
-                names by_names same [] cross.0 A B cross.1 [] [] tt;
-            calls = calls_behind begin agree leaves words wipes means modules modules' parts parts' size s s'
-                is
-                is' src
-                src' names by_names same [] cross.0 A B cross.1 (λ n m c. absurd c);
+            fed = refl;
+            all = all_behind G H names [] cross.0 A B cross.1 [] [] tt;
+            open_calls = calls_behind G H names [] cross.0 A B cross.1 (λ n m c. absurd c);
             i = ga.0;
             j = gb.0;
             reached = ga.1;

@@ -38,7 +38,9 @@ use Rattle.source_starts.proofs.Offers.{aligned, home_of, NamesApart, names_apar
 use Rattle.source_starts.proofs.Offers.{same_part, imported_names, Names, one_offset, data_in, proc_of}
 use Rattle.context_laws.specs.Related.{SameNames, IsExport}
 use Rattle.context_laws.specs.Sources.{AreBeside, SameImported, ImportTheSame}
-use Rattle.context_laws.specs.Meanings.{GoByNames, IsSameSite, told_name, export_name}
+use Rattle.context_laws.specs.Meanings.{CallNames, AreOneToOne, GoByNames, site_name, IsSameSite, told_name}
+use Rattle.context_laws.specs.Meanings.{export_name}
+use Rattle.context_laws.proofs.Crossing.{pair_same}
 use Rattle.context_laws.proofs.Around.{free_too}
 use Rattle.context_laws.proofs.Itself.{all_of, in_all, of_all}
 use Rattle.context_laws.proofs.Told.{entry}
@@ -217,9 +219,9 @@ module _ (modules : List ModuleFields) (parts : List PartSeen) (size : ℕ) (s :
         told_so = told.numbers i x.1 c x.0 e x.2.0 x.2.1 x.3;
       }
 
-  site_name : (i : ℕ) (a : SiteAt i)
+  part_of_site : (i : ℕ) (a : SiteAt i)
       → part_name (layout s) (site_of (layout s) i).part ≡ a.part.component.name
-  site_name i a = (told.named (site_of (layout s) i).part a.part a.told_so.part_is a.trusted.1).name
+  part_of_site i a = (told.named (site_of (layout s) i).part a.part a.told_so.part_is a.trusted.1).name
 
   -- sites of one name and number are one
   pub one_site : (i j : ℕ) → SiteAt i → SiteAt j
@@ -227,7 +229,7 @@ module _ (modules : List ModuleFields) (parts : List PartSeen) (size : ℕ) (s :
       → (site_of (layout s) i).index ≡ (site_of (layout s) j).index → i ≡ j
   one_site i j a b n k =
       let p : a.part ≡ b.part =
-      one_name a.part b.part a.trusted.0 b.trusted.0 (sym (site_name i a) ∙ n ∙ site_name j b) in
+      one_name a.part b.part a.trusted.0 b.trusted.0 (sym (part_of_site i a) ∙ n ∙ part_of_site j b) in
       let x : a.index ≡ b.index = sym a.told_so.index_is ∙ k ∙ b.told_so.index_is in
       let seals : a.code.seal ≡ b.code.seal =
       a.seal_is ∙ ap (λ (q : PartSeen). q.component.seals.base + a.index) p
@@ -286,177 +288,179 @@ abbrev same_names_of : Exported → Exported → Bool
 same_names_of x y =
     bytes_eq x.part.component.name y.part.component.name && bytes_eq x.export.name y.export.name
 
-abbrev same_site : Layout → Layout → ℕ → ℕ → Bool
-same_site l m i j =
-    bytes_eq (part_name l (site_of l i).part) (part_name m (site_of m j).part)
-    && ((site_of l i).index == (site_of m j).index)
+abbrev same_site : CallNames → Layout → Layout → ℕ → ℕ → Bool
+same_site calls l m i j =
+    bytes_eq (site_name calls.one l i).0 (site_name calls.other m j).0
+    && ((site_name calls.one l i).1 == (site_name calls.other m j).1)
 
-module _ (begin : StartsBegin) (agree : StartsAgree) (leaves : SourcesLeaveNothing)
-    (modules modules' : List ModuleFields) (parts parts' : List PartSeen) (size : ℕ) (s s' : StartSeen)
-    (is : IsStartOf parts size s) (is' : IsStartOf parts' size s') (src : AreSources modules parts)
-    (src' : AreSources modules' parts')
-    (beside : AreBeside (linked_at parts size s) (linked_at parts' size s')) (stacks : s.stack ≡ s'.stack)
-  where
-    abbrev G : Link
-    G = linked_at parts size s
+module _ (calls : CallNames) (apart : AreOneToOne calls) (begin : StartsBegin) (agree : StartsAgree)
+    (leaves : SourcesLeaveNothing) (modules modules' : List ModuleFields) (parts parts' : List PartSeen)
+    (size : ℕ) (s s' : StartSeen) (is : IsStartOf parts size s) (is' : IsStartOf parts' size s')
+    (src : AreSources modules parts) (src' : AreSources modules' parts')
+    (beside : AreBeside (linked_at parts size s) (linked_at parts' size s'))
+    (stacks : s.stack ≡ s'.stack) where
+  abbrev G : Link
+  G = linked_at parts size s
 
-    abbrev H : Link
-    H = linked_at parts' size s'
+  abbrev H : Link
+  H = linked_at parts' size s'
 
-    lg : Linked G
-    lg = linked_is begin agree leaves parts size s is
+  lg : Linked G
+  lg = linked_is begin agree leaves parts size s is
 
-    lh : Linked H
-    lh = linked_is begin agree leaves parts' size s' is'
+  lh : Linked H
+  lh = linked_is begin agree leaves parts' size s' is'
 
-    abbrev Twins : List (Exported × Exported)
-    Twins = paired same_names_of (all_of G.parts) (all_of H.parts)
+  abbrev Twins : List (Exported × Exported)
+  Twins = paired same_names_of (all_of G.parts) (all_of H.parts)
 
-    abbrev Sites : List (ℕ × ℕ)
-    Sites = paired (same_site (layout s) (layout s')) (below (length s.sites)) (below (length s'.sites))
+  abbrev Sites : List (ℕ × ℕ)
+  Sites = paired (same_site calls (layout s) (layout s')) (below (length s.sites)) (below (length s'.sites))
 
-    twin_is : (x y : Exported) → Contains Twins (x, y) → IsExport G x × IsExport H y
-        × (x.part.component.name ≡ y.part.component.name) × (x.export.name ≡ y.export.name)
-    twin_is x y c =
-        let k = of_paired same_names_of (all_of G.parts) (all_of H.parts) (x, y) c in
-        let t = and_parts _ _ k.2 in (
-          of_all G.parts x k.0,
-          of_all H.parts y k.1,
-          same_names _ _ t.0,
-          same_names _ _ t.1,
-        )
+  twin_is : (x y : Exported) → Contains Twins (x, y) → IsExport G x × IsExport H y
+      × (x.part.component.name ≡ y.part.component.name) × (x.export.name ≡ y.export.name)
+  twin_is x y c =
+      let k = of_paired same_names_of (all_of G.parts) (all_of H.parts) (x, y) c in
+      let t = and_parts _ _ k.2 in (
+        of_all G.parts x k.0,
+        of_all H.parts y k.1,
+        same_names _ _ t.0,
+        same_names _ _ t.1,
+      )
 
-    in_twins : (x y : Exported) → IsExport G x → IsExport H y → x.part.component.name ≡ y.part.component.name
-        → x.export.name ≡ y.export.name → Contains Twins (x, y)
-    in_twins x y ix iy en ee =
-        in_paired same_names_of (all_of G.parts) (all_of H.parts) x y (in_all G.parts x ix.0.0 ix.0.1 ix.1)
-        (in_all H.parts y iy.0.0 iy.0.1 iy.1)
-        (rw (en, ee, names_same y.part.component.name, names_same y.export.name) refl)
+  in_twins : (x y : Exported) → IsExport G x → IsExport H y → x.part.component.name ≡ y.part.component.name
+      → x.export.name ≡ y.export.name → Contains Twins (x, y)
+  in_twins x y ix iy en ee =
+      in_paired same_names_of (all_of G.parts) (all_of H.parts) x y (in_all G.parts x ix.0.0 ix.0.1 ix.1)
+      (in_all H.parts y iy.0.0 iy.0.1 iy.1)
+      (rw (en, ee, names_same y.part.component.name, names_same y.export.name) refl)
 
-    sites_are : (i j : ℕ) → Contains Sites (i, j) → (i < length s.sites) × (j < length s'.sites)
-        × IsSameSite (layout s) (layout s') i j
-    sites_are i j c =
-        let k = of_paired (same_site (layout s) (layout s')) (below (length s.sites)) (below (length s'.sites))
-        (i, j) c in
-        let t = and_parts _ _ k.2 in (
-          of_below (length s.sites) i k.0,
-          of_below (length s'.sites) j k.1,
-          (same_names _ _ t.0, eqb-true _ _ t.1),
-        )
+  sites_are : (i j : ℕ) → Contains Sites (i, j) → (i < length s.sites) × (j < length s'.sites)
+      × IsSameSite calls (layout s) (layout s') i j
+  sites_are i j c =
+      let k = of_paired (same_site calls (layout s) (layout s')) (below (length s.sites))
+      (below (length s'.sites))
+      (i, j) c in
+      let t = and_parts _ _ k.2 in (
+        of_below (length s.sites) i k.0,
+        of_below (length s'.sites) j k.1,
+        pair_same (site_name calls.one (layout s) i) (site_name calls.other (layout s') j)
+            (same_names _ _ t.0)
+            (eqb-true _ _ t.1),
+      )
 
-    at_g : (i : ℕ) → i < length s.sites → SiteAt modules parts size s is src lg i
-    at_g i lt = site_listed modules parts size s is src lg i lt
+  at_g : (i : ℕ) → i < length s.sites → SiteAt modules parts size s is src lg i
+  at_g i lt = site_listed modules parts size s is src lg i lt
 
-    at_h : (j : ℕ) → j < length s'.sites → SiteAt modules' parts' size s' is' src' lh j
-    at_h j lt = site_listed modules' parts' size s' is' src' lh j lt
+  at_h : (j : ℕ) → j < length s'.sites → SiteAt modules' parts' size s' is' src' lh j
+  at_h j lt = site_listed modules' parts' size s' is' src' lh j lt
 
-    open_too : (n : ℕ) → IsOpenSeal G n → IsOpenSeal H n
-    open_too n k = (k.0, (beside k.0).0 k.1, k.2)
+  open_too : (n : ℕ) → IsOpenSeal G n → IsOpenSeal H n
+  open_too n k = (k.0, (beside k.0).0 k.1, k.2)
 
-    open_back : (n : ℕ) → IsOpenSeal H n → IsOpenSeal G n
-    open_back n k = (k.0, (beside k.0).1 k.1, k.2)
+  open_back : (n : ℕ) → IsOpenSeal H n → IsOpenSeal G n
+  open_back n k = (k.0, (beside k.0).1 k.1, k.2)
 
-    pub by_name : SameNames G H
-    by_name = record {
-      twins = Twins;
-      sites = Sites;
-      exports = λ x y c. (let t = twin_is x y c in (t.0, t.1));
-      one_part = λ x y u v c d. (
-          let t = twin_is x y c in
-          let w = twin_is u v d in (
-            λ e. one_name modules' parts' size s' is' src' lh y.part v.part t.1.0.0 w.1.0.0
-                (sym t.2 ∙ ap (λ (p : PartSeen). p.component.name) e ∙ w.2),
-            λ e. one_name modules parts size s is src lg x.part u.part t.0.0.0 w.0.0.0
-                (t.2 ∙ ap (λ (p : PartSeen). p.component.name) e ∙ sym w.2),
-          ));
-      one_site = λ i j k m c d. (
-          let a = sites_are i j c in
-          let b = sites_are k m d in (
-            λ e. one_site modules' parts' size s' is' src' lh j m (at_h j a.1) (at_h m b.1)
-                (sym a.2.0 ∙ ap (λ z. part_name (layout s) (site_of (layout s) z).part) e ∙ b.2.0)
-                (sym a.2.1 ∙ ap (λ z. (site_of (layout s) z).index) e ∙ b.2.1),
-            λ e. one_site modules parts size s is src lg i k (at_g i a.0) (at_g k b.0)
-                (a.2.0 ∙ ap (λ z. part_name (layout s') (site_of (layout s') z).part) e ∙ sym b.2.0)
-                (a.2.1 ∙ ap (λ z. (site_of (layout s') z).index) e ∙ sym b.2.1),
-          ));
-      free = λ a r t. free_too G H lg lh beside stacks a r;
-      seals = λ n. (open_too n, open_back n);
-      stack = ap (λ (t : Span). t.base) stacks;
-    }
+  pub by_name : SameNames G H
+  by_name = record {
+    twins = Twins;
+    sites = Sites;
+    exports = λ x y c. (let t = twin_is x y c in (t.0, t.1));
+    one_part = λ x y u v c d. (
+        let t = twin_is x y c in
+        let w = twin_is u v d in (
+          λ e. one_name modules' parts' size s' is' src' lh y.part v.part t.1.0.0 w.1.0.0
+              (sym t.2 ∙ ap (λ (p : PartSeen). p.component.name) e ∙ w.2),
+          λ e. one_name modules parts size s is src lg x.part u.part t.0.0.0 w.0.0.0
+              (t.2 ∙ ap (λ (p : PartSeen). p.component.name) e ∙ sym w.2),
+        ));
+    one_site = λ i j k m c d. (
+        let a = sites_are i j c in
+        let b = sites_are k m d in (
+          λ e. (let x = apart.1 _ _ _ _ (sym a.2 ∙ ap (site_name calls.one (layout s)) e ∙ b.2) in
+              one_site modules' parts' size s' is' src' lh j m (at_h j a.1) (at_h m b.1) x.0 x.1),
+          λ e. (let x = apart.0 _ _ _ _ (a.2 ∙ ap (site_name calls.other (layout s')) e ∙ sym b.2) in
+              one_site modules parts size s is src lg i k (at_g i a.0) (at_g k b.0) x.0 x.1),
+        ));
+    free = λ a r t. free_too G H lg lh beside stacks a r;
+    seals = λ n. (open_too n, open_back n);
+    stack = ap (λ (t : Span). t.base) stacks;
+  }
 
-    -- what one name names in both
-    same_imported : (i : Import) (x y : Exported) → imported G.parts i ≡ Some x → imported H.parts i ≡ Some y
-        → SameImported by_name (Some x) (Some y)
-    unfolding by_name
-    same_imported i x y e f = by x.part.trusted y.part.trusted refl refl
-      where
-        nx : Names G.parts i x
-        nx = imported_names G.parts i x e
+  -- what one name names in both
+  same_imported : (i : Import) (x y : Exported) → imported G.parts i ≡ Some x → imported H.parts i ≡ Some y
+      → SameImported by_name (Some x) (Some y)
+  unfolding by_name
+  same_imported i x y e f = by x.part.trusted y.part.trusted refl refl
+    where
+      nx : Names G.parts i x
+      nx = imported_names G.parts i x e
 
-        ny : Names H.parts i y
-        ny = imported_names H.parts i y f
+      ny : Names H.parts i y
+      ny = imported_names H.parts i y f
 
-        parts_same : x.part.component.name ≡ y.part.component.name
-        parts_same = nx.part ∙ sym ny.part
+      parts_same : x.part.component.name ≡ y.part.component.name
+      parts_same = nx.part ∙ sym ny.part
 
-        mx : Contains G.parts x.part
-        mx = listed_at G.parts nx.there.index x.part nx.there.at
+      mx : Contains G.parts x.part
+      mx = listed_at G.parts nx.there.index x.part nx.there.at
 
-        my : Contains H.parts y.part
-        my = listed_at H.parts ny.there.index y.part ny.there.at
+      my : Contains H.parts y.part
+      my = listed_at H.parts ny.there.index y.part ny.there.at
 
-        one : x.part ≡ y.part → x ≡ y
-        one p =
-            let k : Some x ≡ Some y = sym (found_export G.parts i x e)
-            ∙ ap (export_that (λ (e : Export). same_name e.name i.name)) p ∙ found_export H.parts i y f in
-            cc
+      one : x.part ≡ y.part → x ≡ y
+      one p =
+          let k : Some x ≡ Some y = sym (found_export G.parts i x e)
+          ∙ ap (export_that (λ (e : Export). same_name e.name i.name)) p ∙ found_export H.parts i y f in
+          cc
 
-        by : (b c : Bool) → x.part.trusted ≡ b → y.part.trusted ≡ c → SameImported by_name (Some x) (Some y)
-        by true true t u = inr (in_twins x y ((mx, t), nx.there.listed) ((my, u), ny.there.listed) parts_same
-            (nx.name ∙ sym ny.name))
-        by false c t u =
-            inl (
-              one (one_name modules' parts' size s' is' src' lh x.part y.part
-                  ((beside x.part).0 (mx, t)).0 my parts_same),
-              t,
-            )
-        by true false t u =
-            let k = one_name modules parts size s is src lg x.part y.part mx
-            ((beside y.part).1 (my, u)).0 parts_same in
-            absurd (let bad : true ≡ false = sym t ∙ ap (λ (z : PartSeen). z.trusted) k ∙ u in cc)
+      by : (b c : Bool) → x.part.trusted ≡ b → y.part.trusted ≡ c → SameImported by_name (Some x) (Some y)
+      by true true t u = inr (in_twins x y ((mx, t), nx.there.listed) ((my, u), ny.there.listed) parts_same
+          (nx.name ∙ sym ny.name))
+      by false c t u =
+          inl (
+            one (one_name modules' parts' size s' is' src' lh x.part y.part
+                ((beside x.part).0 (mx, t)).0 my parts_same),
+            t,
+          )
+      by true false t u =
+          let k = one_name modules parts size s is src lg x.part y.part mx
+          ((beside y.part).1 (my, u)).0 parts_same in
+          absurd (let bad : true ≡ false = sym t ∙ ap (λ (z : PartSeen). z.trusted) k ∙ u in cc)
 
-    go_by_names : GoByNames by_name
-    unfolding by_name
-    go_by_names = record {
-      exports = same_imported;
-      twins = λ x y c. (
-          let t = twin_is x y c in (
-            t.2,
-            told_is modules parts size s is src lg x t.0 ∙ t.3
-                ∙ sym (told_is modules' parts' size s' is' src' lh y t.1),
-          ));
-      sites = λ i j c. (sites_are i j c).2;
-      all_sites = λ i j a b e f k.
-          in_paired (same_site (layout s) (layout s')) (below (length s.sites)) (below (length s'.sites)) i j
-          (in_below (length s.sites) i (site_below modules parts size s is src lg i a e))
-          (in_below (length s'.sites) j (site_below modules' parts' size s' is' src' lh j b f))
-          (rw (
-            k.0,
-            k.1,
-            names_same (part_name (layout s') (site_of (layout s') j).part),
-            eq-eqb (site_of (layout s') j).index (site_of (layout s') j).index refl,
-          ) refl);
-    }
+  go_by_names : GoByNames calls by_name
+  unfolding by_name
+  go_by_names = record {
+    exports = same_imported;
+    twins = λ x y c. (
+        let t = twin_is x y c in (
+          t.2,
+          told_is modules parts size s is src lg x t.0 ∙ t.3
+              ∙ sym (told_is modules' parts' size s' is' src' lh y t.1),
+        ));
+    sites = λ i j c. (sites_are i j c).2;
+    all_sites = λ i j a b e f k.
+        in_paired (same_site calls (layout s) (layout s')) (below (length s.sites)) (below (length s'.sites))
+        i j
+        (in_below (length s.sites) i (site_below modules parts size s is src lg i a e))
+        (in_below (length s'.sites) j (site_below modules' parts' size s' is' src' lh j b f))
+        (rw (
+          k,
+          names_same (site_name calls.other (layout s') j).0,
+          eq-eqb (site_name calls.other (layout s') j).1 (site_name calls.other (layout s') j).1 refl,
+        ) refl);
+  }
 
-    pub beside_by_names : (names : SameNames G H) × GoByNames names
-    beside_by_names = (by_name, go_by_names)
+  pub beside_by_names : (names : SameNames G H) × GoByNames calls names
+  beside_by_names = (by_name, go_by_names)
 
 -- where exports stand for each other by their names, so do those that untrusted parts import
-pub import_by_names : StartsBegin → StartsAgree → SourcesLeaveNothing → (modules modules' : List ModuleFields)
+pub import_by_names : {calls : CallNames} → StartsBegin → StartsAgree → SourcesLeaveNothing →
+    (modules modules' : List ModuleFields)
     (parts parts' : List PartSeen) (size : ℕ) (s s' : StartSeen) (is : IsStartOf parts size s)
     (is' : IsStartOf parts' size s') → AreSources modules parts → AreSources modules' parts'
     → AreBeside (linked_at parts size s) (linked_at parts' size s')
-    → (names : SameNames (linked_at parts size s) (linked_at parts' size s')) → GoByNames names
+    → (names : SameNames (linked_at parts size s) (linked_at parts' size s')) → GoByNames calls names
     → ImportTheSame names
 import_by_names begin agree leaves modules modules' parts parts' size s s' is is' src src' beside names
     by_names p i u m =

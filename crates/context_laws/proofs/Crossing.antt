@@ -41,7 +41,7 @@ use Rattle.context_laws.specs.Related.{SameNames, RunsOutside, Calls as Pairs, S
 use Rattle.context_laws.specs.Related.{data_halves, ret_codes, ret_datas}
 use Rattle.context_laws.specs.Lockstep.{Round, SameCrossing}
 use Rattle.context_laws.specs.Lockstep as spec
-use Rattle.context_laws.specs.Meanings.{Name, GoByNames}
+use Rattle.context_laws.specs.Meanings.{Name, CallNames, event_named, GoByNames}
 use Rattle.context_laws.proofs.Arrive.{opened_open}
 use Rattle.context_laws.proofs.Open.{HasSites, newest_is}
 use Rattle.context_laws.proofs.History.{BackAlike}
@@ -154,29 +154,34 @@ whole_is l d top q s = ap (λ z. handed z q.maps.regs.dat) s.rcode ∙ ap (hande
 
 -- ---- two runs
 
-record CallsSame (name name' : Whence → Name) (part : List ℕ) (site base : ℕ) (low : Option ℕ)
+record CallsSame (calls : CallNames) (name name' : Whence → Name) (part : List ℕ) (site base : ℕ)
+    (low : Option ℕ)
     (m n : Option Whence)
     (xs : List (Arg Whence)) (part' : List ℕ) (site' base' : ℕ) (low' : Option ℕ) (m' n' : Option Whence)
     (ys : List (Arg Whence)) : Type 0 where
-  pub part_is : part ≡ part'
-  pub site_is : site ≡ site'
+  pub call_is : calls.one part site ≡ calls.other part' site'
   pub base_is : base ≡ base'
   pub low_is : low ≡ low'
   pub first : option_map name m ≡ option_map name' m'
   pub second : option_map name n ≡ option_map name' n'
   pub args : map (arg_to name (λ (k : ℕ). k)) xs ≡ map (arg_to name' (λ (k : ℕ). k)) ys
 
-calls_same : {name name' : Whence → Name} (part : List ℕ) (site base : ℕ) (low : Option ℕ)
+pub pair_same : {A B : Type 0} (x y : A × B) → x.0 ≡ y.0 → x.1 ≡ y.1 → x ≡ y
+pair_same x y e f = ap (λ z. (z, x.1)) e ∙ ap (λ z. (y.0, z)) f
+
+calls_same : (calls : CallNames) {name name' : Whence → Name} (part : List ℕ) (site base : ℕ) (low : Option ℕ)
     (m n : Option Whence)
     (xs : List (Arg Whence)) (part' : List ℕ) (site' base' : ℕ) (low' : Option ℕ) (m' n' : Option Whence)
     (ys : List (Arg Whence))
-    → event_to name (λ (k : ℕ). k) (Calls part site base low m n xs)
-    ≡ event_to name' (λ (k : ℕ). k) (Calls part' site' base' low' m' n' ys)
-    → CallsSame name name' part site base low m n xs part' site' base' low' m' n' ys
-calls_same {name = name} {name' = name'} part site base low m n xs part' site' base' low' m' n' ys e =
+    → event_named calls.one (event_to name (λ (k : ℕ). k) (Calls part site base low m n xs))
+    ≡ event_named calls.other (event_to name' (λ (k : ℕ). k) (Calls part' site' base' low' m' n' ys))
+    → CallsSame calls name name' part site base low m n xs part' site' base' low' m' n' ys
+calls_same calls {name = name} {name' = name'} part site base low m n xs part' site' base' low' m' n' ys e =
     record {
-      part_is = cc;
-      site_is = cc;
+      call_is =
+          (let p : (calls.one part site).0 ≡ (calls.other part' site').0 = cc in
+          let i : (calls.one part site).1 ≡ (calls.other part' site').1 = cc in
+          pair_same (calls.one part site) (calls.other part' site') p i);
       base_is = cc;
       low_is = cc;
       first = cc;
@@ -184,8 +189,9 @@ calls_same {name = name} {name' = name'} part site base low m n xs part' site' b
       args = cc;
     }
 
-module _ (g h : Link) (names : SameNames g h) (by_names : GoByNames names) (lg : Linked g) (lh : Linked h)
-    (cs : Pairs) (name name' : Whence → Name) (word word' : Whence → OWord) (back back' : ℕ → Back)
+module _ (g h : Link) (names : SameNames g h) {calls : CallNames} (by_names : GoByNames calls names)
+    (lg : Linked g) (lh : Linked h) (cs : Pairs) (name name' : Whence → Name) (word word' : Whence → OWord)
+    (back back' : ℕ → Back)
     (word_same : (w v : Whence) → name w ≡ name' v → SameWord g h names cs (word w) (word' v))
     (back_same : (k : ℕ) → BackAlike g h names cs (back k) (back' k)) where
   abbrev S : OWord → OWord → Type 0
@@ -320,13 +326,13 @@ module _ (g h : Link) (names : SameNames g h) (by_names : GoByNames names) (lg :
         ≡ shown_of (event_to word back (Calls part site base low m n xs))
         → call_shown h.layout b.after k.site k.base
         ≡ shown_of (event_to word' back' (Calls part' site' base' low' m' n' ys))
-        → event_to name (λ (k : ℕ). k) (Calls part site base low m n xs)
-        ≡ event_to name' (λ (k : ℕ). k) (Calls part' site' base' low' m' n' ys)
+        → event_named calls.one (event_to name (λ (k : ℕ). k) (Calls part site base low m n xs))
+        ≡ event_named calls.other (event_to name' (λ (k : ℕ). k) (Calls part' site' base' low' m' n' ys))
         → Crossed (Calls part site base low m n xs) (Calls part' site' base' low' m' n' ys)
     by_calls d e f k sc tc ev ew part site base low m n xs part' site' base' low' m' n' ys hx hy hn =
         let x = call_is g.layout a.after f.site f.base word back part site base low m n xs hx in
         let y = call_is h.layout b.after k.site k.base word' back' part' site' base' low' m' n' ys hy in
-        let s = calls_same part site base low m n xs part' site' base' low' m' n' ys hn in
+        let s = calls_same calls part site base low m n xs part' site' base' low' m' n' ys hn in
         let op = opened_open g lg a.after oa d sc.pc C1 sc.c1 in
         let first : S (code_word d) (code_word e) =
         subst (λ z. S z (code_word e)) sc.c1 (subst (S a.after.maps.regs.c1) tc.c1
@@ -340,7 +346,10 @@ module _ (g h : Link) (names : SameNames g h) (by_names : GoByNames names) (lg :
         let sv = sb k.call k (newest_is k tc.older b.after.frames tc.newest) in
         let sites : Contains names.sites (f.site, k.site) =
         by_names.all_sites f.site k.site su.0 sv.0 su.1 sv.1
-        (x.part_is ∙ s.part_is ∙ sym y.part_is, x.site_is ∙ s.site_is ∙ sym y.site_is) in
+        (ap (λ p. calls.one p (site_of g.layout f.site).index) x.part_is ∙ ap (calls.one part) x.site_is
+        ∙ s.call_is
+        ∙ sym (ap (λ p. calls.other p (site_of h.layout k.site).index) y.part_is
+        ∙ ap (calls.other part') y.site_is)) in
         let arg : (r : Reg) (i : ℕ) → slice_get (args_shown g.layout a.after) i
         ≡ Some (arg_shown (Va r) (reg a.after.maps.regs r))
         → slice_get (args_shown h.layout b.after) i ≡ Some (arg_shown (Vb r) (reg b.after.maps.regs r))
@@ -361,8 +370,9 @@ module _ (g h : Link) (names : SameNames g h) (by_names : GoByNames names) (lg :
         ≡ shown_of (event_to word back (Leaves part v low k)) ∷ []
         → left_shown (LeaveOut (part_name h.layout q) (out_arg (Vb A0))) (left_with b.after)
         ≡ shown_of (event_to word' back' (Leaves part' v' low' k')) ∷ []
-        → event_to name (λ (k : ℕ). k) (Leaves part v low k) ≡ event_to name' (λ (k : ℕ). k)
-        (Leaves part' v' low' k') → Crossed (Leaves part v low k) (Leaves part' v' low' k')
+        → event_named calls.one (event_to name (λ (k : ℕ). k) (Leaves part v low k))
+        ≡ event_named calls.other (event_to name' (λ (k : ℕ). k) (Leaves part' v' low' k')) → Crossed
+        (Leaves part v low k) (Leaves part' v' low' k')
     by_leaves p q d e top end sl tl part v low k part' v' low' k' hx hy hn =
         let x = leave_is g.layout a.after p (Va A0) word back part v low k hx in
         let y = leave_is h.layout b.after q (Vb A0) word' back' part' v' low' k' hy in
@@ -396,7 +406,9 @@ module _ (g h : Link) (names : SameNames g h) (by_names : GoByNames names) (lg :
         → event_outs g.layout a.after (step_event g.layout a.last a.after) ≡ shown_of (event_to word back x)
         ∷ []
         → event_outs h.layout b.after (step_event h.layout b.last b.after) ≡ shown_of (event_to word' back' y)
-        ∷ [] → event_to name (λ (k : ℕ). k) x ≡ event_to name' (λ (k : ℕ). k) y → Crossed x y
+        ∷ []
+        → event_named calls.one (event_to name (λ (k : ℕ). k) x)
+        ≡ event_named calls.other (event_to name' (λ (k : ℕ). k) y) → Crossed x y
     crossed s t x y hx hy hn = by s.0 t.0 s.1 t.1 s.2 t.2 x y
         (ap (event_outs g.layout a.after) (sym s.1) ∙ hx) (ap (event_outs h.layout b.after) (sym t.1) ∙ hy) hn
       where
@@ -405,7 +417,8 @@ module _ (g h : Link) (names : SameNames g h) (by_names : GoByNames names) (lg :
             → ShowsBy h.layout b.after k
             → (x y : Event Whence ℕ) → event_outs g.layout a.after (Some e) ≡ shown_of (event_to word back x)
             ∷ [] → event_outs h.layout b.after (Some k) ≡ shown_of (event_to word' back' y) ∷ []
-            → event_to name (λ (k : ℕ). k) x ≡ event_to name' (λ (k : ℕ). k) y → Crossed x y
+            → event_named calls.one (event_to name (λ (k : ℕ). k) x)
+            ≡ event_named calls.other (event_to name' (λ (k : ℕ). k) y) → Crossed x y
         by _ _ ev ew (by_call d f sc) (by_call e k tc) (Calls part site base low m n xs)
             (Calls part' site' base' low' m' n' ys) hx hy hn =
             by_calls d e f k sc tc ev ew part site base low m n xs part' site' base' low' m' n' ys

@@ -33,7 +33,7 @@ use Rattle.source_starts.specs.Wiped.{WipedCellsAreTold}
 use Rattle.source_starts.proofs.Offers.{halts_there, fails_there}
 use Rattle.context_laws.specs.Related.{SameNames}
 use Rattle.context_laws.specs.Sources.{AreBeside, ImportTheSame}
-use Rattle.context_laws.specs.Meanings.{MeanTheSame, GoByNames}
+use Rattle.context_laws.specs.Meanings.{CallNames, AreOneToOne, swapped, MeanTheSame, GoByNames}
 use Rattle.context_laws.specs.Ends.{EndTheSame, PlainHalts, PlainFails, RunsForever, SameResult}
 use Rattle.context_laws.specs.Ends.{EndsToo, RunsEndAlike, SameMeaningsEndAlike}
 use Rattle.context_laws.proofs.Sources.{StartsAgree}
@@ -123,8 +123,9 @@ not_true : (b : Bool) → not b ≡ true → b ≡ false
 not_true true e = absurd cc
 not_true false e = refl
 
-ends_back : (w v : World) (size : ℕ) → EndTheSame w v size → EndTheSame v w size
-ends_back w v size ends = (ends.1, ends.0)
+ends_back : (calls : CallNames) (w v : World) (size : ℕ) → EndTheSame calls w v size
+    → EndTheSame (swapped calls) v w size
+ends_back calls w v size ends = (ends.1, ends.0)
 
 module _ (begin : StartsBegin) (agree : StartsAgree) (leaves : SourcesLeaveNothing) (words : SourcesTellWords)
     (wipes : WipedCellsAreTold) (means : SourcesMeanAll) (headline : HeadlineHolds) (stops : StopsAreCuts)
@@ -132,8 +133,9 @@ module _ (begin : StartsBegin) (agree : StartsAgree) (leaves : SourcesLeaveNothi
     (is : IsStartOf parts size s) (is' : IsStartOf parts' size s') (src : AreSources modules parts)
     (src' : AreSources modules' parts')
     (beside : AreBeside (linked_at parts size s) (linked_at parts' size s'))
-    (same : MeanTheSame (map part_of modules) (map part_of modules') size)
-    (ends : EndTheSame (map part_of modules) (map part_of modules') size) where
+    (calls : CallNames) (apart : AreOneToOne calls) (same : MeanTheSame calls (map part_of modules) (map
+    part_of modules') size)
+    (ends : EndTheSame calls (map part_of modules) (map part_of modules') size) where
   abbrev G : Link
   G = linked_at parts size s
 
@@ -166,9 +168,9 @@ module _ (begin : StartsBegin) (agree : StartsAgree) (leaves : SourcesLeaveNothi
       (fails_too begin agree leaves words wipes means modules modules' parts parts' size s s' is is' src src'
       b.0 b.1 beside imports same.0 ends.0 both_begin)
     where
-      b : (names : SameNames G (linked_at parts' size s')) × GoByNames names
-      b = beside_by_names begin agree leaves modules modules' parts parts' size s s' is is' src src' beside
-          (one_stack parts parts' size s s' is is' beside p u)
+      b : (names : SameNames G (linked_at parts' size s')) × GoByNames calls names
+      b = beside_by_names calls apart begin agree leaves modules modules' parts parts' size s s' is is' src
+          src' beside (one_stack parts parts' size s s' is is' beside p u)
 
       imports : ImportTheSame b.0
       imports = import_by_names begin agree leaves modules modules' parts parts' size s s' is is' src src'
@@ -197,9 +199,9 @@ module _ (begin : StartsBegin) (agree : StartsAgree) (leaves : SourcesLeaveNothi
   beside_none alone =
       ends_from
       (alone_halts begin agree leaves words wipes means modules modules' parts parts' size s s' is is' src
-      src' ends.0 alone i i')
+      src' calls ends.0 alone i i')
       (alone_fails begin agree leaves words wipes means modules modules' parts parts' size s s' is is' src
-      src' ends.0 alone i i')
+      src' calls ends.0 alone i i')
     where
       i : is_inside (layout s) (overlay_at s).state ≡ true
       i = by (is_inside (layout s) (overlay_at s).state) refl
@@ -231,11 +233,12 @@ module _ (begin : StartsBegin) (agree : StartsAgree) (leaves : SourcesLeaveNothi
     (wipes : WipedCellsAreTold) (means : SourcesMeanAll) (headline : HeadlineHolds)
     (stops : StopsAreCuts) where
   pub end_alike : SameMeaningsEndAlike
-  end_alike modules modules' parts parts' size s s' is is' src src' beside same ends =
+  end_alike calls apart modules modules' parts parts' size s s' is is' src src' beside same ends =
       both_ways s s'
       (ends_too begin agree leaves words wipes means headline stops modules modules' parts parts' size s s' is
-      is' src src' beside same ends)
+      is' src src' beside calls apart same ends)
       (ends_too begin agree leaves words wipes means headline stops modules' modules parts' parts size s' s
-      is' is src' src (beside_back (linked_at parts size s) (linked_at parts' size s') beside)
-      (mean_back (map part_of modules) (map part_of modules') size same)
-      (ends_back (map part_of modules) (map part_of modules') size ends))
+      is' is src' src (beside_back (linked_at parts size s) (linked_at parts' size s') beside) (swapped calls)
+      (apart.1, apart.0)
+      (mean_back calls (map part_of modules) (map part_of modules') size same)
+      (ends_back calls (map part_of modules) (map part_of modules') size ends))

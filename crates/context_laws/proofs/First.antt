@@ -32,8 +32,8 @@ module _ (begin : StartsBegin) (agree : StartsAgree) (leaves : SourcesLeaveNothi
       (record { came = secrets.begins f.begins; until = f.until; steps = f.lets; gone = f.gone })).cells
 
   pub first_alike : FirstArrivalsAlike
-  first_alike modules modules' parts parts' size size' s s' is is' src src' names beside imports a b fa fb cs same
-      wiped = (
+  first_alike modules modules' parts parts' size size' s s' is is' src src' names beside imports a b fa fb cs
+      same wiped = (
         arrive_alike g h names lg lh [] a b oa ob cells (tidied_first modules parts size s is src a fa)
             (tidied_first modules' parts' size' s' is' src' b fb) wiped cs same,
         below cs same,
@@ -118,8 +118,8 @@ module _ (begin : StartsBegin) (agree : StartsAgree) (leaves : SourcesLeaveNothi
           record { first = λ k j c. absurd c; second = λ k j c. absurd c; one = λ k j i m c. absurd c }
 
 pub whole_runs : StartsBegin → StartsAgree → SourcesLeaveNothing → WholeRunsInStep
-whole_runs begin agree leaves modules modules' parts parts' size s s' is is' src src' names beside imports io n
-    q q' as_ bs k k' obs =
+whole_runs begin agree leaves modules modules' parts parts' size s s' is is' src src' names beside imports io
+    n q q' as_ bs k k' obs =
     let a = placed_alike begin parts parts' size s s' is is' names beside imports
     (outside_main begin agree leaves parts parts' size s s' is is' beside io) in
     sources_in_step begin agree leaves modules modules' parts parts' size size s s' is is' src src' names n 0

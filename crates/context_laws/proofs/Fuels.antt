@@ -1,5 +1,6 @@
 -- Under more fuel the refined meaning tells the same, or more where the fuel had run out.
-use Rattle.std.proofs.Common.{◌≡◌, ◌⊎◌, inl, inr, ℕ, zero, suc, ◌+◌, ◌<◌, ◌≤◌, List, [], ◌∷◌, ◌++◌, length, map}
+use Rattle.std.proofs.Common.{◌≡◌, ◌⊎◌, inl, inr, ℕ, zero, suc, ◌+◌, ◌<◌, ◌≤◌, List, [], ◌∷◌, ◌++◌, length}
+use Rattle.std.proofs.Common.{map}
 use Rattle.std.proofs.Common.{Option, Some, None, refl, sym, ap, ◌∙◌, subst, arith}
 use Rattle.std.specs.Prelude.{slice_get, ◌-◌}
 use Rattle.std.proofs.lemmas.List.{append-nil}
@@ -9,7 +10,8 @@ use Rattle.source_events.specs.declared.MeaningEnd.TheVariants.{OutOfFuel}
 use Rattle.proc_semantics.specs.declared.value.Target.{Target}
 use Rattle.proc_semantics.specs.Values.{World, Store, main_target}
 use Rattle.proc_semantics.specs.Rules.{start, level}
-use Rattle.proc_semantics.specs.Marked.{Marks, Thing, Event, Leaves, Report, Comp, Whence, counted, said, tick}
+use Rattle.proc_semantics.specs.Marked.{Marks, Thing, Event, Leaves, Report, Comp, Whence, counted, said}
+use Rattle.proc_semantics.specs.Marked.{tick}
 use Rattle.proc_semantics.specs.Marked.{take_item, lower, call_event, marked, marked_meaning, whences}
 use Rattle.proc_semantics.specs.Marked.{numbered_items, refined}
 use Rattle.proc_semantics.proofs.Offers.{Kin, levels_kept}
@@ -104,11 +106,13 @@ module _ (T E : Type 0) where
     starts_fuller world b d d' stack None st le le' =
         (levels_kept (marked T E marks) (marked T E marks) fuller world b d d' le le').waits None None st tt
     starts_fuller world b d d' stack (Some t) st le le' =
-        (levels_kept (marked T E marks) (marked T E marks) fuller world b d d' le le').procs t (Some stack) _ _
+        (levels_kept (marked T E marks) (marked T E marks) fuller world b d d' le le').procs t (Some stack) _
+        _
         _ _ st refl (λ v st. record { is = λ low f e feed lt. inl refl })
 
     longer_marked : (world : World) (stack : ℕ) (feed : List (Thing T E)) (f e : ℕ)
-        → Longer (marked_meaning T E marks world stack feed f) (marked_meaning T E marks world stack feed (f + e))
+        → Longer (marked_meaning T E marks world stack feed f)
+        (marked_meaning T E marks world stack feed (f + e))
     longer_marked world stack feed f e =
         (starts_fuller world (f + length feed + 1) (f + length feed + 1) (f + e + length feed + 1) stack
         (main_target world) (map (λ u. u.globals) world) (omega arith) (omega arith)).is None f e feed

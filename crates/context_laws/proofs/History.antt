@@ -1,4 +1,4 @@
--- What came in to two runs alike: the same items, with words that stand for each other.
+-- What came in to two runs alike: words that stand for each other.
 use Rattle.std.proofs.Common.{◌≡◌, ℕ, zero, suc, pos, List, [], ◌∷◌, ◌++◌, map}
 use Rattle.std.proofs.Common.{refl, sym, ap, ◌∙◌, subst, inl, inr}
 use Rattle.std.specs.Prelude.{option_map, slice_index_or}
@@ -50,7 +50,6 @@ module _ (g h : Link) (names : SameNames g h) where
       pub newest : Newest g h names cs a.open_calls b.open_calls
 
     pub record ThingAlike (x y : Thing OWord Back) : Type 0 where
-      pub item : x.item ≡ y.item
       pub words : WordsAlike x.words y.words
       pub entry : BackAlike x.entry y.entry
 
@@ -66,14 +65,6 @@ module _ (g h : Link) (names : SameNames g h) where
     all_both [] (y ∷ ys) us vs a b = absurd a
     all_both (x ∷ xs) [] us vs a b = absurd a
     all_both (x ∷ xs) (y ∷ ys) us vs a b = (a.0, all_both xs ys us vs a.1 b)
-
-    pub same_items : (xs ys : List (Thing OWord Back)) → AllAlike xs ys
-        → map (λ x. x.item) xs ≡ map (λ x. x.item) ys
-    same_items [] [] a = refl
-    same_items [] (y ∷ ys) a = absurd a
-    same_items (x ∷ xs) [] a = absurd a
-    same_items (x ∷ xs) (y ∷ ys) a =
-        ap (λ z. z ∷ map (λ x. x.item) xs) a.0.item ∙ ap (λ z. y.item ∷ z) (same_items xs ys a.1)
 
     zeros : S (Plain (Int (pos 0))) (Plain (Int (pos 0)))
     zeros = ours (Int (pos 0)) tt
@@ -136,7 +127,6 @@ module _ (g h : Link) (names : SameNames g h) where
   all_more k m cs (x ∷ xs) [] a = absurd a
   all_more k m cs (x ∷ xs) (y ∷ ys) a = (
     record {
-      item = a.0.item;
       words = words_more k m cs _ _ a.0.words;
       entry = back_more k m cs _ _ a.0.entry;
     },
@@ -162,17 +152,24 @@ module _ (g h : Link) (names : SameNames g h) where
         ∙ ap (λ b. option_map (λ (c : CapFields). Plain (Mem (stack_cap b c.end c.end)))
         (if_own h.layout (memory_in (face_of (look r.maps.regs.stk))))) names.stack
 
-    by_enter : EnterAlike g h names cs o q p r → (xs ys : List Item)
-        → lines.event_items g.layout (flat_view g.layout q) (step_event g.layout o q) ≡ xs
-        → lines.event_items h.layout (flat_view h.layout r) (step_event h.layout p r) ≡ ys → xs ≡ ys
+    at_items : (xs ys us vs : List Item) → xs ≡ us → ys ≡ vs
+        → AllAlike cs (map (thing_of g.layout q) us) (map (thing_of h.layout r) vs)
         → AllAlike cs (map (thing_of g.layout q) xs) (map (thing_of h.layout r) ys)
-    by_enter e xs ys ex ey same =
+    at_items xs ys us vs e f a =
+        subst (λ zs. AllAlike cs (map (thing_of g.layout q) zs) (map (thing_of h.layout r) ys)) (sym e)
+        (subst (λ zs. AllAlike cs (map (thing_of g.layout q) us) (map (thing_of h.layout r) zs)) (sym f) a)
+
+    abbrev Came : Type 0
+    Came = AllAlike cs (seen.event_items g.layout q (step_event g.layout o q))
+        (seen.event_items h.layout r (step_event h.layout p r))
+
+    by_enter : EnterAlike g h names cs o q p r → Came
+    by_enter e =
         let ix = (names.exports e.one e.other e.twins).0 in
-        let one = sym ex ∙ enter_item g lg tg e.one ix o q e.pc e.event in
-        subst (λ zs. AllAlike cs (map (thing_of g.layout q) xs) (map (thing_of h.layout r) zs)) same
-        (subst (λ zs. AllAlike cs (map (thing_of g.layout q) zs) (map (thing_of h.layout r) zs)) (sym one) (
+        let iy = (names.exports e.one e.other e.twins).1 in
+        at_items _ _ _ _ (enter_item g lg tg e.one ix o q e.pc e.event)
+        (enter_item h lh th e.other iy p r e.pc_other e.event_other) (
           record {
-            item = refl;
             words = (
               e.words A0 (λ z. cc) (λ z. cc),
               (
@@ -188,27 +185,14 @@ module _ (g h : Link) (names : SameNames g h) where
             };
           },
           tt,
-        ))
+        )
 
-    by_return : ReturnAlike g h names cs o q p r → (xs ys : List Item)
-        → lines.event_items g.layout (flat_view g.layout q) (step_event g.layout o q) ≡ xs → xs ≡ ys
-        → AllAlike cs (map (thing_of g.layout q) xs) (map (thing_of h.layout r) ys)
-    by_return e xs ys ex same =
-        let one = sym ex ∙ ap (lines.event_items g.layout (flat_view g.layout q)) e.event in
-        subst (λ zs. AllAlike cs (map (thing_of g.layout q) xs) (map (thing_of h.layout r) zs)) same
-        (subst (λ zs. AllAlike cs (map (thing_of g.layout q) zs) (map (thing_of h.layout r) zs)) (sym one) (
-          record {
-            item = refl;
-            words = (zeros cs, (zeros cs, (zeros cs, (zeros cs, tt))));
-            entry = nothing_alike cs;
-          },
-          tt,
-        ))
+    by_return : ReturnAlike g h names cs o q p r → Came
+    by_return e =
+        at_items _ _ _ _ (ap (lines.event_items g.layout (flat_view g.layout q)) e.event)
+        (ap (lines.event_items h.layout (flat_view h.layout r)) e.event_other)
+        (record { words = (zeros cs, (zeros cs, (zeros cs, (zeros cs, tt)))); entry = nothing_alike cs }, tt)
 
-    pub things_alike : ComesAlike g h names cs o q p r
-        → lines.event_items g.layout (flat_view g.layout q) (step_event g.layout o q)
-        ≡ lines.event_items h.layout (flat_view h.layout r) (step_event h.layout p r)
-        → AllAlike cs (seen.event_items g.layout q (step_event g.layout o q))
-        (seen.event_items h.layout r (step_event h.layout p r))
-    things_alike (inl e) same = by_enter e _ _ refl refl same
-    things_alike (inr e) same = by_return e _ _ refl same
+    pub things_alike : ComesAlike g h names cs o q p r → Came
+    things_alike (inl e) = by_enter e
+    things_alike (inr e) = by_return e

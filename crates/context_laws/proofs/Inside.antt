@@ -48,7 +48,7 @@ use Rattle.context_laws.proofs.Rounds.{round_told}
 use Rattle.trusted_border.specs.declared.events.Event.{Event}
 use Rattle.context_laws.specs.Related.{RunsOutside}
 use Rattle.context_laws.specs.Lockstep.{Holds}
-use Rattle.context_laws.specs.Meanings.{FeedFits}
+use Rattle.context_laws.specs.Meanings.{CallNames, FeedFits, SameFeed}
 use Rattle.context_laws.proofs.Arrive.{opened_open}
 use Rattle.context_laws.proofs.Meanings.{SourcesMeanAll}
 
@@ -98,8 +98,8 @@ module _ (begin : StartsBegin) (agree : StartsAgree) (leaves : SourcesLeaveNothi
     (wipes : WipedCellsAreTold) (means : SourcesMeanAll)
     (modules modules' : List ModuleFields) (parts parts' : List PartSeen) (size : ℕ) (s s' : StartSeen)
     (is : IsStartOf parts size s) (is' : IsStartOf parts' size s') (src : AreSources modules parts)
-    (src' : AreSources modules' parts')
-    (ends : EndsAsWell (map part_of modules) (map part_of modules') size) where
+    (src' : AreSources modules' parts') (calls : CallNames)
+    (ends : EndsAsWell calls (map part_of modules) (map part_of modules') size) where
   abbrev G : Link
   G = linked_at parts size s
 
@@ -144,7 +144,7 @@ module _ (begin : StartsBegin) (agree : StartsAgree) (leaves : SourcesLeaveNothi
   -- it has control in both since the same items came in
   module _ (es es' : List Shown) (xs xs' : Things) (b b' e e' p : OState)
       (t : TellsSince (layout s) O es xs b e) (t' : TellsSince (layout s') O' es' xs' b' e')
-      (one : feed xs ≡ feed xs') (j : ℕ) (r : Reached (layout s') O' j e')
+      (one : SameFeed calls (feed xs) (feed xs')) (j : ℕ) (r : Reached (layout s') O' j e')
       (i' : is_inside (layout s') e' ≡ true) (u : Until (layout s) e p)
       (shows : (q m : OState) → Until (layout s') e' q → overlay_step (layout s') q ≡ goes m
       → is_inside (layout s') m ≡ false → Shows (layout s') q m) where
@@ -164,13 +164,12 @@ module _ (begin : StartsBegin) (agree : StartsAgree) (leaves : SourcesLeaveNothi
     so x m some =
         let e : (refined W size (feed xs) m.enough).end ≡ x =
         end_is W size (feed xs) m.enough ∙ m.ends m.enough (omega arith) in
-        let k = ends (feed xs) fits m.enough (λ o. some (sym e ∙ o)) in (
+        let k = ends (feed xs) (feed xs') one fits m.enough (λ o. some (sym e ∙ o)) in (
           k.0,
           λ f le. (
               let all : k.0 + (f - k.0) ≡ f = omega (arith, le) in
-              ap (λ z. (meaning W' size z f).end) (sym one) ∙ sym (end_is W' size (feed xs) f)
-              ∙ ap (λ g. (refined W' size (feed xs) g).end) (sym all)
-              ∙ end_later W' size (feed xs) k.0 (f - k.0) x (k.1 ∙ e) some
+              sym (end_is W' size (feed xs') f) ∙ ap (λ g. (refined W' size (feed xs') g).end) (sym all)
+              ∙ end_later W' size (feed xs') k.0 (f - k.0) x (k.1 ∙ e) some
               ),
         )
 
@@ -190,7 +189,8 @@ module _ (begin : StartsBegin) (agree : StartsAgree) (leaves : SourcesLeaveNothi
     comes : (x : MeaningEnd) → Ends x → (x ≡ Waiting → ⊥) → (x ≡ OutOfFuel → ⊥)
         → ComesTo W' size s' Means' e' x
     comes x m not some =
-        comes_to W' size s' Means' es' xs' e' (tells_of (layout s') O' es' xs' b' e' t') i' x (so x m some) some
+        comes_to W' size s' Means' es' xs' e' (tells_of (layout s') O' es' xs' b' e' t') i' x (so x m some)
+        some
         (never x m not some)
 
     pub halts_inside : OverlayHalts s p → HaltsToo s s' p

@@ -1,21 +1,16 @@
 -- Sources that mean the same can't be told apart.
-use Rattle.std.proofs.Common.{◌≡◌, inl, inr, ◌↔◌, ℕ, suc, ◌+◌, ◌-◌, ◌<◌, ◌≤◌, List, [], ◌∷◌, ◌++◌, map}
+use Rattle.std.proofs.Common.{◌≡◌, inl, inr, ℕ, suc, ◌+◌, ◌-◌, ◌≤◌, List, [], ◌∷◌, ◌++◌, map}
 use Rattle.std.proofs.Common.{length, Option, Some, None, true, false, refl, sym, ap, ◌∙◌, subst, arith}
-use Rattle.std.proofs.lemmas.Bool.{cases_lt}
-use Rattle.std.specs.Prelude.{slice_get, option_map, is_some, if◌then◌else◌}
+use Rattle.std.specs.Prelude.{slice_get, option_map, if◌then◌else◌}
 use Rattle.std.proofs.lemmas.Option.{slice_get-map, slice_get_within}
-use Rattle.std.proofs.lemmas.List.{append-nil, length-append, length-map}
-use Rattle.cap_words.specs.declared.Word.TheVariants.{Mem}
-use Rattle.call_sequence.specs.SequenceRuns.{IsOutsideRange, stack_cap}
-use Rattle.lcm_machine.specs.Cells.{cell}
+use Rattle.std.proofs.lemmas.List.{append-nil, length-append, length-map, map-append}
 use Rattle.component_linker.specs.Parts.{PartSeen}
 use Rattle.component_linker.specs.Standing.{placed}
 use Rattle.component_linker.specs.Started.{StartSeen}
 use Rattle.component_linker.specs.LinkedStarts.{IsStartOf}
 use Rattle.overlay_machine.specs.declared.words.OWord.{OWord}
-use Rattle.overlay_machine.specs.declared.words.OWord.TheVariants.{Plain}
-use Rattle.overlay_machine.specs.State.{OpenFrame, OState, frame_of}
-use Rattle.overlay_machine.specs.Step.{goes, overlay_step}
+use Rattle.overlay_machine.specs.State.{OState}
+use Rattle.overlay_machine.specs.Step.{Ending, goes, overlay_step}
 use Rattle.overlay_machine.specs.Events.{step_event}
 use Rattle.overlay_machine.specs.Link.{Link}
 use Rattle.overlay_machine.specs.Linked.{Linked}
@@ -27,8 +22,6 @@ use Rattle.trusted_border.specs.declared.layout.Layout.{Layout}
 use Rattle.trace_tool.specs.Layout.{layout}
 use Rattle.trace_tool.specs.Views.{flat_view}
 use Rattle.template_runs.specs.Runs.{is_inside}
-use Rattle.template_runs.specs.Public.{IsFreeAt}
-use Rattle.template_runs.specs.Border.{zero, Shows, Wiped, low_at}
 use Rattle.template_runs.proofs.Offers.{goes_same, halts_not, fails_not}
 use Rattle.proc_language.specs.declared.module.ModuleFields.{ModuleFields}
 use Rattle.proc_program.specs.Lower.{part_of}
@@ -41,6 +34,7 @@ use Rattle.source_laws.specs.Seen.{Shown, Back, shown_of}
 use Rattle.source_laws.specs.Seen as seen
 use Rattle.source_laws.specs.Sources.{MeansAlways}
 use Rattle.source_laws.specs.Trace.{event_items}
+use Rattle.source_laws.proofs.Offers.{things_item}
 use Rattle.source_laws.specs.Words.{word_from, back_at}
 use Rattle.source_laws.specs.Wiped as since_start
 use Rattle.source_laws.specs.Wiped.{TellsSince, and_then, low_of, last_outside}
@@ -49,41 +43,45 @@ use Rattle.source_laws.specs.Secrets as secrets
 use Rattle.source_starts.specs.Sources.{AreSources, linked_at, SourcesLeaveNothing}
 use Rattle.source_starts.specs.Words.{slots, SourcesTellWords}
 use Rattle.source_starts.specs.Wiped.{WipedCellsAreTold}
-use Rattle.context_laws.specs.Related.{SameNames, Calls, SameWord, ours, code_halves, data_halves, ret_codes}
-use Rattle.context_laws.specs.Related.{ret_datas, CellPair, Alike, ComesAlike, StepsAlike, both_halt}
+use Rattle.context_laws.specs.Related.{SameNames, Calls}
+use Rattle.context_laws.specs.Related.{Alike, ComesAlike, StepsAlike, both_halt}
 use Rattle.context_laws.specs.Related.{both_fail, both_stay, both_come}
-use Rattle.context_laws.specs.Lockstep.{Round, IsRound, Path, SameCrossing, by_call, by_leave, SameWiped}
+use Rattle.context_laws.specs.Lockstep.{Round, IsRound, Path, SameCrossing, SameWiped}
 use Rattle.context_laws.specs.Lockstep.{InStep, at_end, round, Holds, Tidies, AreBelow}
 use Rattle.context_laws.specs.Lockstep as spec
 use Rattle.context_laws.specs.Meanings.{name_of, observed, FeedFits, TellsAsMuch, GoByNames, item_by}
+use Rattle.context_laws.specs.Meanings.{Naming, CallNames, item_named, feed_named, event_named, events_named}
+use Rattle.context_laws.specs.Meanings.{SameFeed}
 use Rattle.context_laws.specs.Meanings.{items_in}
-use Rattle.context_laws.proofs.Counts.{step_rises, until_reached}
-use Rattle.context_laws.proofs.Arrive.{in_region_of, arrive_alike}
+use Rattle.context_laws.proofs.Counts.{step_rises}
+use Rattle.context_laws.proofs.Arrive.{arrive_alike}
 use Rattle.context_laws.proofs.Whole.{alike_step, runs_outside, below_later, below_after, after_a, after_b}
 use Rattle.context_laws.proofs.Sources.{StartsAgree, linked_is, holds_is, tidies_is}
-use Rattle.context_laws.proofs.Open.{CallsAlike, has_sites, met, step_kept, until_kept, calls_kept}
-use Rattle.context_laws.proofs.Open.{calls_more}
+use Rattle.context_laws.proofs.Open.{CallsAlike, has_sites, met, step_kept, calls_kept}
 use Rattle.context_laws.proofs.Told.{items_same}
 use Rattle.context_laws.proofs.Feeds.{feed_fits}
 use Rattle.context_laws.proofs.Fuels.{event_later, in_front}
-use Rattle.context_laws.proofs.History.{AllAlike, all_both, all_more, same_items, things_alike, back_alike}
+use Rattle.context_laws.proofs.History.{AllAlike, all_both, things_alike, back_alike}
 use Rattle.context_laws.proofs.Naming.{IsNamed, is_named, named_same}
 use Rattle.context_laws.proofs.Progress.{IsCalm, calm_since, tells_of, goes_out, TellsMore}
-use Rattle.context_laws.proofs.Crossing.{crossed, ends_same}
+use Rattle.context_laws.proofs.Crossing.{crossed}
+use Rattle.context_laws.proofs.Behind.{wiped_same, same_ends, all_behind, calls_behind, open_since}
+use Rattle.context_laws.proofs.Behind.{round_shows}
 use Rattle.context_laws.proofs.Rounds.{RoundTold, round_told, entry_silent}
 
 pub first_inside : (l : Layout) (p q : OState) → Until l p q → is_inside l p ≡ true
 first_inside l p _ (secrets.still_there i) = i
 first_inside l p _ (secrets.one_more u s i) = first_inside l p _ u
 
--- where a word is 0, so is what stands for it
-zero_same : (g h : Link) (names : SameNames g h) (cs : Calls) (w v : OWord) → SameWord g h names cs w v
-    → (w ≡ zero) ↔ (v ≡ zero)
-zero_same g h names cs _ _ (ours w o) = (λ e. e, λ e. e)
-zero_same g h names cs _ _ (code_halves x y t) = (λ e. cc, λ e. cc)
-zero_same g h names cs _ _ (data_halves x y t) = (λ e. cc, λ e. cc)
-zero_same g h names cs _ _ (ret_codes i j t) = (λ e. cc, λ e. cc)
-zero_same g h names cs _ _ (ret_datas i j t) = (λ e. cc, λ e. cc)
+-- what comes in behind is named as by itself
+fed_onto : (name : Naming) (xs ys : List (Thing OWord Back))
+    → feed_named name (map (λ (x : Thing OWord Back). x.item) (xs ++ ys))
+    ≡ feed_named name (map (λ (x : Thing OWord Back). x.item) xs)
+    ++ feed_named name (map (λ (x : Thing OWord Back). x.item) ys)
+fed_onto name xs ys =
+    ap (feed_named name) (map-append (λ (x : Thing OWord Back). x.item) xs ys)
+    ∙ map-append (item_named name) (map (λ (x : Thing OWord Back). x.item) xs)
+    (map (λ (x : Thing OWord Back). x.item) ys)
 
 module _ (begin : StartsBegin) (agree : StartsAgree) (leaves : SourcesLeaveNothing) (words : SourcesTellWords)
     (wipes : WipedCellsAreTold)
@@ -92,8 +90,9 @@ module _ (begin : StartsBegin) (agree : StartsAgree) (leaves : SourcesLeaveNothi
     (modules modules' : List ModuleFields) (parts parts' : List PartSeen) (size : ℕ) (s s' : StartSeen)
     (is : IsStartOf parts size s) (is' : IsStartOf parts' size s') (src : AreSources modules parts)
     (src' : AreSources modules' parts')
-    (names : SameNames (linked_at parts size s) (linked_at parts' size s')) (by_names : GoByNames names)
-    (same : TellsAsMuch (map part_of modules) (map part_of modules') size) where
+    (names : SameNames (linked_at parts size s) (linked_at parts' size s')) {calls : CallNames}
+    (by_names : GoByNames calls names)
+    (same : TellsAsMuch calls (map part_of modules) (map part_of modules') size) where
   abbrev G : Link
   G = linked_at parts size s
 
@@ -145,19 +144,24 @@ module _ (begin : StartsBegin) (agree : StartsAgree) (leaves : SourcesLeaveNothi
   -- ---- what is observed
 
   -- an event of the one is one of the other by the same name
-  pub observed_at : (xs : List Item) (fits : FeedFits xs) (f n : ℕ) (x : Event Whence ℕ)
-      → slice_get (refined W size xs f).events n ≡ Some x
-      → (y : Event Whence ℕ) × (slice_get (refined W' size xs (same xs fits f).0).events n ≡ Some y)
-      × (event_to (name_of W) (λ (k : ℕ). k) x ≡ event_to (name_of W') (λ (k : ℕ). k) y)
-  observed_at xs fits f n x e =
-      let k = same xs fits f in
-      let at : slice_get (observed W' size xs k.0) n ≡ Some (event_to (name_of W) (λ (k : ℕ). k) x) =
+  pub observed_at : (xs ys : List Item) (fed : SameFeed calls xs ys) (fits : FeedFits xs) (f n : ℕ)
+      (x : Event Whence ℕ) → slice_get (refined W size xs f).events n ≡ Some x
+      → (y : Event Whence ℕ) × (slice_get (refined W' size ys (same xs ys fed fits f).0).events n ≡ Some y)
+      × (event_named calls.one (event_to (name_of W) (λ (k : ℕ). k) x)
+      ≡ event_named calls.other (event_to (name_of W') (λ (k : ℕ). k) y))
+  observed_at xs ys fed fits f n x e =
+      let k = same xs ys fed fits f in
+      let at : slice_get (events_named calls.other (observed W' size ys k.0)) n
+      ≡ Some (event_named calls.one (event_to (name_of W) (λ (k : ℕ). k) x)) =
       ap (λ z. slice_get z n) k.2
-      ∙ in_front (observed W size xs f) k.1 n _
+      ∙ in_front (events_named calls.one (observed W size xs f)) k.1 n _
+      (slice_get-map (event_named calls.one) (observed W size xs f) n
+      ∙ ap (option_map (event_named calls.one))
       (slice_get-map (event_to (name_of W) (λ (k : ℕ). k)) (refined W size xs f).events n
-      ∙ ap (option_map (event_to (name_of W) (λ (k : ℕ). k))) e) in
-      let y = map_get (event_to (name_of W') (λ (k : ℕ). k)) (refined W' size xs k.0).events n _ at in
-      (y.0, y.1, sym y.2)
+      ∙ ap (option_map (event_to (name_of W) (λ (k : ℕ). k))) e)) in
+      let m = map_get (event_named calls.other) (observed W' size ys k.0) n _ at in
+      let y = map_get (event_to (name_of W') (λ (k : ℕ). k)) (refined W' size ys k.0).events n m.0 m.1 in
+      (y.0, y.1, sym m.2 ∙ ap (event_named calls.other) (sym y.2))
 
   -- so the meaning of the other tells it
   told_now : (xs : List Item) (f n : ℕ) (y : Event Whence ℕ)
@@ -189,8 +193,9 @@ module _ (begin : StartsBegin) (agree : StartsAgree) (leaves : SourcesLeaveNothi
     pub since : TellsSince (layout s) O es xs b p
     pub since' : TellsSince (layout s') O' es' xs' b' p'
     pub count : length es ≡ length es'
+    pub fed : SameFeed calls (feed xs) (feed xs')
     pub all : AllAlike G H names cs xs xs'
-    pub calls : CallsAlike G H names cs p.frames p'.frames
+    pub open_calls : CallsAlike G H names cs p.frames p'.frames
     pub i : ℕ
     pub j : ℕ
     pub reached : Reached (layout s) O i p
@@ -203,7 +208,7 @@ module _ (begin : StartsBegin) (agree : StartsAgree) (leaves : SourcesLeaveNothi
   abbrev Result : ℕ → Calls → List Round → OState → OState → Type 0
   Result n cs as_ q p' =
       (q' : OState) × (bs : List Round) × Path (layout s') n p' bs q' × InStep G H names cs as_ bs q q'
-      × (items_in (layout s) as_ q ≡ items_in (layout s') bs q')
+      × SameFeed calls (items_in (layout s) as_ q) (items_in (layout s') bs q')
 
   pub steps_alike : (cs : Calls) (p p' : OState) → Point cs p p' → StepsAlike G H names cs p p'
   steps_alike cs p p' k =
@@ -251,8 +256,9 @@ module _ (begin : StartsBegin) (agree : StartsAgree) (leaves : SourcesLeaveNothi
           since = calm_since (layout s) O k.es k.xs k.b p q k.since e (calm z.4);
           since' = calm_since (layout s') O' k.es' k.xs' k.b' p' z.0 k.since' z.1 (calm z.5);
           count = k.count;
+          fed = k.fed;
           all = k.all;
-          calls = calls_kept G H names cs p.frames p'.frames q.frames z.0.frames k.calls
+          open_calls = calls_kept G H names cs p.frames p'.frames q.frames z.0.frames k.open_calls
               (λ n m c f. step_kept G lg O hg k.i p q k.reached e n f (k.below.first n m c))
               (λ n m c f. step_kept H lh O' hh k.j p' z.0 k.reached' z.1 m f (k.below.second n m c));
           i = _;
@@ -290,43 +296,45 @@ module _ (begin : StartsBegin) (agree : StartsAgree) (leaves : SourcesLeaveNothi
   come_items : (cs : Calls) (p p' : OState) (k : Point cs p p') (q q' : OState)
       → overlay_step (layout s) p ≡ goes q
       → overlay_step (layout s') p' ≡ goes q' → ComesAlike G H names cs p q p' q'
-      → event_items (layout s) (flat_view (layout s) q) (step_event (layout s) p q)
-      ≡ event_items (layout s') (flat_view (layout s') q') (step_event (layout s') p' q')
+      → SameFeed calls (event_items (layout s) (flat_view (layout s) q) (step_event (layout s) p q))
+      (event_items (layout s') (flat_view (layout s') q') (step_event (layout s') p' q'))
   come_items cs p p' k q q' e e' c =
       items_same G H names by_names lg lh ng nh cs p q p' q'
-      (calls_kept G H names cs p.frames p'.frames q.frames q'.frames k.calls
+      (calls_kept G H names cs p.frames p'.frames q.frames q'.frames k.open_calls
       (λ n m c f. step_kept G lg O hg k.i p q k.reached e n f (k.below.first n m c))
       (λ n m c f. step_kept H lh O' hh k.j p' q' k.reached' e' m f (k.below.second n m c)))
       (has_sites G lg O hg _ q (goes_on k.reached e)) (has_sites H lh O' hh _ q' (goes_on k.reached' e'))
       (met G lg O hg _ q (goes_on k.reached e)) (met H lh O' hh _ q' (goes_on k.reached' e')) c
 
+  abbrev Last : OState → Ending → List Item
+  Last p e = feed_named calls.one (item_by (layout s) p e)
+
+  abbrev Last' : OState → Ending → List Item
+  Last' p e = feed_named calls.other (item_by (layout s') p e)
+
   last_item : (cs : Calls) (p p' : OState) → Point cs p p'
-      → item_by (layout s) p (overlay_step (layout s) p) ≡ item_by (layout s') p'
-      (overlay_step (layout s') p')
+      → Last p (overlay_step (layout s) p) ≡ Last' p' (overlay_step (layout s') p')
   last_item cs p p' k = by (steps_alike cs p p' k)
     where
       by : StepsAlike G H names cs p p'
-          → item_by (layout s) p (overlay_step (layout s) p) ≡ item_by (layout s') p'
-          (overlay_step (layout s') p')
-      by (both_halt x y) = ap (item_by (layout s) p) x ∙ sym (ap (item_by (layout s') p') y)
-      by (both_fail x y) = ap (item_by (layout s) p) x ∙ sym (ap (item_by (layout s') p') y)
+          → Last p (overlay_step (layout s) p) ≡ Last' p' (overlay_step (layout s') p')
+      by (both_halt x y) = ap (Last p) x ∙ sym (ap (Last' p') y)
+      by (both_fail x y) = ap (Last p) x ∙ sym (ap (Last' p') y)
       by (both_stay m m' x y i j ev ew al) =
-          ap (item_by (layout s) p) x
-          ∙ ap (λ b. if b then event_items (layout s) (flat_view (layout s) m)
-          (step_event (layout s) p m) else
-          []) i ∙ sym (ap (item_by (layout s') p') y
-          ∙ ap (λ b. if b then event_items (layout s') (flat_view (layout s') m')
-          (step_event (layout s') p' m')
-          else []) j)
+          ap (Last p) x
+          ∙ ap (λ b. feed_named calls.one (if b then event_items (layout s) (flat_view (layout s) m)
+          (step_event (layout s) p m) else [])) i
+          ∙ sym (ap (Last' p') y
+          ∙ ap (λ b. feed_named calls.other (if b then event_items (layout s') (flat_view (layout s') m')
+          (step_event (layout s') p' m') else [])) j)
       by (both_come m m' x y i j c) =
-          ap (item_by (layout s) p) x
-          ∙ ap (λ b. if b then event_items (layout s) (flat_view (layout s) m)
-          (step_event (layout s) p m) else
-          []) i ∙ come_items cs p p' k m m' x y c
-          ∙ sym (ap (item_by (layout s') p') y
-          ∙ ap (λ b. if b then event_items (layout s') (flat_view (layout s') m')
-          (step_event (layout s') p' m')
-          else []) j)
+          ap (Last p) x
+          ∙ ap (λ b. feed_named calls.one (if b then event_items (layout s) (flat_view (layout s) m)
+          (step_event (layout s) p m) else [])) i
+          ∙ come_items cs p p' k m m' x y c
+          ∙ sym (ap (Last' p') y
+          ∙ ap (λ b. feed_named calls.other (if b then event_items (layout s') (flat_view (layout s') m')
+          (step_event (layout s') p' m') else [])) j)
 
   -- where code outside comes in nothing is shown
   silent : (cs : Calls) (p q p' q' : OState) → ComesAlike G H names cs p q p' q'
@@ -338,150 +346,6 @@ module _ (begin : StartsBegin) (agree : StartsAgree) (leaves : SourcesLeaveNothi
   )
   silent cs p q p' q' (inr e) =
       (ap (seen.event_outs (layout s) q) e.event, ap (seen.event_outs (layout s') q') e.event_other)
-
-  -- what trusted code shows where it lets go
-  pub shows_g : (i : ℕ) (r : Round) → Reached (layout s) O i r.before → IsRound (layout s) r
-      → Shows (layout s) r.last r.after
-  shows_g i r reached ir =
-      ((leaves modules parts size s is src).shows r.entered r.last r.after
-      (record {
-        came = secrets.comes i r.before reached ir.outside ir.comes;
-        until = ir.until;
-        steps =
-            ir.lets;
-        gone = ir.gone;
-      })).registers
-
-  pub shows_h : (j : ℕ) (r : Round) → Reached (layout s') O' j r.before → IsRound (layout s') r
-      → Shows (layout s') r.last r.after
-  shows_h j r reached ir =
-      ((leaves modules' parts' size s' is' src').shows r.entered r.last r.after
-      (record {
-        came = secrets.comes j r.before reached ir.outside ir.comes;
-        until = ir.until;
-        steps =
-            ir.lets;
-        gone = ir.gone;
-      })).registers
-
-  -- both wipe the same cells
-  module _ (cs : Calls) (a b : Round)
-      (cells : (x : ℕ) → IsFreeAt G x
-      → CellPair (SameWord G H names cs) (IsFreeAt G) (cell a.before.maps.cells x)
-      (cell b.before.maps.cells x)) (ga : (i : ℕ) × Reached (layout s) O i a.after)
-      (gb : (j : ℕ) × Reached (layout s') O' j b.after) (low low' : Option ℕ)
-      (wa : Wiped G low a.before a.after)
-      (wb : Wiped H low' b.before b.after) (lows : low ≡ low') (ends : wa.end ≡ wb.end) where
-    abbrev Low : ℕ
-    Low = low_at G.layout.stack.base wa.end low
-
-    same_low : low_at H.layout.stack.base wb.end low' ≡ Low
-    same_low =
-        sym (ap (λ z. low_at z wa.end low) names.stack ∙ ap (λ z. low_at H.layout.stack.base z low) ends
-        ∙ ap (low_at H.layout.stack.base wb.end) lows)
-
-    kept_pair : (x : ℕ) → IsFreeAt G x → (o o' : Option OWord) → cell a.before.maps.cells x ≡ o
-        → cell b.before.maps.cells x ≡ o' → (w v : OWord) → o ≡ Some w → o' ≡ Some v
-        → CellPair (SameWord G H names cs) (IsFreeAt G) o o' → (w ≡ zero) ↔ (v ≡ zero)
-    kept_pair x free None o' e e' w v f f' p = absurd cc
-    kept_pair x free (Some u) None e e' w v f f' p = absurd cc
-    kept_pair x free (Some u) (Some t) e e' w v f f' p =
-        let i : u ≡ w = cc in
-        let j : t ≡ v = cc in
-        zero_same G H names cs w v
-        (subst (λ z. SameWord G H names cs z v) i (subst (λ z. SameWord G H names cs u z) j p))
-
-    word_there : (o : Option OWord) → is_some o ≡ true → (w : OWord) × (o ≡ Some w)
-    word_there None e = absurd cc
-    word_there (Some w) e = (w, refl)
-
-    pub wiped_same : SameWiped G a b
-    wiped_same x free ta tb =
-        let w = word_there (cell a.after.maps.cells x) ta in
-        let v = word_there (cell b.after.maps.cells x) tb in
-        some_same w.0 v.0 w.1 v.1 (by w.0 v.0 w.1 v.1)
-      where
-        some_same : (w v : OWord) → cell a.after.maps.cells x ≡ Some w → cell b.after.maps.cells x ≡ Some v
-            → (w ≡ zero) ↔ (v ≡ zero)
-            → (cell a.after.maps.cells x ≡ Some zero) ↔ (cell b.after.maps.cells x ≡ Some zero)
-        some_same w v e f z = (
-          λ h. f ∙ ap Some (z.0 (let y : Some w ≡ Some zero = sym e ∙ h in cc)),
-          λ h. e ∙ ap Some (z.1 (let y : Some v ≡ Some zero = sym f ∙ h in cc)),
-        )
-
-        outside_pair : (w v : OWord) → cell a.after.maps.cells x ≡ Some w → cell b.after.maps.cells x ≡ Some v
-            → IsOutsideRange x Low wa.end → (w ≡ zero) ↔ (v ≡ zero)
-        outside_pair w v e f out =
-            let ia = hg ga.0 a.after ga.1 in
-            let ib = hh gb.0 b.after gb.1 in
-            let free' : IsFreeAt H x = names.free x (in_region_of G a.after ia.0 ia.1 x w e)
-            (in_region_of H b.after ib.0 ib.1 x v f) free in
-            let out' : IsOutsideRange x (low_at H.layout.stack.base wb.end low') wb.end =
-            subst (λ z. IsOutsideRange x z wb.end) (sym same_low) (subst (IsOutsideRange x Low) ends out) in
-            kept_pair x free _ _ refl refl w v (wa.cells.kept x w free out e) (wb.cells.kept x v free' out' f)
-            (cells x free)
-
-        by : (w v : OWord) → cell a.after.maps.cells x ≡ Some w → cell b.after.maps.cells x ≡ Some v
-            → (w ≡ zero) ↔ (v ≡ zero)
-        by w v e f = elim (cases_lt x Low) as (λ _. (w ≡ zero) ↔ (v ≡ zero)) [
-          | inl lt ↦ outside_pair w v e f (inl lt)
-          | inr ge ↦ elim (cases_lt wa.end x) as (λ _. (w ≡ zero) ↔ (v ≡ zero)) [
-            | inl gt ↦ outside_pair w v e f (inr gt)
-            | inr le ↦ (
-                let z = wa.cells.wiped x w ge le e in
-                let sl = same_low in
-                let y = wb.cells.wiped x v (omega (arith, ge, sl)) (omega (arith, le, ends)) f in
-                (λ _. y, λ _. z)
-                )
-          ]
-        ]
-
-  -- both give the same stack away
-  pub same_ends : (cs ds : Calls) (a b : Round) → SameCrossing G H names cs a b ds → (e t : ℕ)
-      → a.after.maps.regs.stk ≡ Plain (Mem (stack_cap G.layout.stack.base e e))
-      → b.after.maps.regs.stk ≡ Plain (Mem (stack_cap H.layout.stack.base t t)) → e ≡ t
-  same_ends cs _ a b (by_call d f k sc tc ev ew base sites a0 a1 a2 a3) e t x y =
-      ends_same e (f.base - 1) (ap Some (sym x ∙ sc.stk)) ∙ ap (λ z. z - 1) base
-      ∙ sym (ends_same t (k.base - 1) (ap Some (sym y ∙ tc.stk)))
-  same_ends cs _ a b (by_leave d top sl tl a0 newest) e t x y =
-      ends_same e top (ap Some (sym x ∙ sl.stk)) ∙ sym (ends_same t top (ap Some (sym y ∙ tl.stk)))
-
-  -- what came in, and which calls are open, behind a crossing
-  pub all_behind : (cs ds : Calls) (a b : Round) → SameCrossing G H names cs a b ds → (xs ys : Things)
-      → AllAlike G H names cs xs ys → AllAlike G H names ds xs ys
-  all_behind cs _ a b (by_call d f k sc tc ev ew base sites a0 a1 a2 a3) xs ys al =
-      all_more G H names f.call k.call cs xs ys al
-  all_behind cs _ a b (by_leave d top sl tl a0 newest) xs ys al = al
-
-  pub calls_behind : (cs ds : Calls) (a b : Round) → SameCrossing G H names cs a b ds
-      → CallsAlike G H names cs a.after.frames b.after.frames
-      → CallsAlike G H names ds a.after.frames b.after.frames
-  calls_behind cs _ a b (by_call d f k sc tc ev ew base sites a0 a1 a2 a3) al =
-      calls_more G H names cs sc.older tc.older a.after.frames b.after.frames f k sc.newest tc.newest al sites
-      base
-  calls_behind cs _ a b (by_leave d top sl tl a0 newest) al = al
-
-  -- a call that was open before is open since
-  kept_g : (i n : ℕ) (f : OpenFrame) (r : Round) → Reached (layout s) O i r.before → IsRound (layout s) r
-      → n < r.before.calls → frame_of r.after.frames n ≡ Some f → frame_of r.before.frames n ≡ Some f
-  kept_g i n f r reached ir lt e =
-      let up = step_rises G lg O hg i r.before r.entered reached ir.comes in
-      let u = until_reached G lg O hg r.entered r.last _ (goes_on reached ir.comes) ir.until in
-      let more = u.2 in
-      step_kept G lg O hg i r.before r.entered reached ir.comes n f lt
-      (until_kept G lg O hg r.entered r.last _ (goes_on reached ir.comes) ir.until n f (omega (arith, lt, up))
-      (step_kept G lg O hg u.0 r.last r.after u.1 ir.lets n f (omega (arith, lt, up, more)) e))
-
-  kept_h : (j n : ℕ) (f : OpenFrame) (r : Round) → Reached (layout s') O' j r.before → IsRound (layout s') r
-      → n < r.before.calls → frame_of r.after.frames n ≡ Some f → frame_of r.before.frames n ≡ Some f
-  kept_h j n f r reached ir lt e =
-      let up = step_rises H lh O' hh j r.before r.entered reached ir.comes in
-      let u = until_reached H lh O' hh r.entered r.last _ (goes_on reached ir.comes) ir.until in
-      let more = u.2 in
-      step_kept H lh O' hh j r.before r.entered reached ir.comes n f lt
-      (until_kept H lh O' hh r.entered r.last _ (goes_on reached ir.comes) ir.until n f
-      (omega (arith, lt, up))
-      (step_kept H lh O' hh u.0 r.last r.after u.1 ir.lets n f (omega (arith, lt, up, more)) e))
 
   -- code outside comes in, in both
   module _ (cs : Calls) (p p' q : OState) (k : Point cs p p') (e : overlay_step (layout s) p ≡ goes q)
@@ -495,11 +359,17 @@ module _ (begin : StartsBegin) (agree : StartsAgree) (leaves : SourcesLeaveNothi
 
       all_came : AllAlike G H names cs Fed FedToo
       all_came = all_both G H names cs k.xs k.xs' _ _ k.all
-          (things_alike G H names lg lh ng nh cs p q p' q' k.alike.newest c
-          (come_items cs p p' k q q' e e' c))
+          (things_alike G H names lg lh ng nh cs p q p' q' k.alike.newest c)
 
-      pub one_feed : feed Fed ≡ feed FedToo
-      one_feed = same_items G H names cs Fed FedToo all_came
+      pub one_feed : SameFeed calls (feed Fed) (feed FedToo)
+      one_feed =
+          fed_onto calls.one k.xs (seen.event_items (layout s) q (step_event (layout s) p q))
+          ∙ ap (λ z. z ++ feed_named calls.one (feed (seen.event_items (layout s) q
+          (step_event (layout s) p q)))) k.fed
+          ∙ ap (λ z. feed_named calls.other (feed k.xs') ++ z)
+          (ap (feed_named calls.one) (things_item (layout s) q _) ∙ come_items cs p p' k q q' e e' c
+          ∙ sym (ap (feed_named calls.other) (things_item (layout s') q' _)))
+          ∙ sym (fed_onto calls.other k.xs' (seen.event_items (layout s') q' (step_event (layout s') p' q')))
 
       pub came : TellsSince (layout s) O k.es Fed p q
       came =
@@ -526,7 +396,7 @@ module _ (begin : StartsBegin) (agree : StartsAgree) (leaves : SourcesLeaveNothi
     all_in : AllAlike G H names cs xs ys
     all_in = all_came cs a.before p' a.entered k ia.comes q' e' c
 
-    same_feed : feed xs ≡ feed ys
+    same_feed : SameFeed calls (feed xs) (feed ys)
     same_feed = one_feed cs a.before p' a.entered k ia.comes q' e' c
 
     came_in : TellsSince (layout s) O k.es xs a.before a.entered
@@ -546,20 +416,18 @@ module _ (begin : StartsBegin) (agree : StartsAgree) (leaves : SourcesLeaveNothi
     told = round_told G W size s refl (slots modules (placed parts size) s)
         (words modules parts size s is src)
         (wipes modules parts size s is src) k.es xs a.before a.entered a.last a.after came_in ia.until ia.lets
-        ia.gone (shows_g k.i a k.reached ia)
+        ia.gone (round_shows leaves modules parts size s is src k.i a k.reached ia)
 
     -- the other lets go too
     tells_more : TellsMore W' size s' (means modules' parts' size s' is' src') k.es' ys
     tells_more = (
-      (same (feed xs) fits told.enough).0,
+      (same (feed xs) (feed ys) same_feed fits told.enough).0,
       λ f le. (
           let x = told.event told.enough (omega arith) in
-          let y = observed_at (feed xs) fits told.enough (length k.es) x.0 x.1 in
-          let len = told_too (feed xs) _ (length k.es) y.0 y.1 f le in
+          let y = observed_at (feed xs) (feed ys) same_feed fits told.enough (length k.es) x.0 x.1 in
+          let len = told_too (feed ys) _ (length k.es) y.0 y.1 f le in
           let n = k.count in
-          let m : length (meaning W' size (feed xs) f).events ≡ length (meaning W' size (feed ys) f).events =
-          ap (λ z. length (meaning W' size z f).events) same_feed in
-          omega (arith, len, n, m)),
+          omega (arith, len, n)),
     )
 
     pub other : (b : Round) × IsRound (layout s') b × (b.before ≡ p') × (b.entered ≡ q')
@@ -597,7 +465,8 @@ module _ (begin : StartsBegin) (agree : StartsAgree) (leaves : SourcesLeaveNothi
       told_b : Other
       told_b = round_told H W' size s' refl (slots modules' (placed parts' size) s')
           (words modules' parts' size s' is' src') (wipes modules' parts' size s' is' src') k.es' ys b.before
-          b.entered b.last b.after came_b ib.until ib.lets ib.gone (shows_h k.j b reached_b ib)
+          b.entered b.last b.after came_b ib.until ib.lets ib.gone
+          (round_shows leaves modules' parts' size s' is' src' k.j b reached_b ib)
 
       ga : (i : ℕ) × Reached (layout s) O i a.after
       ga = after_a G H names lg lh O O' hg hh tg th cs a b k.i k.j k.reached reached_b ia ib kb.below
@@ -610,7 +479,7 @@ module _ (begin : StartsBegin) (agree : StartsAgree) (leaves : SourcesLeaveNothi
 
       -- and a fuel under which the other tells what the one tells under that
       abbrev F' : ℕ
-      F' = (same (feed xs) fits F).0 + (told_b.enough + told_b.wiped.enough)
+      F' = (same (feed xs) (feed ys) same_feed fits F).0 + (told_b.enough + told_b.wiped.enough)
 
       -- the event of both
       record Both : Type 0 where
@@ -623,16 +492,17 @@ module _ (begin : StartsBegin) (agree : StartsAgree) (leaves : SourcesLeaveNothi
         pub two_shown : seen.event_outs (layout s') b.after (step_event (layout s') b.last b.after)
             ≡ shown_of (event_to (word_from (slots modules' (placed parts' size) s') ys) (back_at ys) two)
             ∷ []
-        pub names_same : event_to (name_of W) (λ (k : ℕ). k) one ≡ event_to (name_of W') (λ (k : ℕ). k) two
+        pub names_same : event_named calls.one (event_to (name_of W) (λ (k : ℕ). k) one)
+            ≡ event_named calls.other (event_to (name_of W') (λ (k : ℕ). k) two)
 
       both : Both
       both =
           let x = told.event F (omega arith) in
           let y = told_b.event F' (omega arith) in
-          let z = observed_at (feed xs) fits F (length k.es) x.0 x.1 in
+          let z = observed_at (feed xs) (feed ys) same_feed fits F (length k.es) x.0 x.1 in
           let at : Some z.0 ≡ Some y.0 =
-          sym (event_later W' size (feed xs) (same (feed xs) fits F).0 _ (length k.es) z.0 z.1)
-          ∙ ap (λ u. slice_get (refined W' size u F').events (length k.es)) same_feed
+          sym (event_later W' size (feed ys) (same (feed xs) (feed ys) same_feed fits F).0 _ (length k.es) z.0
+          z.1)
           ∙ ap (slice_get (refined W' size (feed ys) F').events) k.count ∙ y.1 in
           let one : z.0 ≡ y.0 = cc in
           record {
@@ -642,7 +512,8 @@ module _ (begin : StartsBegin) (agree : StartsAgree) (leaves : SourcesLeaveNothi
             two_is = y.1;
             one_shown = x.2;
             two_shown = y.2;
-            names_same = z.2 ∙ ap (event_to (name_of W') (λ (k : ℕ). k)) one;
+            names_same = z.2
+                ∙ ap (λ v. event_named calls.other (event_to (name_of W') (λ (k : ℕ). k) v)) one;
           }
 
       cross : (ds : Calls) × SameCrossing G H names cs a b ds × (low_of both.one ≡ low_of both.two)
@@ -659,8 +530,10 @@ module _ (begin : StartsBegin) (agree : StartsAgree) (leaves : SourcesLeaveNothi
           (runs_outside G H names lg lh O O' hg hh tg th G O hg ga.0 a.after ga.1 ia.gone)
           (runs_outside G H names lg lh O O' hg hh tg th H O' hh gb.0 b.after gb.1 ib.gone)
           (has_sites G lg O hg ga.0 a.after ga.1) (has_sites H lh O' hh gb.0 b.after gb.1)
-          (met G lg O hg ga.0 a.after ga.1) (met H lh O' hh gb.0 b.after gb.1) (shows_g k.i a k.reached ia)
-          (shows_h k.j b reached_b ib) both.one both.two both.one_shown both.two_shown both.names_same
+          (met G lg O hg ga.0 a.after ga.1) (met H lh O' hh gb.0 b.after gb.1)
+          (round_shows leaves modules parts size s is src k.i a k.reached ia)
+          (round_shows leaves modules' parts' size s' is' src' k.j b reached_b ib) both.one both.two
+          both.one_shown both.two_shown both.names_same
 
       lows : told.wiped.low ≡ told_b.wiped.low
       lows =
@@ -674,9 +547,11 @@ module _ (begin : StartsBegin) (agree : StartsAgree) (leaves : SourcesLeaveNothi
 
       wiped : SameWiped G a b
       wiped =
-          wiped_same cs a b kb.alike.seen.1 ga gb told.wiped.low told_b.wiped.low told.wiped.wiped
+          wiped_same G H names O O' hg hh cs a b kb.alike.seen.1 ga gb told.wiped.low told_b.wiped.low
+          told.wiped.wiped
           told_b.wiped.wiped lows
-          (same_ends cs cross.0 a b cross.1 told.wiped.wiped.end told_b.wiped.wiped.end told.wiped.wiped.stk
+          (same_ends G H names cs cross.0 a b cross.1 told.wiped.wiped.end told_b.wiped.wiped.end
+          told.wiped.wiped.stk
           told_b.wiped.wiped.stk)
 
       behind : Point cross.0 a.after b.after
@@ -685,6 +560,7 @@ module _ (begin : StartsBegin) (agree : StartsAgree) (leaves : SourcesLeaveNothi
         es' = k.es' ++ told_b.shown ∷ [];
         xs = xs;
         xs' = ys;
+        fed = same_feed;
         b = told.since.0;
         b' = told_b.since.0;
         since = told.since.1;
@@ -692,11 +568,12 @@ module _ (begin : StartsBegin) (agree : StartsAgree) (leaves : SourcesLeaveNothi
         count = (let x = length-append k.es (told.shown ∷ []) in
             let y = length-append k.es' (told_b.shown ∷ []) in
             let z = k.count in omega (arith, x, y, z));
-        all = all_behind cs cross.0 a b cross.1 xs ys all_in;
-        calls = calls_behind cs cross.0 a b cross.1
-            (calls_kept G H names cs a.before.frames b.before.frames a.after.frames b.after.frames kb.calls
-            (λ n m c f. kept_g k.i n f a k.reached ia (kb.below.first n m c))
-            (λ n m c f. kept_h k.j m f b reached_b ib (kb.below.second n m c)));
+        all = all_behind G H names cs cross.0 a b cross.1 xs ys all_in;
+        open_calls = calls_behind G H names cs cross.0 a b cross.1
+            (calls_kept G H names cs a.before.frames b.before.frames a.after.frames b.after.frames
+            kb.open_calls
+            (λ n m c f. open_since G lg O hg k.i n f a k.reached ia (kb.below.first n m c))
+            (λ n m c f. open_since H lh O' hh k.j m f b reached_b ib (kb.below.second n m c)));
         i = ga.0;
         j = gb.0;
         reached = ga.1;
@@ -714,15 +591,16 @@ module _ (begin : StartsBegin) (agree : StartsAgree) (leaves : SourcesLeaveNothi
       pub met_again : (ds : Calls) × Point ds a.after b.after
       met_again = (cross.0, behind)
 
-      items_b : event_items (layout s) (flat_view (layout s) a.entered)
-          (step_event (layout s) a.before a.entered)
-          ≡ event_items (layout s') (flat_view (layout s') b.entered)
-          (step_event (layout s') b.before b.entered)
+      items_b : SameFeed calls (event_items (layout s) (flat_view (layout s) a.entered)
+          (step_event (layout s) a.before a.entered))
+          (event_items (layout s') (flat_view (layout s') b.entered)
+          (step_event (layout s') b.before b.entered))
       items_b = come_items cs a.before p' k a.entered q' ia.comes e' c
-          ∙ sym (ap (λ z. event_items (layout s') (flat_view (layout s') z) (step_event (layout s') p' z)) ee)
+          ∙ sym (ap (λ z. feed_named calls.other (event_items (layout s') (flat_view (layout s') z)
+          (step_event (layout s') p' z))) ee)
           ∙ sym
-          (ap (λ z. event_items (layout s') (flat_view (layout s') b.entered)
-          (step_event (layout s') z b.entered)) eb)
+          (ap (λ z. feed_named calls.other (event_items (layout s') (flat_view (layout s') b.entered)
+          (step_event (layout s') z b.entered))) eb)
 
       joined : (n : ℕ) (as_ : List Round) (q : OState) → Result n cross.0 as_ q b.after
           → Result (suc n) cs (a ∷ as_) q p'
@@ -732,9 +610,11 @@ module _ (begin : StartsBegin) (agree : StartsAgree) (leaves : SourcesLeaveNothi
             b ∷ r.1,
             spec.inside b ib r.2,
             round a b cb cross.1 r.3,
-            ap (λ z. z ++ items_in (layout s) as_ q) items_b
-                ∙ ap (λ z. event_items (layout s') (flat_view (layout s') b.entered)
-                (step_event (layout s') b.before b.entered) ++ z) r.4,
+            map-append (item_named calls.one) _ (items_in (layout s) as_ q)
+                ∙ ap (λ z. z ++ feed_named calls.one (items_in (layout s) as_ q)) items_b
+                ∙ ap (λ z. feed_named calls.other (event_items (layout s') (flat_view (layout s') b.entered)
+                (step_event (layout s') b.before b.entered)) ++ z) r.4
+                ∙ sym (map-append (item_named calls.other) _ (items_in (layout s') r.1 r.0)),
           )
 
   -- ---- runs
@@ -767,8 +647,9 @@ module _ (begin : StartsBegin) (agree : StartsAgree) (leaves : SourcesLeaveNothi
     since = since_start.none_yet;
     since' = since_start.none_yet;
     count = refl;
+    fed = refl;
     all = tt;
-    calls = λ n m c. absurd c;
+    open_calls = λ n m c. absurd c;
     i = 0;
     j = 0;
     reached = Reached.begins;

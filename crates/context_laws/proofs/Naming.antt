@@ -33,7 +33,7 @@ use Rattle.source_starts.proofs.Offers.{import_words, own_words}
 use Rattle.context_laws.specs.Related.{SameNames, Calls, SameWord, ours, code_halves, data_halves}
 use Rattle.context_laws.specs.Sources.{SameImported}
 use Rattle.context_laws.specs.Meanings.{Name, Exports, Came, Nothing, own_name, import_name, name_of}
-use Rattle.context_laws.specs.Meanings.{GoByNames}
+use Rattle.context_laws.specs.Meanings.{CallNames, GoByNames}
 use Rattle.context_laws.proofs.History.{AllAlike, words_alike, word_alike}
 
 abbrev pub zero_word : OWord
@@ -91,8 +91,8 @@ module _ (begin : StartsBegin) (modules : List ModuleFields) (parts : List PartS
 open_part : (g : Link) (p : PartSeen) → IsUntrusted g p → IsOpenSeal g p.component.closure
 open_part g p u = (p, u, rw (eq-eqb p.component.closure p.component.closure refl) refl)
 
-module _ (g h : Link) (names : SameNames g h) (by_names : GoByNames names) (cs : Calls)
-    (is is' : List (Thing OWord Back)) (all : AllAlike g h names cs is is') where
+module _ (g h : Link) (names : SameNames g h) {calls : CallNames} (by_names : GoByNames calls names)
+    (cs : Calls) (is is' : List (Thing OWord Back)) (all : AllAlike g h names cs is is') where
   half_same : (x y : Exported) (k : Import) → imported g.parts k ≡ Some x → imported h.parts k ≡ Some y
       → (z : PairHalf) → SameWord g h names cs (exported_half x z) (exported_half y z)
   half_same x y k e f z = by z (by_names.exports k x y e f)

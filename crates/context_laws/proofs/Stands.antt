@@ -33,12 +33,13 @@ use Rattle.context_laws.specs.Related.{SameNames, Calls, ComesAlike, StepsAlike,
 use Rattle.context_laws.specs.Related.{both_stay, both_come}
 use Rattle.context_laws.specs.Lockstep.{Round, IsRound, Holds}
 use Rattle.context_laws.specs.Sources.{AreBeside, ImportTheSame}
-use Rattle.context_laws.specs.Meanings.{TellsAsMuch, GoByNames}
+use Rattle.context_laws.specs.Meanings.{CallNames, TellsAsMuch, GoByNames}
 use Rattle.context_laws.specs.Ends.{EndsAsWell, SameResult}
 use Rattle.context_laws.proofs.Sources.{StartsAgree, linked_is, holds_is}
 use Rattle.context_laws.proofs.Open.{has_sites, met, flat_same}
 use Rattle.context_laws.proofs.Jumps.{Flat, f_ours, f_code, f_data, f_ret, f_frame}
-use Rattle.context_laws.proofs.Meanings.{SourcesMeanAll, Point, steps_alike, stays, comes_too, shows_h}
+use Rattle.context_laws.proofs.Meanings.{SourcesMeanAll, Point, steps_alike, stays, comes_too}
+use Rattle.context_laws.proofs.Behind.{round_shows}
 use Rattle.context_laws.proofs.Meanings.{one_feed, came, came_too, other, met_again}
 use Rattle.context_laws.proofs.Arrivals.{first_met}
 use Rattle.context_laws.proofs.Inside.{HaltsToo, FailsToo, halts_inside, fails_inside, first_shows}
@@ -56,10 +57,12 @@ module _ (begin : StartsBegin) (agree : StartsAgree) (leaves : SourcesLeaveNothi
     (modules modules' : List ModuleFields) (parts parts' : List PartSeen) (size : ℕ) (s s' : StartSeen)
     (is : IsStartOf parts size s) (is' : IsStartOf parts' size s') (src : AreSources modules parts)
     (src' : AreSources modules' parts')
-    (names : SameNames (linked_at parts size s) (linked_at parts' size s')) (by_names : GoByNames names)
+    (names : SameNames (linked_at parts size s) (linked_at parts' size s')) {calls : CallNames}
+    (by_names : GoByNames calls names)
     (beside : AreBeside (linked_at parts size s) (linked_at parts' size s'))
-    (imports : ImportTheSame names) (same : TellsAsMuch (map part_of modules) (map part_of modules') size)
-    (ends : EndsAsWell (map part_of modules) (map part_of modules') size) where
+    (imports : ImportTheSame names) (same : TellsAsMuch calls (map part_of modules) (map part_of modules')
+    size)
+    (ends : EndsAsWell calls (map part_of modules) (map part_of modules') size) where
   abbrev G : Link
   G = linked_at parts size s
 
@@ -158,8 +161,8 @@ module _ (begin : StartsBegin) (agree : StartsAgree) (leaves : SourcesLeaveNothi
       later_shows : (q m : OState) → Until (layout s') e' q → overlay_step (layout s') q ≡ goes m
           → is_inside (layout s') m ≡ false → Shows (layout s') q m
       later_shows q m v g out =
-          shows_h begin agree leaves words wipes means modules modules' parts parts' size s s' is is' src src'
-          names by_names same k.j (record { before = b'; entered = e'; last = q; after = m }) k.reached'
+          round_shows leaves modules' parts' size s' is' src' k.j
+          (record { before = b'; entered = e'; last = q; after = m }) k.reached'
           (record { outside = k.outside'; comes = x'; until = v; lets = g; gone = out })
 
   -- ---- where the one ends
@@ -174,7 +177,7 @@ module _ (begin : StartsBegin) (agree : StartsAgree) (leaves : SourcesLeaveNothi
         k.reached',
         y,
         same_result G H names _ _
-            (flat_same G H names cs p.frames p'.frames k.calls (has_sites G lg O hg k.i p k.reached)
+            (flat_same G H names cs p.frames p'.frames k.open_calls (has_sites G lg O hg k.i p k.reached)
             (has_sites H lh O' hh k.j p' k.reached') _ _ (k.alike.seen.0 A0)
             (met G lg O hg k.i p k.reached A0) (met H lh O' hh k.j p' k.reached' A0)),
       )
@@ -184,14 +187,17 @@ module _ (begin : StartsBegin) (agree : StartsAgree) (leaves : SourcesLeaveNothi
 
       by : Stands p → HaltsToo s s' p
       by (not_yet i' u) =
-          halts_inside begin agree leaves words wipes means modules modules' parts parts' size s s' is is' src src' ends [] [] [] []
+          halts_inside begin agree leaves words wipes means modules modules' parts parts' size s s' is is' src
+          src' calls ends [] [] [] []
           O O' O O' p none_yet none_yet refl 0 Reached.begins i' u
-          (first_shows begin agree leaves words wipes means modules modules' parts parts' size s s' is is' src src' ends) h
+          (first_shows begin agree leaves words wipes means modules modules' parts parts' size s s' is is' src
+          src' calls ends) h
       by (beyond cs p' k) = outside cs p' k
           (steps_alike begin agree leaves words wipes means modules modules' parts parts' size s s' is is' src
           src' names by_names same cs p p' k)
       by (within cs b b' d d' k x x' i' c u) =
-          halts_inside begin agree leaves words wipes means modules modules' parts parts' size s s' is is' src src' ends k.es
+          halts_inside begin agree leaves words wipes means modules modules' parts parts' size s s' is is' src
+          src' calls ends k.es
           k.es' _ _ b b' d d' p
           (came begin agree leaves words wipes means modules modules' parts parts' size s s' is is' src src'
           names by_names same cs b b' d k x d' x' c)
@@ -212,14 +218,17 @@ module _ (begin : StartsBegin) (agree : StartsAgree) (leaves : SourcesLeaveNothi
 
       by : Stands p → FailsToo s'
       by (not_yet i' u) =
-          fails_inside begin agree leaves words wipes means modules modules' parts parts' size s s' is is' src src' ends [] [] [] []
+          fails_inside begin agree leaves words wipes means modules modules' parts parts' size s s' is is' src
+          src' calls ends [] [] [] []
           O O' O O' p none_yet none_yet refl 0 Reached.begins i' u
-          (first_shows begin agree leaves words wipes means modules modules' parts parts' size s s' is is' src src' ends) h
+          (first_shows begin agree leaves words wipes means modules modules' parts parts' size s s' is is' src
+          src' calls ends) h
       by (beyond cs p' k) = outside cs p' k
           (steps_alike begin agree leaves words wipes means modules modules' parts parts' size s s' is is' src
           src' names by_names same cs p p' k)
       by (within cs b b' d d' k x x' i' c u) =
-          fails_inside begin agree leaves words wipes means modules modules' parts parts' size s s' is is' src src' ends k.es
+          fails_inside begin agree leaves words wipes means modules modules' parts parts' size s s' is is' src
+          src' calls ends k.es
           k.es' _ _ b b' d d' p
           (came begin agree leaves words wipes means modules modules' parts parts' size s s' is is' src src'
           names by_names same cs b b' d k x d' x' c)

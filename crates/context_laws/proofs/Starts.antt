@@ -192,7 +192,8 @@ module _ (g h : Link) (names : SameNames g h) (lg : Linked g) (lh : Linked h) wh
           by p t None i q = q
           by p t (Some w) i q = (let bad : Some w ≡ None = sym (alone g one_g p w t.0 i) ∙ e in cc)
 
-      cells_pair : CellPair (SameWord g h names []) (IsFreeAt g) (option_map Plain (start_cell g.parts g.size a))
+      cells_pair : CellPair (SameWord g h names []) (IsFreeAt g)
+          (option_map Plain (start_cell g.parts g.size a))
           (option_map Plain (start_cell h.parts h.size a))
       unfolding start_cell
       cells_pair =
@@ -213,44 +214,46 @@ module _ (g h : Link) (names : SameNames g h) (lg : Linked g) (lh : Linked h) wh
 module _ (begin : StartsBegin) (parts parts' : List PartSeen) (size size' : ℕ) (s s' : StartSeen)
     (is : IsStartOf parts size s) (is' : IsStartOf parts' size' s')
     (names : SameNames (linked_at parts size s) (linked_at parts' size' s'))
-    (beside : AreBeside (linked_at parts size s) (linked_at parts' size' s')) (imports : ImportTheSame names)
-  where
-    abbrev G : Link
-    G = linked_at parts size s
+    (beside : AreBeside (linked_at parts size s) (linked_at parts' size' s'))
+    (imports : ImportTheSame names) where
+  abbrev G : Link
+  G = linked_at parts size s
 
-    abbrev H : Link
-    H = linked_at parts' size' s'
+  abbrev H : Link
+  H = linked_at parts' size' s'
 
-    one_held : HoldsFor (placed parts size) size (overlay_at s) s.state.maps
-    one_held = begin s (overlay_at s) (is_overlay (placed parts size) size s is) (placed parts size) size is
+  one_held : HoldsFor (placed parts size) size (overlay_at s) s.state.maps
+  one_held = begin s (overlay_at s) (is_overlay (placed parts size) size s is) (placed parts size) size is
 
-    other_held : HoldsFor (placed parts' size') size' (overlay_at s') s'.state.maps
-    other_held =
-        begin s' (overlay_at s') (is_overlay (placed parts' size') size' s' is') (placed parts' size') size' is'
+  other_held : HoldsFor (placed parts' size') size' (overlay_at s') s'.state.maps
+  other_held =
+      begin s' (overlay_at s') (is_overlay (placed parts' size') size' s' is') (placed parts' size') size'
+      is'
 
-    pub start_cells_alike : (a : ℕ) → IsFreeAt G a → CellPair (SameWord G H names []) (IsFreeAt G)
-        (cell (overlay_at s).state.maps.cells a) (cell (overlay_at s').state.maps.cells a)
-    start_cells_alike a free = by _ _ refl refl
-      where
-        by : (x y : Option OWord) → cell (overlay_at s).state.maps.cells a ≡ x
-            → cell (overlay_at s').state.maps.cells a ≡ y
-            → CellPair (SameWord G H names []) (IsFreeAt G)
-            (cell (overlay_at s).state.maps.cells a) (cell (overlay_at s').state.maps.cells a)
-        by None y e f = rw e tt
-        by (Some w) None e f = rw (e, f) tt
-        by (Some w) (Some v) e f =
-            let free' : IsFreeAt H a = names.free a
-            (in_region_of G (overlay_at s).state s.state.maps one_held.holds a w e)
-            (in_region_of H (overlay_at s').state s'.state.maps other_held.holds a v f) free in
-            let one = (is_overlay (placed parts size) size s is).cells a
-            ∙ start_word_is (placed parts size) size s is a ∙ ap (option_map Plain) (is.starts.state.cells a) in
-            let two = (is_overlay (placed parts' size') size' s' is').cells a
-            ∙ start_word_is (placed parts' size') size' s' is' a
-            ∙ ap (option_map Plain) (is'.starts.state.cells a)
-            in
-            rw (one, two) (cells_pair G H names one_held.linked other_held.linked beside imports a free free'
-            (one_at (placed parts size) size is.rules one_held.linked.parts)
-            (one_at (placed parts' size') size' is'.rules other_held.linked.parts))
+  pub start_cells_alike : (a : ℕ) → IsFreeAt G a → CellPair (SameWord G H names []) (IsFreeAt G)
+      (cell (overlay_at s).state.maps.cells a) (cell (overlay_at s').state.maps.cells a)
+  start_cells_alike a free = by _ _ refl refl
+    where
+      by : (x y : Option OWord) → cell (overlay_at s).state.maps.cells a ≡ x
+          → cell (overlay_at s').state.maps.cells a ≡ y
+          → CellPair (SameWord G H names []) (IsFreeAt G)
+          (cell (overlay_at s).state.maps.cells a) (cell (overlay_at s').state.maps.cells a)
+      by None y e f = rw e tt
+      by (Some w) None e f = rw (e, f) tt
+      by (Some w) (Some v) e f =
+          let free' : IsFreeAt H a = names.free a
+          (in_region_of G (overlay_at s).state s.state.maps one_held.holds a w e)
+          (in_region_of H (overlay_at s').state s'.state.maps other_held.holds a v f) free in
+          let one = (is_overlay (placed parts size) size s is).cells a
+          ∙ start_word_is (placed parts size) size s is a ∙ ap (option_map Plain) (is.starts.state.cells a)
+          in
+          let two = (is_overlay (placed parts' size') size' s' is').cells a
+          ∙ start_word_is (placed parts' size') size' s' is' a
+          ∙ ap (option_map Plain) (is'.starts.state.cells a)
+          in
+          rw (one, two) (cells_pair G H names one_held.linked other_held.linked beside imports a free free'
+          (one_at (placed parts size) size is.rules one_held.linked.parts)
+          (one_at (placed parts' size') size' is'.rules other_held.linked.parts))
 
 pub placed_alike : StartsBegin → PlacedStartsAlike
 placed_alike begin parts parts' size s s' is is' names beside imports main =

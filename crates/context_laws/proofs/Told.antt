@@ -18,6 +18,7 @@ use Rattle.component_linker.specs.Owners.{owner_of}
 use Rattle.component_linker.specs.Start.{Exported, code_of}
 use Rattle.trusted_border.specs.declared.layout.SiteCode.{SiteCode}
 use Rattle.trusted_border.specs.declared.events.Event.TheVariants.{Entered}
+use Rattle.trusted_border.specs.declared.events.Back.{Back}
 use Rattle.trusted_border.specs.Layout.{site_code}
 use Rattle.trusted_border.specs.Reaches.{closure_owner, entry_number, site_of_seal, hop_in, hop_to, back_of}
 use Rattle.trusted_border.specs.Reaches.{back_if, back_under}
@@ -35,6 +36,7 @@ use Rattle.trace_tool.specs.Pairs.{if_normal, content_linear, pair_to, pair_if, 
 use Rattle.trace_tool.specs.Lines.{args_of, feed_back, feed_pair}
 use Rattle.trace_tool.specs.Feed.{integer_in, integers_in, feed_pairs}
 use Rattle.source_events.specs.Left.{left_in, left_by}
+use Rattle.source_events.specs.declared.FeedBack.{FeedBack}
 use Rattle.source_events.specs.declared.FeedBack.TheVariants as way
 use Rattle.source_events.specs.declared.FeedPair.TheVariants as fed
 use Rattle.source_events.specs.declared.Item.{Item}
@@ -44,7 +46,8 @@ use Rattle.template_runs.proofs.Offers.{open_no_owner, if_bad}
 use Rattle.source_starts.proofs.Offers.{open_foreign, closure_foreign}
 use Rattle.context_laws.specs.Related.{SameNames, IsExport, Calls, SameWord}
 use Rattle.context_laws.specs.Related.{EnterAlike, ReturnAlike, ComesAlike, entered_at}
-use Rattle.context_laws.specs.Meanings.{GoByNames, told_name, export_name}
+use Rattle.context_laws.specs.Meanings.{CallNames, back_named, feed_named, SameFeed, GoByNames, told_name}
+use Rattle.context_laws.specs.Meanings.{export_name}
 use Rattle.context_laws.proofs.Jumps.{Flat, f_ours, f_code, f_data, f_ret, f_frame, Jump, fails, outside}
 use Rattle.context_laws.proofs.Jumps.{hops, back, jumps, plan_is, code_opened, data_opened, jump_same}
 use Rattle.context_laws.proofs.Open.{CallsAlike, HasSites, flat_same}
@@ -125,8 +128,8 @@ module _ (k : Link) (linked : Linked k) (told : NamesTold k.parts k.layout) wher
 
 -- ---- two links
 
-module _ (g h : Link) (names : SameNames g h) (by_names : GoByNames names) (lg : Linked g) (lh : Linked h)
-    (tg : NamesTold g.parts g.layout) (th : NamesTold h.parts h.layout) where
+module _ (g h : Link) (names : SameNames g h) {calls : CallNames} (by_names : GoByNames calls names)
+    (lg : Linked g) (lh : Linked h) (tg : NamesTold g.parts g.layout) (th : NamesTold h.parts h.layout) where
   int_same : (w v : Word) → Flat g h names w v → integer_in w ≡ integer_in v
   int_same _ _ (f_ours w o) = refl
   int_same _ _ (f_code x y t) = refl
@@ -172,38 +175,41 @@ module _ (g h : Link) (names : SameNames g h) (by_names : GoByNames names) (lg :
       let o' = (names.seals n).0 o in
       (foreign g lg tg n o, foreign h lh th n o', open_no_owner g lg n o, open_no_owner h lh n o')
 
+  -- where a return leads, with a call by its name
+  abbrev N : Back → FeedBack
+  N b = back_named calls.one (feed_back g.layout b)
+
+  abbrev M : Back → FeedBack
+  M b = back_named calls.other (feed_back h.layout b)
+
   abbrev B : (a b c d : Option Opened) → Type 0
-  B a b c d = feed_back g.layout (back_if (jumps a b) g.layout a b) ≡ feed_back h.layout
-      (back_if (jumps c d) h.layout c d)
+  B a b c d = N (back_if (jumps a b) g.layout a b) ≡ M (back_if (jumps c d) h.layout c d)
 
   back_same : (a b c d : Option Opened) → Jump g h names a b c d → B a b c d
   back_same _ _ _ _ (fails w v x y e f) =
-      ap (λ z. feed_back g.layout (back_if z g.layout w v)) e
-      ∙ ap (feed_back g.layout) (if_bad g.layout w v)
-      ∙ sym (ap (λ z. feed_back h.layout (back_if z h.layout x y)) f
-      ∙ ap (feed_back h.layout) (if_bad h.layout x y))
+      ap (λ z. N (back_if z g.layout w v)) e ∙ ap N (if_bad g.layout w v)
+      ∙ sym (ap (λ z. M (back_if z h.layout x y)) f ∙ ap M (if_bad h.layout x y))
   back_same _ _ _ _ (outside w v o) = by (jumps (Some w) (Some v))
     where
       no : (site_of_seal g.layout w.seal ≡ None) × (site_of_seal h.layout w.seal ≡ None)
           × (closure_owner g.layout w.seal ≡ None) × (closure_owner h.layout w.seal ≡ None)
       no = both_open w.seal o
 
-      by : (z : Bool) → feed_back g.layout (back_if z g.layout (Some w) (Some v))
-          ≡ feed_back h.layout (back_if z h.layout (Some w) (Some v))
+      by : (z : Bool) → N (back_if z g.layout (Some w) (Some v)) ≡ M (back_if z h.layout (Some w) (Some v))
       by false = refl
       by true = rw (no.0, no.1, no.2, no.3) refl
   back_same _ _ _ _ (hops x y u v t e f) =
       let ix = (names.exports x y t).0 in
       let iy = (names.exports x y t).1 in
-      ap (λ z. feed_back g.layout (back_if z g.layout (Some (code_opened x)) (Some (data_opened u)))) e
-      ∙ ap (λ z. feed_back g.layout (back_under g.layout z (code_opened x) (data_opened u)))
-      (no_site g lg tg x ix) ∙ back_told g lg tg x ix ∙ hop_same x y t
-      ∙ sym (ap (λ z. feed_back h.layout (back_if z h.layout (Some (code_opened y)) (Some (data_opened v)))) f
-      ∙ ap (λ z. feed_back h.layout (back_under h.layout z (code_opened y) (data_opened v)))
-      (no_site h lh th y iy) ∙ back_told h lh th y iy)
+      ap (λ z. N (back_if z g.layout (Some (code_opened x)) (Some (data_opened u)))) e
+      ∙ ap (λ z. N (back_under g.layout z (code_opened x) (data_opened u))) (no_site g lg tg x ix)
+      ∙ ap (back_named calls.one) (back_told g lg tg x ix) ∙ hop_same x y t
+      ∙ sym (ap (λ z. M (back_if z h.layout (Some (code_opened y)) (Some (data_opened v)))) f
+      ∙ ap (λ z. M (back_under h.layout z (code_opened y) (data_opened v))) (no_site h lh th y iy)
+      ∙ ap (back_named calls.other) (back_told h lh th y iy))
   back_same _ _ _ _ (back x y s u p b e f j k) =
       let n = by_names.sites x.site y.site p in
-      rw (j, k, sealed g lg tg x.site s e, sealed h lh th y.site u f, n.0, n.1, b) refl
+      rw (j, k, sealed g lg tg x.site s e, sealed h lh th y.site u f, n, b) refl
 
   pair_false : (a b c d : Option Opened) → is_some a ≡ is_some c → is_some b ≡ is_some d
       → feed_pair g.layout (pair_if false g.layout a b) ≡ feed_pair h.layout (pair_if false h.layout c d)
@@ -251,12 +257,12 @@ module _ (g h : Link) (names : SameNames g h) (by_names : GoByNames names) (lg :
 
   -- of words
   backs : (w v x y : Word) → Flat g h names w x → Flat g h names v y
-      → feed_back g.layout (back_of g.layout w v) ≡ feed_back h.layout (back_of h.layout x y)
+      → N (back_of g.layout w v) ≡ M (back_of h.layout x y)
   backs w v x y a b =
-      ap (λ z. feed_back g.layout (back_if z g.layout (opened_of w) (opened_of v))) (plan_is w v)
+      ap (λ z. N (back_if z g.layout (opened_of w) (opened_of v))) (plan_is w v)
       ∙ back_same (opened_of w) (opened_of v) (opened_of x) (opened_of y)
       (jump_same g h names lg lh w v x y a b)
-      ∙ sym (ap (λ z. feed_back h.layout (back_if z h.layout (opened_of x) (opened_of y))) (plan_is x y))
+      ∙ sym (ap (λ z. M (back_if z h.layout (opened_of x) (opened_of y))) (plan_is x y))
 
   pairs : (w v x y : Word) → Flat g h names w x → Flat g h names v y
       → feed_pair g.layout (pair_of g.layout w v) ≡ feed_pair h.layout (pair_of h.layout x y)
@@ -286,7 +292,8 @@ module _ (g h : Link) (names : SameNames g h) (by_names : GoByNames names) (lg :
     words_same d w = flat_same g h names cs q.frames r.frames al hg hh _ _ w (mg d) (mh d)
 
     by_enter : EnterAlike g h names cs o q p r
-        → event_items g.layout V (step_event g.layout o q) ≡ event_items h.layout U (step_event h.layout p r)
+        → SameFeed calls (event_items g.layout V (step_event g.layout o q))
+        (event_items h.layout U (step_event h.layout p r))
     by_enter e =
         let ix = (names.exports e.one e.other e.twins).0 in
         let iy = (names.exports e.one e.other e.twins).1 in
@@ -298,7 +305,7 @@ module _ (g h : Link) (names : SameNames g h) (by_names : GoByNames names) (lg :
         let a1 = words_same A1 (e.words A1 (λ z. cc) (λ z. cc)) in
         let a2 = words_same A2 (e.words A2 (λ z. cc) (λ z. cc)) in
         let a3 = words_same A3 (e.words A3 (λ z. cc) (λ z. cc)) in
-        enter_item g lg tg e.one ix o q e.pc e.event
+        ap (feed_named calls.one) (enter_item g lg tg e.one ix o q e.pc e.event)
         ∙ rw (
           n.0,
           n.1,
@@ -312,17 +319,19 @@ module _ (g h : Link) (names : SameNames g h) (by_names : GoByNames names) (lg :
           pairs _ _ _ _ a2 a3,
           backs _ _ _ _ rc rd,
         ) refl
-        ∙ sym (enter_item h lh th e.other iy p r e.pc_other e.event_other)
+        ∙ sym (ap (feed_named calls.other) (enter_item h lh th e.other iy p r e.pc_other e.event_other))
 
     by_return : ReturnAlike g h names cs o q p r
-        → event_items g.layout V (step_event g.layout o q) ≡ event_items h.layout U (step_event h.layout p r)
+        → SameFeed calls (event_items g.layout V (step_event g.layout o q))
+        (event_items h.layout U (step_event h.layout p r))
     by_return e =
         let n = by_names.sites e.frame.site e.frame_other.site e.sites in
-        ap (event_items g.layout V) e.event
-        ∙ rw (n.0, n.1, e.base, int_same _ _ (words_same A0 e.value)) refl
-        ∙ sym (ap (event_items h.layout U) e.event_other)
+        ap (λ z. feed_named calls.one (event_items g.layout V z)) e.event
+        ∙ rw (n, e.base, int_same _ _ (words_same A0 e.value)) refl
+        ∙ sym (ap (λ z. feed_named calls.other (event_items h.layout U z)) e.event_other)
 
     pub items_same : ComesAlike g h names cs o q p r
-        → event_items g.layout V (step_event g.layout o q) ≡ event_items h.layout U (step_event h.layout p r)
+        → SameFeed calls (event_items g.layout V (step_event g.layout o q))
+        (event_items h.layout U (step_event h.layout p r))
     items_same (inl e) = by_enter e
     items_same (inr e) = by_return e

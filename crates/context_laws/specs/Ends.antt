@@ -18,20 +18,21 @@ use Rattle.proc_semantics.specs.Values.{World}
 use Rattle.proc_semantics.specs.Marked.{refined}
 use Rattle.source_starts.specs.Sources.{AreSources, linked_at}
 use Rattle.context_laws.specs.Sources.{AreBeside}
-use Rattle.context_laws.specs.Meanings.{FeedFits, MeanTheSame}
+use Rattle.context_laws.specs.Meanings.{CallNames, AreOneToOne, swapped, FeedFits, SameFeed, MeanTheSame}
 
 -- ---- meanings
 
--- Where the one ends on a feed whose integers have 64 bits, so does the other, under some fuel: by `halt` with
--- the same value, by a failure, or with nothing left in the feed.
-abbrev pub EndsAsWell : World → World → ℕ → Type 0
-EndsAsWell world world' stack =
-    (feed : List Item) → FeedFits feed → (fuel : ℕ)
+-- Where the one ends on a feed whose integers have 64 bits, so does the other on the same feed, under some
+-- fuel: by `halt` with the same value, by a failure, or with nothing left in the feed.
+abbrev pub EndsAsWell : CallNames → World → World → ℕ → Type 0
+EndsAsWell calls world world' stack =
+    (feed feed' : List Item) → SameFeed calls feed feed' → FeedFits feed → (fuel : ℕ)
     → ((refined world stack feed fuel).end ≡ OutOfFuel → ⊥) → (enough : ℕ)
-    × ((refined world' stack feed enough).end ≡ (refined world stack feed fuel).end)
+    × ((refined world' stack feed' enough).end ≡ (refined world stack feed fuel).end)
 
-abbrev pub EndTheSame : World → World → ℕ → Type 0
-EndTheSame world world' stack = EndsAsWell world world' stack × EndsAsWell world' world stack
+abbrev pub EndTheSame : CallNames → World → World → ℕ → Type 0
+EndTheSame calls world world' stack =
+    EndsAsWell calls world world' stack × EndsAsWell (swapped calls) world' world stack
 
 -- ---- plain runs
 
@@ -80,8 +81,9 @@ pub record RunsEndAlike (s s' : StartSeen) : Type 0 where
 -- both links end alike, whichever part has main.
 abbrev pub SameMeaningsEndAlike : Type 0
 SameMeaningsEndAlike =
-    (modules modules' : List ModuleFields) (parts parts' : List PartSeen) (size : ℕ) (s s' : StartSeen)
+    (calls : CallNames) → AreOneToOne calls → (modules modules' : List ModuleFields)
+    (parts parts' : List PartSeen) (size : ℕ) (s s' : StartSeen)
     → IsStartOf parts size s → IsStartOf parts' size s' → AreSources modules parts
     → AreSources modules' parts' → AreBeside (linked_at parts size s) (linked_at parts' size s')
-    → MeanTheSame (map program_of modules) (map program_of modules') size
-    → EndTheSame (map program_of modules) (map program_of modules') size → RunsEndAlike s s'
+    → MeanTheSame calls (map program_of modules) (map program_of modules') size
+    → EndTheSame calls (map program_of modules) (map program_of modules') size → RunsEndAlike s s'

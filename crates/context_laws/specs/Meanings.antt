@@ -25,9 +25,12 @@ use Rattle.proc_program.specs.declared.program.ProgramImport.{ProgramImport as I
 use Rattle.proc_program.specs.Lower.{part_of as program_of}
 use Rattle.source_events.specs.declared.Item.{Item}
 use Rattle.source_events.specs.declared.Item.TheVariants.{Enter, Ret}
+use Rattle.source_events.specs.declared.FeedBack.{FeedBack}
+use Rattle.source_events.specs.declared.FeedBack.TheVariants as way
 use Rattle.proc_semantics.specs.Values.{World, fits_64, home_part, proc_in, import_in}
 use Rattle.proc_semantics.specs.Rules.{part_name_of}
 use Rattle.proc_semantics.specs.Marked.{PairHalf, Whence, OwnWord, ImportWord, CameWord, Event, refined}
+use Rattle.proc_semantics.specs.Marked.{Calls as CallsOut, Leaves}
 use Rattle.proc_semantics.specs.Marked.{report_to}
 use Rattle.source_laws.specs.Trace.{event_items}
 use Rattle.source_starts.specs.Sources.{AreSources, linked_at}
@@ -78,15 +81,73 @@ FeedFits [] = Unit {0}
 FeedFits (Enter part name left ints pairs back ∷ is) = NumbersFit ints × FeedFits is
 FeedFits (Ret part site base v ∷ is) = NumberFits v × FeedFits is
 
--- what the one tells of such a feed under a fuel, the other tells under some fuel, and perhaps more
-abbrev pub TellsAsMuch : World → World → ℕ → Type 0
-TellsAsMuch world world' stack =
-    (feed : List Item) → FeedFits feed → (fuel : ℕ) → (enough : ℕ) × (rest : List (Event Name ℕ))
-    × (observed world' stack feed enough ≡ observed world stack feed fuel ++ rest)
+-- ---- names of calls
 
--- each tells as much as the other: on each such feed the same is observed
-abbrev pub MeanTheSame : World → World → ℕ → Type 0
-MeanTheSame world world' stack = TellsAsMuch world world' stack × TellsAsMuch world' world stack
+-- Code outside can't see which number a call has in its part. So calls of two lists of modules are compared
+-- by names that are given to them: of a part and a number there, again a part and a number.
+abbrev pub Naming : Type 0
+Naming = List ℕ → ℕ → List ℕ × ℕ
+
+-- names for the calls of the one and of the other list; those of one name stand for each other
+pub record CallNames : Type 0 where
+  pub one : Naming
+  pub other : Naming
+
+-- no two calls of one list have one name
+abbrev pub NamesEach : Naming → Type 0
+NamesEach name = (part part' : List ℕ) (i j : ℕ) → name part i ≡ name part' j → (part ≡ part') × (i ≡ j)
+
+abbrev pub AreOneToOne : CallNames → Type 0
+AreOneToOne calls = NamesEach calls.one × NamesEach calls.other
+
+abbrev pub swapped : CallNames → CallNames
+swapped calls = record { one = calls.other; other = calls.one }
+
+-- each call has its own number for a name
+abbrev pub by_number : CallNames
+by_number = record { one = λ part i. (part, i); other = λ part i. (part, i) }
+
+-- items and events with calls by their names
+abbrev pub back_named : Naming → FeedBack → FeedBack
+back_named name way.Out = way.Out
+back_named name way.Bad = way.Bad
+back_named name (way.Hop part entry) = way.Hop part entry
+back_named name (way.Pair part i base) = way.Pair (name part i).0 (name part i).1 base
+
+abbrev pub item_named : Naming → Item → Item
+item_named name (Enter part entry left ints pairs back) =
+    Enter part entry left ints pairs (back_named name back)
+item_named name (Ret part i base v) = Ret (name part i).0 (name part i).1 base v
+
+abbrev pub feed_named : Naming → List Item → List Item
+feed_named name feed = map (item_named name) feed
+
+abbrev pub event_named : Naming → Event Name ℕ → Event Name ℕ
+event_named name (CallsOut part i base low x y xs) =
+    CallsOut (name part i).0 (name part i).1 base low x y xs
+event_named name (Leaves part v low k) = Leaves part v low k
+
+abbrev pub events_named : Naming → List (Event Name ℕ) → List (Event Name ℕ)
+events_named name es = map (event_named name) es
+
+-- the same feed, with calls by their names
+abbrev pub SameFeed : CallNames → List Item → List Item → Type 0
+SameFeed calls feed feed' = feed_named calls.one feed ≡ feed_named calls.other feed'
+
+-- ---- the same meaning
+
+-- what the one tells of a feed under a fuel, the other tells of the same feed under some fuel, and maybe more
+abbrev pub TellsAsMuch : CallNames → World → World → ℕ → Type 0
+TellsAsMuch calls world world' stack =
+    (feed feed' : List Item) → SameFeed calls feed feed' → FeedFits feed → (fuel : ℕ) → (enough : ℕ)
+    × (rest : List (Event Name ℕ))
+    × (events_named calls.other (observed world' stack feed' enough)
+    ≡ events_named calls.one (observed world stack feed fuel) ++ rest)
+
+-- each tells as much as the other: on each feed the same is observed
+abbrev pub MeanTheSame : CallNames → World → World → ℕ → Type 0
+MeanTheSame calls world world' stack =
+    TellsAsMuch calls world world' stack × TellsAsMuch (swapped calls) world' world stack
 
 -- ---- names of exports and sites
 
@@ -98,21 +159,23 @@ export_name (Some e) = e.name
 abbrev pub told_name : Exported → List ℕ
 told_name x = export_name (find (λ e. e.offset == x.export.offset) x.part.component.exports)
 
-abbrev pub IsSameSite : Layout → Layout → ℕ → ℕ → Type 0
-IsSameSite l m i j =
-    (part_name l (site_of l i).part ≡ part_name m (site_of m j).part)
-    × ((site_of l i).index ≡ (site_of m j).index)
+-- the name of the call of a site
+abbrev pub site_name : Naming → Layout → ℕ → List ℕ × ℕ
+site_name name l i = name (part_name l (site_of l i).part) (site_of l i).index
+
+abbrev pub IsSameSite : CallNames → Layout → Layout → ℕ → ℕ → Type 0
+IsSameSite calls l m i j = site_name calls.one l i ≡ site_name calls.other m j
 
 -- What stands for each other has one name: exports of trusted parts by the names of part and export, sites by
--- the name of the part and the number there.
-pub record GoByNames {g h : Link} (names : SameNames g h) : Type 0 where
+-- the names of calls.
+pub record GoByNames (calls : CallNames) {g h : Link} (names : SameNames g h) : Type 0 where
   pub exports : (i : Import) (x y : Exported) → imported g.parts i ≡ Some x → imported h.parts i ≡ Some y
       → SameImported names (Some x) (Some y)
   pub twins : (x y : Exported) → Contains names.twins (x, y)
       → (x.part.component.name ≡ y.part.component.name) × (told_name x ≡ told_name y)
-  pub sites : (i j : ℕ) → Contains names.sites (i, j) → IsSameSite g.layout h.layout i j
+  pub sites : (i j : ℕ) → Contains names.sites (i, j) → IsSameSite calls g.layout h.layout i j
   pub all_sites : (i j : ℕ) (s u : SiteCode) → site_code g.layout i ≡ Some s → site_code h.layout j ≡ Some u
-      → IsSameSite g.layout h.layout i j → Contains names.sites (i, j)
+      → IsSameSite calls g.layout h.layout i j → Contains names.sites (i, j)
 
 -- ---- the law
 
@@ -130,45 +193,49 @@ items_in l (r ∷ rs) q = event_items l (flat_view l r.entered) (step_event l r.
 
 -- from two points on: whatever code outside does in the run of the one link, it does in that of the other,
 -- step by step; as often it comes in and is let go, with the same items, and it ends alike
-abbrev pub GoesInStep : (g h : Link) → SameNames g h → Calls → OState → OState → Type 0
-GoesInStep g h names cs p p' =
+abbrev pub GoesInStep : CallNames → (g h : Link) → SameNames g h → Calls → OState → OState → Type 0
+GoesInStep calls g h names cs p p' =
     (n : ℕ) (q : OState) (as_ : List Round) → Path g.layout n p as_ q
     → (q' : OState) × (bs : List Round) × Path h.layout n p' bs q' × InStep g h names cs as_ bs q q'
-    × (items_in g.layout as_ q ≡ items_in h.layout bs q')
+    × SameFeed calls (items_in g.layout as_ q) (items_in h.layout bs q')
 
 -- Whether code outside or trusted code runs first is the same in both. Where code outside does, it does the
 -- same from the start on. Where trusted code does, and in the one lets go for the first time, so it does in
 -- the other, with the same shown; and from there on code outside does the same.
-pub record DoesTheSameBy (g h : Link) (names : SameNames g h) (s s' : StartSeen) : Type 0 where
-  pub first : is_inside (layout s) (overlay_at s).state ≡ is_inside (layout s') (overlay_at s').state
-  pub begins : is_inside (layout s) (overlay_at s).state ≡ false
-      → GoesInStep g h names [] (overlay_at s).state (overlay_at s').state
-  pub lets_go : (a : Round) → IsFirst s a → (b : Round) × IsFirst s' b × (cs : Calls)
-      × SameCrossing g h names [] a b cs × GoesInStep g h names cs a.after b.after
+pub record DoesTheSameBy (calls : CallNames) (g h : Link) (names : SameNames g h) (s s' : StartSeen) : Type 0
+  where
+    pub first : is_inside (layout s) (overlay_at s).state ≡ is_inside (layout s') (overlay_at s').state
+    pub begins : is_inside (layout s) (overlay_at s).state ≡ false
+        → GoesInStep calls g h names [] (overlay_at s).state (overlay_at s').state
+    pub lets_go : (a : Round) → IsFirst s a → (b : Round) × IsFirst s' b × (cs : Calls)
+        × SameCrossing g h names [] a b cs × GoesInStep calls g h names cs a.after b.after
 
 -- Sources of which the second tell as much as the first, linked beside each other: whatever code outside does
--- beside the first, it does beside the second, for any choice of which exports and sites stand for each other,
--- as long as those do that have one name.
+-- beside the first, it does beside the second, for any choice of which exports and sites stand for each
+-- other, as long as those do that have one name.
 abbrev pub SameMeaningsGoInStep : Type 0
 SameMeaningsGoInStep =
-    (modules modules' : List ModuleFields) (parts parts' : List PartSeen) (size : ℕ) (s s' : StartSeen)
+    (calls : CallNames) (modules modules' : List ModuleFields) (parts parts' : List PartSeen) (size : ℕ)
+    (s s' : StartSeen)
     → IsStartOf parts size s → IsStartOf parts' size s' → AreSources modules parts
     → AreSources modules' parts' → AreBeside (linked_at parts size s) (linked_at parts' size s')
-    → (names : SameNames (linked_at parts size s) (linked_at parts' size s')) → GoByNames names
-    → TellsAsMuch (map program_of modules) (map program_of modules') size
-    → DoesTheSameBy (linked_at parts size s) (linked_at parts' size s') names s s'
+    → (names : SameNames (linked_at parts size s) (linked_at parts' size s')) → GoByNames calls names
+    → TellsAsMuch calls (map program_of modules) (map program_of modules') size
+    → DoesTheSameBy calls (linked_at parts size s) (linked_at parts' size s') names s s'
 
 -- there are names by which they do
-abbrev pub DoesTheSame : (g h : Link) → StartSeen → StartSeen → Type 0
-DoesTheSame g h s s' = (names : SameNames g h) × GoByNames names × DoesTheSameBy g h names s s'
+abbrev pub DoesTheSame : CallNames → (g h : Link) → StartSeen → StartSeen → Type 0
+DoesTheSame calls g h s s' =
+    (names : SameNames g h) × GoByNames calls names × DoesTheSameBy calls g h names s s'
 
 -- So no code outside can tell them apart, where there is any: a part is untrusted.
 abbrev pub SameMeaningsAreNotToldApart : Type 0
 SameMeaningsAreNotToldApart =
-    (modules modules' : List ModuleFields) (parts parts' : List PartSeen) (size : ℕ) (s s' : StartSeen)
+    (calls : CallNames) → AreOneToOne calls → (modules modules' : List ModuleFields)
+    (parts parts' : List PartSeen) (size : ℕ) (s s' : StartSeen)
     → IsStartOf parts size s → IsStartOf parts' size s' → AreSources modules parts
     → AreSources modules' parts' → AreBeside (linked_at parts size s) (linked_at parts' size s')
     → (p : PartSeen) → IsUntrusted (linked_at parts size s) p
-    → MeanTheSame (map program_of modules) (map program_of modules') size
-    → DoesTheSame (linked_at parts size s) (linked_at parts' size s') s s'
-    × DoesTheSame (linked_at parts' size s') (linked_at parts size s) s' s
+    → MeanTheSame calls (map program_of modules) (map program_of modules') size
+    → DoesTheSame calls (linked_at parts size s) (linked_at parts' size s') s s'
+    × DoesTheSame (swapped calls) (linked_at parts' size s') (linked_at parts size s) s' s

@@ -1,6 +1,5 @@
 -- Two modules with one procedure each, shared under one name: what is to be shown of it, so that they mean
--- the
--- same.
+-- the same.
 use Rattle.std.proofs.Common.{◌≡◌, ℕ, ℤ, List, [], ◌∷◌, Option, Some, None, Bool, true, false, refl, sym}
 use Rattle.std.proofs.Common.{subst}
 use Rattle.std.specs.Prelude.{if◌then◌else◌, ◌&&◌}
