@@ -1,6 +1,5 @@
 -- Both modules with main mean the same.
-use Rattle.std.proofs.Common.{◌≡◌, ℕ, suc, ◌+◌, ◌-◌, pos, List, [], ◌∷◌, map, Option, Some, None, refl}
-use Rattle.source_events.specs.declared.Item.{Item}
+use Rattle.std.proofs.Common.{◌≡◌, ℕ, suc, ◌+◌, ◌-◌, pos, [], ◌∷◌, map, Option, Some, None, refl}
 use Rattle.proc_names.specs.Names.{variable_named, callee_named}
 use Rattle.proc_program.specs.declared.program.Program.{Program}
 use Rattle.proc_program.specs.declared.program.Procedure.{Procedure}
@@ -13,8 +12,9 @@ use Rattle.proc_semantics.specs.Rules.{Then, Level, level, enough, call, given_f
 use Rattle.proc_semantics.specs.Marked.{Whence, ImportWord, CodeHalf, DataHalf, Regs, Way}
 use Rattle.same_meanings.specs.Same.{tracing, LevelledThen, Waiter, wait_at, Sides, SameTold, SameCall}
 use Rattle.same_meanings.specs.Same.{SameWaits}
-use Rattle.same_meanings.specs.Same.{FeedOf, SameRefined, first_store}
-use Rattle.same_meanings.proofs.Offers.{both_deeper, ticks, both_wipe, both_call, both_halt, both_place}
+use Rattle.same_meanings.specs.Same.{SameRefined, first_store}
+use Rattle.same_meanings.proofs.Offers.{any_feed, both_deeper, ticks, both_wipe, both_call, both_halt}
+use Rattle.same_meanings.proofs.Offers.{both_place}
 use Rattle.same_meanings.proofs.Offers.{same_as}
 use Rattle.same_meanings.proofs.Offers.{tick}
 use Rattle.context_laws.specs.Meanings.{name_of, by_number, MeanTheSame}
@@ -147,10 +147,6 @@ callers_same size =
     single_decides S size (λ p n. both_found S U V _ _ p n one_single other_single) refl
     (λ n waits part called left ints pairs back k q q' s st st' h. proc_same n waits left _ _ q q' st st')
     (λ n waits c c' left v st st' h. hops n waits c c' left v st st') (λ n waits. starts n waits size)
-
-any_feed : (feed : List Item) → FeedOf (λ i. Unit {0}) feed
-any_feed [] = tt
-any_feed (i ∷ feed) = (tt, any_feed feed)
 
 pub callers_mean_the_same : (size : ℕ) → MeanTheSame by_number (map part_of (says ∷ []))
     (map part_of (adds ∷ [])) size

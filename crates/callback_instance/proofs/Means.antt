@@ -1,20 +1,15 @@
 -- What both modules mean: the same on each feed; and on one they call and answer.
-use Rattle.std.proofs.Common.{◌≡◌, ℕ, List, [], ◌∷◌, map, refl}
-use Rattle.source_events.specs.declared.Item.{Item}
+use Rattle.std.proofs.Common.{◌≡◌, ℕ, [], ◌∷◌, map, refl}
 use Rattle.proc_names.specs.Names.{variable_named, callee_named}
 use Rattle.proc_program.specs.Lower.{part_of}
 use Rattle.proc_semantics.specs.Values.{found, main_target}
-use Rattle.same_meanings.specs.Same.{FeedOf}
+use Rattle.same_meanings.proofs.Offers.{any_feed}
 use Rattle.context_laws.specs.Meanings.{name_of, observed, by_number, MeanTheSame}
 use Rattle.context_laws.specs.Meanings as observing
 use Rattle.context_laws.specs.Ends.{EndTheSame}
 use Rattle.context_laws.proofs.Offers.{settled_mean, settled_ends}
 use Rattle.callback_instance.specs.Passes.{passes, stores, asked, called_and_left}
 use Rattle.callback_instance.proofs.Passing.{passes_same}
-
-any_feed : (feed : List Item) → FeedOf (λ i. Unit {0}) feed
-any_feed [] = tt
-any_feed (i ∷ feed) = (tt, any_feed feed)
 
 pub mean_the_same : (size : ℕ) → MeanTheSame by_number (map part_of (passes ∷ [])) (map part_of (stores ∷ []))
     size

@@ -20,7 +20,8 @@ use Rattle.trusted_border.specs.declared.events.Event.TheVariants.{Entered, Retu
 use Rattle.overlay_machine.specs.declared.words.OWord.TheVariants.{Plain}
 use Rattle.overlay_machine.specs.declared.cases.Case.TheVariants.{Back}
 use Rattle.overlay_machine.specs.State.{OState, Cells}
-use Rattle.overlay_machine.specs.Step.{goes, halts, overlay_step}
+use Rattle.overlay_machine.specs.Step.{goes, halts, fails, overlay_step}
+use Rattle.overlay_machine.specs.Link.{Link}
 use Rattle.overlay_machine.specs.Events.{step_event, event_after, note_by}
 use Rattle.overlay_machine.specs.Flat.{flat}
 use Rattle.overlay_machine.specs.Starting.{overlay_at}
@@ -40,7 +41,9 @@ use Rattle.source_events.specs.declared.FeedPair.TheVariants as fed
 use Rattle.source_events.specs.declared.FeedBack.TheVariants as way
 use Rattle.source_laws.specs.Trace.{event_items}
 use Rattle.source_laws.specs.Secrets.{Until, still_there, one_more}
-use Rattle.context_laws.specs.Lockstep.{Round, IsRound, Path}
+use Rattle.context_laws.specs.Related.{SameNames, Calls, StepsAlike, both_halt, both_fail, both_stay}
+use Rattle.context_laws.specs.Related.{both_come}
+use Rattle.context_laws.specs.Lockstep.{Round, IsRound, Path, InStep, at_end, round}
 use Rattle.context_laws.specs.Lockstep as path
 use Rattle.context_laws.specs.Meanings.{by_number, SameMeaningsAreNotToldApart, item_by, items_in}
 use Rattle.context_laws.proofs.Offers.{numbers_apart, one_feed}
@@ -329,6 +332,21 @@ run = record {
   halted = halted;
 }
 
+-- what goes in step with a run that halts halts too
+halts_alike : (g h : Link) (names : SameNames g h) (cs : Calls) (q r : OState) → StepsAlike g h names cs q r
+    → overlay_step g.layout q ≡ halts → overlay_step h.layout r ≡ halts
+halts_alike g h names cs q r (both_halt a b) e = b
+halts_alike g h names cs q r (both_fail a b) e = let bad : fails ≡ halts = sym a ∙ e in absurd cc
+halts_alike g h names cs q r (both_stay q' r' a b i j k l m) e =
+    let bad : goes q' ≡ halts = sym a ∙ e in absurd cc
+halts_alike g h names cs q r (both_come q' r' a b i j m) e =
+    let bad : goes q' ≡ halts = sym a ∙ e in absurd cc
+
+halts_too : {g h : Link} {names : SameNames g h} {cs : Calls} {as_ bs : List Round} {q r : OState}
+    → InStep g h names cs as_ bs q r → overlay_step g.layout q ≡ halts → overlay_step h.layout r ≡ halts
+halts_too (at_end alike steps) e = halts_alike _ _ _ _ _ _ steps e
+halts_too (round a b comes crossing more) e = halts_too more e
+
 pub passers_call_back : SameMeaningsAreNotToldApart → PassersCallBack
 passers_call_back law =
     let t = links_there in
@@ -346,4 +364,5 @@ passers_call_back law =
       path = r.2;
       in_step = r.3;
       came = sym (one_feed _ _ r.4) ∙ run.came;
+      halted = halts_too r.3 run.halted;
     }

@@ -48,7 +48,7 @@ pub record RunCallsBack (s : StartSeen) : Type 0 where
   pub halted : overlay_step (layout s) last ≡ halts
 
 -- In the link of the one module there is such a run, and in the link of the other one beside it a run in step
--- with it, in which the same items come in.
+-- with it, in which the same items come in, and which halts too.
 pub record PassersCallBack : Type 0 where
   pub there : PassersBeside
   pub one : RunCallsBack there.start
@@ -62,3 +62,4 @@ pub record PassersCallBack : Type 0 where
       (linked_at there.parts_too there.size there.start_too) names [] (one.first ∷ one.second ∷ []) rounds
       one.last last
   pub came : items_in (layout there.start_too) rounds last ≡ asked
+  pub halted : overlay_step (layout there.start_too) last ≡ halts

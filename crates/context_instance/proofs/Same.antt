@@ -3,7 +3,6 @@ use Rattle.std.proofs.Common.{◌≡◌, ℕ, zero, suc, ◌+◌, ◌-◌, ℤ, 
 use Rattle.std.proofs.Common.{Option, Some, None, true, false, refl, sym, ap, ◌∙◌, arith, subst}
 use Rattle.std.specs.Prelude.{slice_index_or, ◌^◌}
 use Rattle.std.proofs.lemmas.Bool.Decides.{Decides-int_eq}
-use Rattle.source_events.specs.declared.Item.{Item}
 use Rattle.source_events.specs.declared.MeaningEnd.TheVariants.{OutOfFuel}
 use Rattle.proc_language.specs.declared.tree.Op.TheVariants.{Plus}
 use Rattle.proc_names.specs.Names.{variable_named}
@@ -19,12 +18,13 @@ use Rattle.proc_semantics.specs.Rules.{finish}
 use Rattle.proc_semantics.specs.Rules.{level}
 use Rattle.proc_semantics.specs.Marked.{Whence, Frame, Thing}
 use Rattle.proc_semantics.specs.Marked as tagged
-use Rattle.same_meanings.specs.Same.{wait_at, tracing, Upshot, upshot, Sides, SameTold, FeedOf, SameRefined}
+use Rattle.same_meanings.specs.Same.{wait_at, tracing, Upshot, upshot, Sides, SameTold, SameRefined}
 use Rattle.same_meanings.specs.Straight.{Outcome, Gives, GoesOn, with_some, followed, body_outcome}
 use Rattle.same_meanings.specs.Straight.{SameOutcome}
 use Rattle.same_meanings.specs.Straight.{both_break, both_give, SameValue, SameValues, a_number, a_closure}
 use Rattle.same_meanings.specs.Straight.{an_other, no_values, and_value, SameStraight}
-use Rattle.same_meanings.proofs.Offers.{tick, both_deeper, ticks, both_place, both_wipe, both_number}
+use Rattle.same_meanings.proofs.Offers.{any_feed, tick, both_deeper, ticks, both_place, both_wipe}
+use Rattle.same_meanings.proofs.Offers.{both_number}
 use Rattle.same_meanings.proofs.Offers.{same_as, starts_without, straight_decide, behind_same}
 use Rattle.same_meanings.proofs.Offers.{head_of, it, Both, of_both, HopSame, IsSingle, both_found}
 use Rattle.context_laws.specs.Meanings.{name_of, by_number, MeanTheSame}
@@ -296,10 +296,6 @@ ways_same size = straight_decide S size (record {
       left v st st' h;
   starts = λ n waits. starts_without S size n no_main.0 no_main.1 (pos 0, refl) waits;
 })
-
-any_feed : (feed : List Item) → FeedOf (λ i. Unit {0}) feed
-any_feed [] = tt
-any_feed (i ∷ feed) = (tt, any_feed feed)
 
 pub mean_the_same : (size : ℕ) → MeanTheSame by_number (map part_of (sums ∷ [])) (map part_of (keeps ∷ []))
     size

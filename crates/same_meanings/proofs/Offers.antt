@@ -8,7 +8,7 @@ pub use Rattle.same_meanings.proofs.Steps.{fewer, of_none, same_as, both_deeper,
 pub use Rattle.same_meanings.proofs.Steps.{both_fail, both_halt, both_wipe, both_call, both_leave, both_take}
 pub use Rattle.same_meanings.proofs.Steps.{both_number, both_place, both_choose}
 -- where the feed is asked, and the whole
-pub use Rattle.same_meanings.proofs.Waits.{all_waits, starts_without, procedures_decide}
+pub use Rattle.same_meanings.proofs.Waits.{all_waits, starts_without, procedures_decide, any_feed}
 -- code without calls and loops tells what its outcome tells, whatever ticks it takes
 pub use Rattle.same_meanings.proofs.Straight.{went, expr_tells, stmt_tells, block_tells, body_tells}
 pub use Rattle.same_meanings.proofs.Bodies.{behind_same, bodies_same, straight_same, fed_same}

@@ -1,5 +1,5 @@
 -- Where the feed is asked, two meanings tell the same if their procedures do.
-use Rattle.std.proofs.Common.{◌≡◌, ℕ, zero, suc, ◌+◌, ℤ, List, length, Option, Some, None}
+use Rattle.std.proofs.Common.{◌≡◌, ℕ, zero, suc, ◌+◌, ℤ, List, [], ◌∷◌, length, Option, Some, None}
 use Rattle.std.proofs.Common.{sym, ap, ◌∙◌, subst, arith}
 use Rattle.source_events.specs.declared.Item.{Item}
 use Rattle.source_events.specs.declared.Item.TheVariants.{Enter, Ret}
@@ -11,7 +11,7 @@ use Rattle.proc_semantics.specs.Values.{Store, found, main_target}
 use Rattle.proc_semantics.specs.Rules.{Level, level, start, part_name_of, hopped, left_by, entered}
 use Rattle.proc_semantics.specs.Rules.{on_item}
 use Rattle.proc_semantics.specs.Marked.{numbered_items}
-use Rattle.same_meanings.specs.Same.{tracing, Waiter, wait_at}
+use Rattle.same_meanings.specs.Same.{tracing, Waiter, wait_at, FeedOf}
 use Rattle.same_meanings.specs.Same.{Sides, numbered, first_store, SameTold, SameThen, SameWait}
 use Rattle.same_meanings.specs.Same.{SameWaits, BothFound, SameProcedures, SameRefined, ProceduresDecide}
 use Rattle.same_meanings.proofs.Steps.{of_none, same_as, both_deeper, both_fail, both_leave, both_take, later}
@@ -119,3 +119,8 @@ starts_without S size n e e' st waits =
 
 pub procedures_decide : ProceduresDecide
 procedures_decide S size P = refined_same S size P
+
+-- of feeds of which nothing is asked
+pub any_feed : (feed : List Item) → FeedOf (λ i. Unit {0}) feed
+any_feed [] = tt
+any_feed (i ∷ feed) = (tt, any_feed feed)
