@@ -1,20 +1,15 @@
 -- Sources that mean the same can't be told apart, where main is theirs.
-use Rattle.std.proofs.Common.{◌≡◌, ℕ, ◌+◌, List, [], ◌∷◌, map, Some, true, refl, sym, ap, ◌∙◌, subst, arith}
+use Rattle.std.proofs.Common.{◌≡◌, ℕ, ◌+◌, [], ◌∷◌, map, Some, true, refl, sym, ap, ◌∙◌, subst, arith}
 use Rattle.std.specs.Prelude.{slice_get}
-use Rattle.component_linker.specs.Parts.{PartSeen}
 use Rattle.component_linker.specs.Standing.{placed}
-use Rattle.component_linker.specs.Started.{StartSeen}
-use Rattle.component_linker.specs.LinkedStarts.{IsStartOf}
 use Rattle.overlay_machine.specs.State.{OState}
 use Rattle.overlay_machine.specs.Events.{step_event}
 use Rattle.overlay_machine.specs.Link.{Link}
-use Rattle.overlay_machine.specs.Linked.{Linked}
 use Rattle.overlay_machine.specs.Runs.{Reached, goes_on}
-use Rattle.overlay_machine.specs.Starting.{overlay_at, StartsBegin}
+use Rattle.overlay_machine.specs.Starting.{overlay_at}
 use Rattle.trace_tool.specs.Layout.{layout}
 use Rattle.template_runs.specs.Runs.{is_inside}
 use Rattle.template_runs.specs.Border.{Shows}
-use Rattle.proc_language.specs.declared.module.ModuleFields.{ModuleFields}
 use Rattle.proc_program.specs.Lower.{part_of}
 use Rattle.proc_semantics.specs.Values.{World}
 use Rattle.proc_semantics.specs.Marked.{Event, Whence, refined, event_to}
@@ -23,16 +18,13 @@ use Rattle.source_laws.specs.Words.{word_from, back_at}
 use Rattle.source_laws.specs.Wiped.{none_yet, low_of}
 use Rattle.source_laws.specs.Secrets.{Until}
 use Rattle.source_laws.specs.Secrets as secrets
-use Rattle.source_starts.specs.Sources.{AreSources, linked_at, SourcesLeaveNothing}
-use Rattle.source_starts.specs.Words.{slots, SourcesTellWords}
-use Rattle.source_starts.specs.Wiped.{WipedCellsAreTold}
+use Rattle.source_starts.specs.Words.{slots}
 use Rattle.context_laws.specs.Related.{SameNames, Calls}
-use Rattle.context_laws.specs.Lockstep.{Round, SameCrossing, by_call, by_leave, SameWiped, Holds, Tidies}
+use Rattle.context_laws.specs.Lockstep.{Round, SameCrossing, by_call, by_leave, SameWiped}
 use Rattle.context_laws.specs.Sources.{AreBeside, ImportTheSame, IsFirst}
 use Rattle.context_laws.specs.Meanings.{CallNames, name_of, event_named, TellsAsMuch, GoByNames, GoesInStep}
 use Rattle.context_laws.proofs.Counts.{until_reached}
 use Rattle.context_laws.proofs.Whole.{runs_outside}
-use Rattle.context_laws.proofs.Sources.{StartsAgree, linked_is, holds_is, tidies_is}
 use Rattle.context_laws.proofs.Starts.{start_cells_alike}
 use Rattle.context_laws.proofs.First.{first_alike}
 use Rattle.context_laws.proofs.Open.{has_sites, met}
@@ -43,69 +35,47 @@ use Rattle.context_laws.proofs.Progress.{tells_of, goes_out, TellsMore}
 use Rattle.context_laws.proofs.Crossing.{crossed}
 use Rattle.context_laws.proofs.Rounds.{RoundTold, round_told}
 use Rattle.context_laws.proofs.Behind.{wiped_same, same_ends, all_behind, calls_behind}
-use Rattle.context_laws.proofs.Meanings.{SourcesMeanAll, observed_at, told_too, Point, go_in_step}
+use Rattle.context_laws.proofs.Meanings.{observed_at, told_too, Point, go_in_step}
+use Rattle.context_laws.proofs.Both.{TwoLinks, one_link, other_link, lg, lh, hg, hh}
+use Rattle.context_laws.proofs.Both.{tg, th}
 
-module _ (begin : StartsBegin) (agree : StartsAgree) (leaves : SourcesLeaveNothing) (words : SourcesTellWords)
-    (wipes : WipedCellsAreTold) (means : SourcesMeanAll)
-    (modules modules' : List ModuleFields) (parts parts' : List PartSeen) (size : ℕ) (s s' : StartSeen)
-    (is : IsStartOf parts size s) (is' : IsStartOf parts' size s') (src : AreSources modules parts)
-    (src' : AreSources modules' parts')
-    (names : SameNames (linked_at parts size s) (linked_at parts' size s')) {calls : CallNames}
+module _ (it : TwoLinks) (names : SameNames (one_link it) (other_link it)) {calls : CallNames}
     (by_names : GoByNames calls names)
-    (beside : AreBeside (linked_at parts size s) (linked_at parts' size s'))
-    (imports : ImportTheSame names) (same : TellsAsMuch calls (map part_of modules) (map part_of modules')
-    size)
-    (inside' : is_inside (layout s') (overlay_at s').state ≡ true) where
+    (beside : AreBeside (one_link it) (other_link it)) (imports : ImportTheSame names)
+    (same : TellsAsMuch calls (map part_of it.modules) (map part_of it.modules') it.size)
+    (inside' : is_inside (layout it.s') (overlay_at it.s').state ≡ true) where
   abbrev G : Link
-  G = linked_at parts size s
+  G = one_link it
 
   abbrev H : Link
-  H = linked_at parts' size s'
+  H = other_link it
 
   abbrev O : OState
-  O = (overlay_at s).state
+  O = (overlay_at it.s).state
 
   abbrev O' : OState
-  O' = (overlay_at s').state
+  O' = (overlay_at it.s').state
 
   abbrev W : World
-  W = map part_of modules
+  W = map part_of it.modules
 
   abbrev W' : World
-  W' = map part_of modules'
-
-  lg : Linked G
-  lg = linked_is begin agree leaves parts size s is
-
-  lh : Linked H
-  lh = linked_is begin agree leaves parts' size s' is'
-
-  hg : Holds G O
-  hg = holds_is begin agree leaves parts size s is
-
-  hh : Holds H O'
-  hh = holds_is begin agree leaves parts' size s' is'
-
-  tg : Tidies G O
-  tg = tidies_is begin agree leaves modules parts size s is src
-
-  th : Tidies H O'
-  th = tidies_is begin agree leaves modules' parts' size s' is' src'
+  W' = map part_of it.modules'
 
   abbrev Behind : Round → Type 0
-  Behind a = (b : Round) × IsFirst s' b × (cs : Calls) × SameCrossing G H names [] a b cs
+  Behind a = (b : Round) × IsFirst it.s' b × (cs : Calls) × SameCrossing G H names [] a b cs
       × GoesInStep calls G H names cs a.after b.after
 
   -- a round from the start on
   module _ (last after : OState)
-      (fa : IsFirst s
-      (record { before = (overlay_at s).state; entered = (overlay_at s).state; last = last; after = after }))
+      (fa : IsFirst it.s
+      (record { before = O; entered = O; last = last; after = after }))
     where
       abbrev A : Round
       A = record { before = O; entered = O; last = last; after = after }
 
-      shows : Shows (layout s) last after
-      shows = ((leaves modules parts size s is src).shows O last after
+      shows : Shows (layout it.s) last after
+      shows = ((it.leaves it.modules it.parts it.size it.s it.is it.src).shows O last after
           (record {
             came = secrets.begins refl;
             until = fa.until;
@@ -114,30 +84,29 @@ module _ (begin : StartsBegin) (agree : StartsAgree) (leaves : SourcesLeaveNothi
                 fa.gone;
           })).registers
 
-      told : RoundTold G W size s refl (slots modules (placed parts size) s)
-          (words modules parts size s is src) (wipes modules parts size s is src) [] [] O last after
-      told = round_told G W size s refl (slots modules (placed parts size) s)
-          (words modules parts size s is src)
-          (wipes modules parts size s is src) [] [] O O last after none_yet fa.until fa.lets fa.gone shows
+      told : RoundTold G W it.size it.s refl (slots it.modules (placed it.parts it.size) it.s)
+          (it.words it.modules it.parts it.size it.s it.is it.src)
+          (it.wipes it.modules it.parts it.size it.s it.is it.src) [] [] O last after
+      told = round_told G W it.size it.s refl (slots it.modules (placed it.parts it.size) it.s)
+          (it.words it.modules it.parts it.size it.s it.is it.src)
+          (it.wipes it.modules it.parts it.size it.s it.is it.src) [] [] O O last after none_yet fa.until
+          fa.lets fa.gone shows
 
-      tells_more : TellsMore W' size s' (means modules' parts' size s' is' src') [] []
+      tells_more : TellsMore W' it.size it.s' (it.means it.modules' it.parts' it.size it.s' it.is' it.src') []
+          []
       tells_more = (
         (same [] [] refl tt told.enough).0,
         λ f le. (
             let x = told.event told.enough (omega arith) in
-            let y = observed_at begin agree leaves words wipes means modules modules' parts parts' size s s'
-            is
-            is' src src'
-            names by_names same [] [] refl tt told.enough 0 x.0 x.1 in
-            told_too begin agree leaves words wipes means modules modules' parts parts' size s s' is is' src
-            src' names
-            by_names same [] _ 0 y.0 y.1 f le),
+            let y = observed_at it names by_names same [] [] refl tt told.enough 0 x.0 x.1 in
+            told_too it names by_names same [] _ 0 y.0 y.1 f le),
       )
 
-      other : (q m : OState) × IsFirst s' (record { before = O'; entered = O'; last = q; after = m })
+      other : (q m : OState) × IsFirst it.s' (record { before = O'; entered = O'; last = q; after = m })
       other =
-          let g = goes_out W' size s' (means modules' parts' size s' is' src') [] [] O'
-          (tells_of (layout s') O' [] [] O' O' none_yet)
+          let g = goes_out W' it.size it.s' (it.means it.modules' it.parts' it.size it.s' it.is' it.src') []
+          [] O'
+          (tells_of (layout it.s') O' [] [] O' O' none_yet)
           inside' tells_more in
           (g.0, g.1, record { begins = refl; until = g.2; lets = g.3; gone = g.4 })
 
@@ -147,11 +116,11 @@ module _ (begin : StartsBegin) (agree : StartsAgree) (leaves : SourcesLeaveNothi
       abbrev B : Round
       B = record { before = O'; entered = O'; last = Q; after = other.1 }
 
-      fb : IsFirst s' B
+      fb : IsFirst it.s' B
       fb = other.2
 
-      shows_b : Shows (layout s') Q B.after
-      shows_b = ((leaves modules' parts' size s' is' src').shows O' Q B.after
+      shows_b : Shows (layout it.s') Q B.after
+      shows_b = ((it.leaves it.modules' it.parts' it.size it.s' it.is' it.src').shows O' Q B.after
           (record {
             came = secrets.begins refl;
             until = fb.until;
@@ -160,18 +129,22 @@ module _ (begin : StartsBegin) (agree : StartsAgree) (leaves : SourcesLeaveNothi
                 fb.gone;
           })).registers
 
-      told_b : RoundTold H W' size s' refl (slots modules' (placed parts' size) s')
-          (words modules' parts' size s' is' src') (wipes modules' parts' size s' is' src') [] [] O' Q B.after
-      told_b = round_told H W' size s' refl (slots modules' (placed parts' size) s')
-          (words modules' parts' size s' is' src') (wipes modules' parts' size s' is' src') [] [] O' O' Q
+      told_b : RoundTold H W' it.size it.s' refl (slots it.modules' (placed it.parts' it.size) it.s')
+          (it.words it.modules' it.parts' it.size it.s' it.is' it.src')
+          (it.wipes it.modules' it.parts' it.size it.s' it.is' it.src') [] [] O' Q B.after
+      told_b = round_told H W' it.size it.s' refl (slots it.modules' (placed it.parts' it.size) it.s')
+          (it.words it.modules' it.parts' it.size it.s' it.is' it.src')
+          (it.wipes it.modules' it.parts' it.size it.s' it.is' it.src') [] [] O' O' Q
           B.after none_yet
           fb.until fb.lets fb.gone shows_b
 
-      ga : (i : ℕ) × Reached (layout s) O i after
-      ga = let u = until_reached G lg O hg O last 0 Reached.begins fa.until in (_, goes_on u.1 fa.lets)
+      ga : (i : ℕ) × Reached (layout it.s) O i after
+      ga = let u = until_reached G (lg it) O (hg it) O last 0 Reached.begins fa.until in
+          (_, goes_on u.1 fa.lets)
 
-      gb : (j : ℕ) × Reached (layout s') O' j B.after
-      gb = let u = until_reached H lh O' hh O' Q 0 Reached.begins fb.until in (_, goes_on u.1 fb.lets)
+      gb : (j : ℕ) × Reached (layout it.s') O' j B.after
+      gb = let u = until_reached H (lh it) O' (hh it) O' Q 0 Reached.begins fb.until in
+          (_, goes_on u.1 fb.lets)
 
       abbrev F : ℕ
       F = told.enough + told.wiped.enough
@@ -182,12 +155,14 @@ module _ (begin : StartsBegin) (agree : StartsAgree) (leaves : SourcesLeaveNothi
       record Both : Type 0 where
         pub one : Event Whence ℕ
         pub two : Event Whence ℕ
-        pub one_is : slice_get (refined W size [] F).events 0 ≡ Some one
-        pub two_is : slice_get (refined W' size [] F').events 0 ≡ Some two
-        pub one_shown : event_outs (layout s) after (step_event (layout s) last after)
-            ≡ shown_of (event_to (word_from (slots modules (placed parts size) s) []) (back_at []) one) ∷ []
-        pub two_shown : event_outs (layout s') B.after (step_event (layout s') Q B.after)
-            ≡ shown_of (event_to (word_from (slots modules' (placed parts' size) s') []) (back_at []) two)
+        pub one_is : slice_get (refined W it.size [] F).events 0 ≡ Some one
+        pub two_is : slice_get (refined W' it.size [] F').events 0 ≡ Some two
+        pub one_shown : event_outs (layout it.s) after (step_event (layout it.s) last after)
+            ≡ shown_of (event_to (word_from (slots it.modules (placed it.parts it.size) it.s) []) (back_at [])
+            one) ∷ []
+        pub two_shown : event_outs (layout it.s') B.after (step_event (layout it.s') Q B.after)
+            ≡ shown_of (event_to (word_from (slots it.modules' (placed it.parts' it.size) it.s') [])
+            (back_at []) two)
             ∷ []
         pub names_same : event_named calls.one (event_to (name_of W) (λ (k : ℕ). k) one)
             ≡ event_named calls.other (event_to (name_of W') (λ (k : ℕ). k) two)
@@ -196,10 +171,9 @@ module _ (begin : StartsBegin) (agree : StartsAgree) (leaves : SourcesLeaveNothi
       both =
           let x = told.event F (omega arith) in
           let y = told_b.event F' (omega arith) in
-          let z = observed_at begin agree leaves words wipes means modules modules' parts parts' size s s' is
-          is' src src'
-          names by_names same [] [] refl tt F 0 x.0 x.1 in
-          let at : Some z.0 ≡ Some y.0 = sym (event_later W' size [] (same [] [] refl tt F).0 _ 0 z.0 z.1) ∙
+          let z = observed_at it names by_names same [] [] refl tt F 0 x.0 x.1 in
+          let at : Some z.0 ≡ Some y.0 = sym (event_later W' it.size [] (same [] [] refl tt F).0 _ 0 z.0 z.1)
+          ∙
           y.1 in
           let one : z.0 ≡ y.0 = cc in
           record {
@@ -215,19 +189,23 @@ module _ (begin : StartsBegin) (agree : StartsAgree) (leaves : SourcesLeaveNothi
 
       cross : (ds : Calls) × SameCrossing G H names [] A B ds × (low_of both.one ≡ low_of both.two)
       cross =
-          crossed G H names by_names lg lh [] (name_of W) (name_of W')
-          (word_from (slots modules (placed parts size) s) [])
-          (word_from (slots modules' (placed parts' size) s') []) (back_at []) (back_at [])
+          crossed G H names by_names (lg it) (lh it) [] (name_of W) (name_of W')
+          (word_from (slots it.modules (placed it.parts it.size) it.s) [])
+          (word_from (slots it.modules' (placed it.parts' it.size) it.s') []) (back_at []) (back_at [])
           (λ w v e. named_same G H names by_names [] [] [] tt (name_of W' v) _ _
           (subst
-          (λ n. IsNamed (placed parts size) [] n (word_from (slots modules (placed parts size) s) [] w))
-          e (is_named begin modules parts size s is src [] w))
-          (is_named begin modules' parts' size s' is' src' [] v))
+          (λ n. IsNamed (placed it.parts it.size) [] n (word_from (slots it.modules (placed it.parts it.size)
+          it.s) [] w))
+          e (is_named it.begin it.modules it.parts it.size it.s it.is it.src [] w))
+          (is_named it.begin it.modules' it.parts' it.size it.s' it.is' it.src' [] v))
           (λ n. back_alike G H names [] [] [] n tt) A B
-          (runs_outside G H names lg lh O O' hg hh tg th G O hg ga.0 after ga.1 fa.gone)
-          (runs_outside G H names lg lh O O' hg hh tg th H O' hh gb.0 B.after gb.1 fb.gone)
-          (has_sites G lg O hg ga.0 after ga.1) (has_sites H lh O' hh gb.0 B.after gb.1)
-          (met G lg O hg ga.0 after ga.1) (met H lh O' hh gb.0 B.after gb.1) shows shows_b both.one both.two
+          (runs_outside G H names (lg it) (lh it) O O' (hg it) (hh it) (tg it) (th it) G O (hg it) ga.0 after
+          ga.1 fa.gone)
+          (runs_outside G H names (lg it) (lh it) O O' (hg it) (hh it) (tg it) (th it) H O' (hh it) gb.0
+          B.after gb.1 fb.gone)
+          (has_sites G (lg it) O (hg it) ga.0 after ga.1) (has_sites H (lh it) O' (hh it) gb.0 B.after gb.1)
+          (met G (lg it) O (hg it) ga.0 after ga.1) (met H (lh it) O' (hh it) gb.0 B.after gb.1) shows shows_b
+          both.one both.two
           both.one_shown both.two_shown both.names_same
 
       lows : told.wiped.low ≡ told_b.wiped.low
@@ -242,19 +220,20 @@ module _ (begin : StartsBegin) (agree : StartsAgree) (leaves : SourcesLeaveNothi
 
       wiped : SameWiped G A B
       wiped =
-          wiped_same G H names O O' hg hh [] A B (start_cells_alike begin parts parts' size size s s' is is'
+          wiped_same G H names O O' (hg it) (hh it) [] A B
+          (start_cells_alike it.begin it.parts it.parts' it.size it.size it.s it.s' it.is it.is'
           names beside imports) ga gb
           told.wiped.low told_b.wiped.low told.wiped.wiped told_b.wiped.wiped lows
           (same_ends G H names [] cross.0 A B cross.1 told.wiped.wiped.end told_b.wiped.wiped.end
           told.wiped.wiped.stk
           told_b.wiped.wiped.stk)
 
-      point : Point begin agree leaves words wipes means modules modules' parts parts' size s s' is is' src
-          src'
+      point : Point it
           names
           by_names same cross.0 after B.after
       point =
-          let al = first_alike begin agree leaves modules modules' parts parts' size size s s' is is' src src'
+          let al = first_alike it.begin it.agree it.leaves it.modules it.modules' it.parts it.parts' it.size
+          it.size it.s it.s' it.is it.is' it.src it.src'
           names beside imports
           A B fa fb cross.0 cross.1 wiped in
           record {
@@ -280,8 +259,7 @@ module _ (begin : StartsBegin) (agree : StartsAgree) (leaves : SourcesLeaveNothi
             below = al.1;
           }
 
-      pub first_met : (ds : Calls) × (p' : OState) × Point begin agree leaves words wipes means modules
-          modules' parts parts' size s s' is is' src src' names by_names same ds after p'
+      pub first_met : (ds : Calls) × (p' : OState) × Point it names by_names same ds after p'
       first_met = (cross.0, B.after, point)
 
       behind : Behind A
@@ -290,9 +268,7 @@ module _ (begin : StartsBegin) (agree : StartsAgree) (leaves : SourcesLeaveNothi
         fb,
         cross.0,
         cross.1,
-        λ n q as_ k. go_in_step begin agree leaves words wipes means modules modules' parts parts' size s s'
-            is
-            is' src src'
+        λ n q as_ k. go_in_step it
             names by_names same n cross.0 after B.after q as_ point k,
       )
 
@@ -304,11 +280,11 @@ module _ (begin : StartsBegin) (agree : StartsAgree) (leaves : SourcesLeaveNothi
       by_call d f k sc tc ev ew base sites a0 a1 a2 a3
   crossing_of a z e b _ (by_leave d top sl tl a0 newest) = by_leave d top sl tl a0 newest
 
-  pub lets_go_too : (a : Round) → IsFirst s a → Behind a
+  pub lets_go_too : (a : Round) → IsFirst it.s a → Behind a
   lets_go_too a fa =
       let x = behind a.last a.after (record {
         begins = refl;
-        until = subst (λ z. Until (layout s) z a.last) fa.begins fa.until;
+        until = subst (λ z. Until (layout it.s) z a.last) fa.begins fa.until;
         lets = fa.lets;
         gone = fa.gone;
       }) in

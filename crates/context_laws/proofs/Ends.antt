@@ -1,5 +1,5 @@
 -- Sources that mean the same and end the same way: the plain runs of their links end alike.
-use Rattle.std.proofs.Common.{◌≡◌, inl, inr, ℕ, ◌+◌, ℤ, List, map, Bool, true, false, Option, Some}
+use Rattle.std.proofs.Common.{◌≡◌, inl, inr, ℕ, ◌+◌, ℤ, map, Bool, true, false, Option, Some}
 use Rattle.std.proofs.Common.{None, refl, sym, ap, ◌∙◌, subst, arith}
 use Rattle.cap_words.specs.declared.Word.{Word}
 use Rattle.cap_words.specs.declared.Word.TheVariants.{Int}
@@ -10,7 +10,6 @@ use Rattle.lcm_machine.specs.Run.{plain, answer_by}
 use Rattle.component_linker.specs.Parts.{PartSeen}
 use Rattle.component_linker.specs.Standing.{placed}
 use Rattle.component_linker.specs.Started.{StartSeen}
-use Rattle.component_linker.specs.LinkedStarts.{IsStartOf}
 use Rattle.overlay_machine.specs.State.{OState}
 use Rattle.overlay_machine.specs.Link.{Link, IsUntrusted}
 use Rattle.overlay_machine.proofs.Offers.{any_is, any_of}
@@ -24,10 +23,9 @@ use Rattle.trace_tool.specs.Cuts.{cut, cut_overlay, StopsAreCuts}
 use Rattle.trace_tool.specs.Runs.{written}
 use Rattle.trace_tool.specs.Headline.{Matched, OverlayHalts, OverlayFails, Headline, HeadlineHolds}
 use Rattle.trace_tool.proofs.Offers.{reached_by}
-use Rattle.proc_language.specs.declared.module.ModuleFields.{ModuleFields}
 use Rattle.proc_program.specs.Lower.{part_of}
 use Rattle.proc_semantics.specs.Values.{World}
-use Rattle.source_starts.specs.Sources.{AreSources, linked_at, SourcesLeaveNothing}
+use Rattle.source_starts.specs.Sources.{linked_at, SourcesLeaveNothing}
 use Rattle.source_starts.specs.Words.{SourcesTellWords}
 use Rattle.source_starts.specs.Wiped.{WipedCellsAreTold}
 use Rattle.source_starts.proofs.Offers.{halts_there, fails_there}
@@ -41,10 +39,11 @@ use Rattle.context_laws.proofs.Starts.{placed_alike}
 use Rattle.context_laws.proofs.Around.{one_stack}
 use Rattle.context_laws.proofs.Beside.{beside_by_names, import_by_names}
 use Rattle.context_laws.proofs.Apart.{mean_back}
-use Rattle.context_laws.proofs.Meanings.{SourcesMeanAll, first_point}
+use Rattle.context_laws.proofs.Meanings.{first_point}
 use Rattle.context_laws.proofs.Mains.{beside_back, main_part, outside_main, same_first}
 use Rattle.context_laws.proofs.Inside.{HaltsToo, FailsToo, alone_halts, alone_fails}
 use Rattle.context_laws.proofs.Stands.{Begin, both_outside, both_inside, halts_too, fails_too}
+use Rattle.context_laws.proofs.Both.{SourcesMeanAll, TwoLinks, turned, two_links, one_link, other_link}
 
 -- ---- a plain run, by the overlay's
 
@@ -127,118 +126,116 @@ ends_back : (calls : CallNames) (w v : World) (size : ℕ) → EndTheSame calls 
     → EndTheSame (swapped calls) v w size
 ends_back calls w v size ends = (ends.1, ends.0)
 
-module _ (begin : StartsBegin) (agree : StartsAgree) (leaves : SourcesLeaveNothing) (words : SourcesTellWords)
-    (wipes : WipedCellsAreTold) (means : SourcesMeanAll) (headline : HeadlineHolds) (stops : StopsAreCuts)
-    (modules modules' : List ModuleFields) (parts parts' : List PartSeen) (size : ℕ) (s s' : StartSeen)
-    (is : IsStartOf parts size s) (is' : IsStartOf parts' size s') (src : AreSources modules parts)
-    (src' : AreSources modules' parts')
-    (beside : AreBeside (linked_at parts size s) (linked_at parts' size s'))
-    (calls : CallNames) (apart : AreOneToOne calls) (same : MeanTheSame calls (map part_of modules) (map
-    part_of modules') size)
-    (ends : EndTheSame calls (map part_of modules) (map part_of modules') size) where
+module _ (headline : HeadlineHolds) (stops : StopsAreCuts) (it : TwoLinks)
+    (beside : AreBeside (one_link it) (other_link it)) (calls : CallNames) (apart : AreOneToOne calls)
+    (same : MeanTheSame calls (map part_of it.modules) (map part_of it.modules') it.size)
+    (ends : EndTheSame calls (map part_of it.modules) (map part_of it.modules') it.size) where
   abbrev G : Link
-  G = linked_at parts size s
+  G = one_link it
 
   -- what the overlays do the plain runs do
-  ends_from : ((j : ℕ) (p : OState) → Matched s j p → OverlayHalts s p → HaltsToo s s' p)
-      → ((j : ℕ) (p : OState) → Matched s j p → OverlayFails s p → FailsToo s') → EndsToo s s'
+  ends_from : ((j : ℕ) (p : OState) → Matched it.s j p → OverlayHalts it.s p → HaltsToo it.s it.s' p)
+      → ((j : ℕ) (p : OState) → Matched it.s j p → OverlayFails it.s p → FailsToo it.s') → EndsToo it.s it.s'
   ends_from halts fails =
-      let head = headline (placed parts size) size s is in
-      let head' = headline (placed parts' size) size s' is' in
+      let head = headline (placed it.parts it.size) it.size it.s it.is in
+      let head' = headline (placed it.parts' it.size) it.size it.s' it.is' in
       record {
         halts = λ w h. (
-            let a = halts_from stops s head w h in
+            let a = halts_from stops it.s head w h in
             let b = halts a.0 a.1 a.2 a.3 in
-            let v = (flat_view (layout s') b.1).reg A0 in
-            (v, halts_to stops s' head' b.0 b.1 b.2 b.3, subst (λ z. SameResult z v) (sym a.4) b.4)
+            let v = (flat_view (layout it.s') b.1).reg A0 in
+            (v, halts_to stops it.s' head' b.0 b.1 b.2 b.3, subst (λ z. SameResult z v) (sym a.4) b.4)
             );
         fails = λ h. (
-            let a = fails_from stops s head h in
+            let a = fails_from stops it.s head h in
             let b = fails a.0 a.1 a.2 a.3 in
-            fails_to stops s' head' b.0 b.1 b.2 b.3
+            fails_to stops it.s' head' b.0 b.1 b.2 b.3
             );
       }
 
   -- where a part is untrusted
-  beside_code : (p : PartSeen) → IsUntrusted G p → EndsToo s s'
+  beside_code : (p : PartSeen) → IsUntrusted G p → EndsToo it.s it.s'
   beside_code p u =
       ends_from
-      (halts_too begin agree leaves words wipes means modules modules' parts parts' size s s' is is' src src'
+      (halts_too it
       b.0 b.1 beside imports same.0 ends.0 both_begin)
-      (fails_too begin agree leaves words wipes means modules modules' parts parts' size s s' is is' src src'
+      (fails_too it
       b.0 b.1 beside imports same.0 ends.0 both_begin)
     where
-      b : (names : SameNames G (linked_at parts' size s')) × GoByNames calls names
-      b = beside_by_names calls apart begin agree leaves modules modules' parts parts' size s s' is is' src
-          src' beside (one_stack parts parts' size s s' is is' beside p u)
+      b : (names : SameNames G (linked_at it.parts' it.size it.s')) × GoByNames calls names
+      b = beside_by_names calls apart it.begin it.agree it.leaves it.modules it.modules' it.parts it.parts'
+          it.size it.s it.s' it.is it.is' it.src
+          it.src' beside (one_stack it.parts it.parts' it.size it.s it.s' it.is it.is' beside p u)
 
       imports : ImportTheSame b.0
-      imports = import_by_names begin agree leaves modules modules' parts parts' size s s' is is' src src'
+      imports = import_by_names it.begin it.agree it.leaves it.modules it.modules' it.parts it.parts' it.size
+          it.s it.s' it.is it.is' it.src it.src'
           beside b.0 b.1
 
-      first : is_inside (layout s) (overlay_at s).state ≡ is_inside (layout s') (overlay_at s').state
-      first = same_first begin agree leaves parts parts' size s s' is is' beside
+      first : is_inside (layout it.s) (overlay_at it.s).state ≡ is_inside (layout it.s')
+          (overlay_at it.s').state
+      first = same_first it.begin it.agree it.leaves it.parts it.parts' it.size it.s it.s' it.is it.is' beside
 
       Begins : Type 0
-      Begins = Begin begin agree leaves words wipes means modules modules' parts parts' size s s' is is' src
-          src' b.0 b.1 beside imports same.0 ends.0
+      Begins = Begin it b.0 b.1 beside imports same.0 ends.0
 
       both_begin : Begins
-      both_begin = by (is_inside (layout s) (overlay_at s).state) refl
+      both_begin = by (is_inside (layout it.s) (overlay_at it.s).state) refl
         where
-          by : (x : Bool) → is_inside (layout s) (overlay_at s).state ≡ x → Begins
+          by : (x : Bool) → is_inside (layout it.s) (overlay_at it.s).state ≡ x → Begins
           by true i = both_inside i (sym first ∙ i)
           by false i =
-              let a = placed_alike begin parts parts' size s s' is is' b.0 beside imports
-              (outside_main begin agree leaves parts parts' size s s' is is' beside i) in
-              both_outside (first_point begin agree leaves words wipes means modules modules' parts parts'
-              size s s' is is' src src' b.0 b.1 same.0 a.0 a.1 i (sym first ∙ i))
+              let a = placed_alike it.begin it.parts it.parts' it.size it.s it.s' it.is it.is' b.0 beside
+              imports
+              (outside_main it.begin it.agree it.leaves it.parts it.parts' it.size it.s it.s' it.is it.is'
+              beside i) in
+              both_outside (first_point it b.0 b.1 same.0 a.0 a.1 i (sym first ∙ i))
 
   -- where none is
-  beside_none : ((p : PartSeen) → IsUntrusted G p → ⊥) → EndsToo s s'
+  beside_none : ((p : PartSeen) → IsUntrusted G p → ⊥) → EndsToo it.s it.s'
   beside_none alone =
       ends_from
-      (alone_halts begin agree leaves words wipes means modules modules' parts parts' size s s' is is' src
-      src' calls ends.0 alone i i')
-      (alone_fails begin agree leaves words wipes means modules modules' parts parts' size s s' is is' src
-      src' calls ends.0 alone i i')
+      (alone_halts it calls ends.0 alone i i')
+      (alone_fails it calls ends.0 alone i i')
     where
-      i : is_inside (layout s) (overlay_at s).state ≡ true
-      i = by (is_inside (layout s) (overlay_at s).state) refl
+      i : is_inside (layout it.s) (overlay_at it.s).state ≡ true
+      i = by (is_inside (layout it.s) (overlay_at it.s).state) refl
         where
-          by : (x : Bool) → is_inside (layout s) (overlay_at s).state ≡ x
-              → is_inside (layout s) (overlay_at s).state ≡ true
+          by : (x : Bool) → is_inside (layout it.s) (overlay_at it.s).state ≡ x
+              → is_inside (layout it.s) (overlay_at it.s).state ≡ true
           by true e = e
           by false e =
-              let m = is.starts.state.main.part in
-              absurd (alone m (main_part begin agree leaves parts size s is e))
+              let m = it.is.starts.state.main.part in
+              absurd (alone m (main_part it.begin it.agree it.leaves it.parts it.size it.s it.is e))
 
-      i' : is_inside (layout s') (overlay_at s').state ≡ true
-      i' = sym (same_first begin agree leaves parts parts' size s s' is is' beside) ∙ i
+      i' : is_inside (layout it.s') (overlay_at it.s').state ≡ true
+      i' = sym (same_first it.begin it.agree it.leaves it.parts it.parts' it.size it.s it.s' it.is it.is'
+          beside) ∙ i
 
-  ends_too : EndsToo s s'
-  ends_too = by (list_any (λ (p : PartSeen). not p.trusted) (placed parts size)) refl
+  ends_too : EndsToo it.s it.s'
+  ends_too = by (list_any (λ (p : PartSeen). not p.trusted) (placed it.parts it.size)) refl
     where
       none : (p : PartSeen) → IsUntrusted G p
-          → list_any (λ (p : PartSeen). not p.trusted) (placed parts size) ≡ true
-      none p u = any_is (λ (p : PartSeen). not p.trusted) (placed parts size) p u.0 (ap not u.1)
+          → list_any (λ (p : PartSeen). not p.trusted) (placed it.parts it.size) ≡ true
+      none p u = any_is (λ (p : PartSeen). not p.trusted) (placed it.parts it.size) p u.0 (ap not u.1)
 
-      by : (b : Bool) → list_any (λ (p : PartSeen). not p.trusted) (placed parts size) ≡ b → EndsToo s s'
+      by : (b : Bool) → list_any (λ (p : PartSeen). not p.trusted) (placed it.parts it.size) ≡ b → EndsToo
+          it.s it.s'
       by true e =
-          let x = any_of (λ (p : PartSeen). not p.trusted) (placed parts size) e in
+          let x = any_of (λ (p : PartSeen). not p.trusted) (placed it.parts it.size) e in
           beside_code x.0 (x.1, not_true x.0.trusted x.2)
       by false e = beside_none (λ p u. (let bad : false ≡ true = sym e ∙ none p u in cc))
 
-module _ (begin : StartsBegin) (agree : StartsAgree) (leaves : SourcesLeaveNothing) (words : SourcesTellWords)
-    (wipes : WipedCellsAreTold) (means : SourcesMeanAll) (headline : HeadlineHolds)
-    (stops : StopsAreCuts) where
-  pub end_alike : SameMeaningsEndAlike
-  end_alike calls apart modules modules' parts parts' size s s' is is' src src' beside same ends =
-      both_ways s s'
-      (ends_too begin agree leaves words wipes means headline stops modules modules' parts parts' size s s' is
-      is' src src' beside calls apart same ends)
-      (ends_too begin agree leaves words wipes means headline stops modules' modules parts' parts size s' s
-      is' is src' src (beside_back (linked_at parts size s) (linked_at parts' size s') beside) (swapped calls)
-      (apart.1, apart.0)
-      (mean_back calls (map part_of modules) (map part_of modules') size same)
-      (ends_back calls (map part_of modules) (map part_of modules') size ends))
+pub end_alike : StartsBegin → StartsAgree → SourcesLeaveNothing → SourcesTellWords → WipedCellsAreTold
+    → SourcesMeanAll → HeadlineHolds → StopsAreCuts → SameMeaningsEndAlike
+end_alike begin agree leaves words wipes means headline stops calls apart modules modules' parts parts' size s
+    s'
+    is is' src src' beside same ends =
+    let it = two_links begin agree leaves words wipes means modules modules' parts parts' size s s' is is' src
+    src' in
+    both_ways s s' (ends_too headline stops it beside calls apart same ends)
+    (ends_too headline stops (turned it)
+    (beside_back (linked_at parts size s) (linked_at parts' size s') beside) (swapped calls)
+    (apart.1, apart.0)
+    (mean_back calls (map part_of modules) (map part_of modules') size same)
+    (ends_back calls (map part_of modules) (map part_of modules') size ends))

@@ -35,8 +35,7 @@ use Rattle.source_laws.specs.Wiped.{TellsSince, none_yet}
 use Rattle.source_laws.specs.Secrets.{Until}
 use Rattle.source_laws.specs.Secrets as secrets
 use Rattle.source_starts.specs.Sources.{AreSources, linked_at, SourcesLeaveNothing}
-use Rattle.source_starts.specs.Words.{slots, SourcesTellWords}
-use Rattle.source_starts.specs.Wiped.{WipedCellsAreTold}
+use Rattle.source_starts.specs.Words.{slots}
 use Rattle.context_laws.specs.Ends.{EndsAsWell, SameResult}
 use Rattle.context_laws.proofs.Counts.{until_reached}
 use Rattle.context_laws.proofs.Sources.{StartsAgree, linked_is, holds_is}
@@ -50,7 +49,7 @@ use Rattle.context_laws.specs.Related.{RunsOutside}
 use Rattle.context_laws.specs.Lockstep.{Holds}
 use Rattle.context_laws.specs.Meanings.{CallNames, FeedFits, SameFeed}
 use Rattle.context_laws.proofs.Arrive.{opened_open}
-use Rattle.context_laws.proofs.Meanings.{SourcesMeanAll}
+use Rattle.context_laws.proofs.Both.{TwoLinks, one_link, other_link, lg, lh, hg, hh}
 
 end_is : (world : World) (size : ℕ) (feed : List Item) (f : ℕ)
     → (refined world size feed f).end ≡ (meaning world size feed f).end
@@ -94,44 +93,28 @@ let_out begin agree leaves modules parts size s is src q m u e out = by shown.2
     by (by_call d f x) = (let k = opened_open G lg m runs d x.pc C1 x.c1 in (k.0, k.1))
     by (by_leave n d top x) = (let k = opened_open G lg m runs d x.pc Rcode x.rcode in (k.0, k.1))
 
-module _ (begin : StartsBegin) (agree : StartsAgree) (leaves : SourcesLeaveNothing) (words : SourcesTellWords)
-    (wipes : WipedCellsAreTold) (means : SourcesMeanAll)
-    (modules modules' : List ModuleFields) (parts parts' : List PartSeen) (size : ℕ) (s s' : StartSeen)
-    (is : IsStartOf parts size s) (is' : IsStartOf parts' size s') (src : AreSources modules parts)
-    (src' : AreSources modules' parts') (calls : CallNames)
-    (ends : EndsAsWell calls (map part_of modules) (map part_of modules') size) where
+module _ (it : TwoLinks) (calls : CallNames)
+    (ends : EndsAsWell calls (map part_of it.modules) (map part_of it.modules') it.size) where
   abbrev G : Link
-  G = linked_at parts size s
+  G = one_link it
 
   abbrev H : Link
-  H = linked_at parts' size s'
+  H = other_link it
 
   abbrev O : OState
-  O = (overlay_at s).state
+  O = (overlay_at it.s).state
 
   abbrev O' : OState
-  O' = (overlay_at s').state
+  O' = (overlay_at it.s').state
 
   abbrev W : World
-  W = map part_of modules
+  W = map part_of it.modules
 
   abbrev W' : World
-  W' = map part_of modules'
+  W' = map part_of it.modules'
 
-  lg : Linked G
-  lg = linked_is begin agree leaves parts size s is
-
-  lh : Linked H
-  lh = linked_is begin agree leaves parts' size s' is'
-
-  hg : Holds G O
-  hg = holds_is begin agree leaves parts size s is
-
-  hh : Holds H O'
-  hh = holds_is begin agree leaves parts' size s' is'
-
-  abbrev Means' : MeansAlways W' size s'
-  Means' = means modules' parts' size s' is' src'
+  abbrev Means' : MeansAlways W' it.size it.s'
+  Means' = it.means it.modules' it.parts' it.size it.s' it.is' it.src'
 
   abbrev Things : Type 0
   Things = List (Thing OWord Back)
@@ -143,103 +126,107 @@ module _ (begin : StartsBegin) (agree : StartsAgree) (leaves : SourcesLeaveNothi
 
   -- it has control in both since the same items came in
   module _ (es es' : List Shown) (xs xs' : Things) (b b' e e' p : OState)
-      (t : TellsSince (layout s) O es xs b e) (t' : TellsSince (layout s') O' es' xs' b' e')
-      (one : SameFeed calls (feed xs) (feed xs')) (j : ℕ) (r : Reached (layout s') O' j e')
-      (i' : is_inside (layout s') e' ≡ true) (u : Until (layout s) e p)
-      (shows : (q m : OState) → Until (layout s') e' q → overlay_step (layout s') q ≡ goes m
-      → is_inside (layout s') m ≡ false → Shows (layout s') q m) where
-    said : (n : ℕ) × MeansAt W size (layout s) n (map (λ (x : Shown). x.event) es) (feed xs) p
+      (t : TellsSince (layout it.s) O es xs b e) (t' : TellsSince (layout it.s') O' es' xs' b' e')
+      (one : SameFeed calls (feed xs) (feed xs')) (j : ℕ) (r : Reached (layout it.s') O' j e')
+      (i' : is_inside (layout it.s') e' ≡ true) (u : Until (layout it.s) e p)
+      (shows : (q m : OState) → Until (layout it.s') e' q → overlay_step (layout it.s') q ≡ goes m
+      → is_inside (layout it.s') m ≡ false → Shows (layout it.s') q m) where
+    said : (n : ℕ) × MeansAt W it.size (layout it.s) n (map (λ (x : Shown). x.event) es) (feed xs) p
     said =
-        let k = shows_of (layout s) O es xs p
-        (tells_of (layout s) O es xs b p (until_since (layout s) O es xs b e p u t)) in
-        (k.1, means modules parts size s is src k.0 k.1 _ (feed xs) p k.2)
+        let k = shows_of (layout it.s) O es xs p
+        (tells_of (layout it.s) O es xs b p (until_since (layout it.s) O es xs b e p u t)) in
+        (k.1, it.means it.modules it.parts it.size it.s it.is it.src k.0 k.1 _ (feed xs) p k.2)
 
     fits : FeedFits (feed xs)
-    fits = feed_fits (layout s) O es xs b e t
+    fits = feed_fits (layout it.s) O es xs b e t
 
     abbrev Ends : MeaningEnd → Type 0
-    Ends x = MeaningEnds W size (feed xs) (map (λ (x : Shown). x.event) es) x
+    Ends x = MeaningEnds W it.size (feed xs) (map (λ (x : Shown). x.event) es) x
 
-    so : (x : MeaningEnd) → Ends x → (x ≡ OutOfFuel → ⊥) → EndsSo W' size s' Means' xs' x
+    so : (x : MeaningEnd) → Ends x → (x ≡ OutOfFuel → ⊥) → EndsSo W' it.size it.s' Means' xs' x
     so x m some =
-        let e : (refined W size (feed xs) m.enough).end ≡ x =
-        end_is W size (feed xs) m.enough ∙ m.ends m.enough (omega arith) in
+        let e : (refined W it.size (feed xs) m.enough).end ≡ x =
+        end_is W it.size (feed xs) m.enough ∙ m.ends m.enough (omega arith) in
         let k = ends (feed xs) (feed xs') one fits m.enough (λ o. some (sym e ∙ o)) in (
           k.0,
           λ f le. (
               let all : k.0 + (f - k.0) ≡ f = omega (arith, le) in
-              sym (end_is W' size (feed xs') f) ∙ ap (λ g. (refined W' size (feed xs') g).end) (sym all)
-              ∙ end_later W' size (feed xs') k.0 (f - k.0) x (k.1 ∙ e) some
+              sym (end_is W' it.size (feed xs') f) ∙ ap (λ g. (refined W' it.size (feed xs') g).end) (sym all)
+              ∙ end_later W' it.size (feed xs') k.0 (f - k.0) x (k.1 ∙ e) some
               ),
         )
 
     -- where it let go, the meaning would wait
     never : (x : MeaningEnd) → Ends x → (x ≡ Waiting → ⊥) → (x ≡ OutOfFuel → ⊥) → (q m : OState)
-        → Until (layout s') e' q
-        → overlay_step (layout s') q ≡ goes m → is_inside (layout s') m ≡ false → ⊥
+        → Until (layout it.s') e' q
+        → overlay_step (layout it.s') q ≡ goes m → is_inside (layout it.s') m ≡ false → ⊥
     never x ends_x not some q m v g out =
-        let told = round_told H W' size s' refl (slots modules' (placed parts' size) s')
-        (words modules' parts' size s' is' src') (wipes modules' parts' size s' is' src') es' xs' b' e' q m
+        let told = round_told H W' it.size it.s' refl (slots it.modules' (placed it.parts' it.size) it.s')
+        (it.words it.modules' it.parts' it.size it.s' it.is' it.src')
+        (it.wipes it.modules' it.parts' it.size it.s' it.is' it.src') es' xs' b' e' q m
         t' v g out (shows q m v g out) in
-        let k = shows_of (layout s') O' _ xs' m (tells_of (layout s') O' _ xs' _ m told.since.1) in
+        let k = shows_of (layout it.s') O' _ xs' m (tells_of (layout it.s') O' _ xs' _ m told.since.1) in
         let w = (Means' k.0 k.1 _ (feed xs') m k.2).waits out in
         let y = so x ends_x some in
         not (sym (y.1 (y.0 + w.enough) (omega arith)) ∙ w.ends (y.0 + w.enough) (omega arith))
 
     comes : (x : MeaningEnd) → Ends x → (x ≡ Waiting → ⊥) → (x ≡ OutOfFuel → ⊥)
-        → ComesTo W' size s' Means' e' x
+        → ComesTo W' it.size it.s' Means' e' x
     comes x m not some =
-        comes_to W' size s' Means' es' xs' e' (tells_of (layout s') O' es' xs' b' e' t') i' x (so x m some)
+        comes_to W' it.size it.s' Means' es' xs' e' (tells_of (layout it.s') O' es' xs' b' e' t') i' x
+        (so x m some)
         some
         (never x m not some)
 
-    pub halts_inside : OverlayHalts s p → HaltsToo s s' p
+    pub halts_inside : OverlayHalts it.s p → HaltsToo it.s it.s' p
     halts_inside h =
-        let k = said.1.halts (until_inside (layout s) e p u) h in
+        let k = said.1.halts (until_inside (layout it.s) e p u) h in
         by k.0 k.1 (comes (Halted k.0) k.2 (λ x. cc) (λ x. cc))
       where
-        by : (v : ℤ) → (flat_view (layout s) p).reg A0 ≡ Int v → ComesTo W' size s' Means' e' (Halted v)
-            → HaltsToo s s' p
+        by : (v : ℤ) → (flat_view (layout it.s) p).reg A0 ≡ Int v → ComesTo W' it.size it.s' Means' e'
+            (Halted v)
+            → HaltsToo it.s it.s' p
         by v a (to_halt q w y g c x) =
-            let k = until_reached H lh O' hh e' q j r y in
+            let k = until_reached H (lh it) O' (hh it) e' q j r y in
             let z : v ≡ w = cc in
             (k.0, q, k.1, g, inl (a ∙ ap Int z ∙ sym c))
         by v a (to_fail q y g x) = absurd cc
 
-    pub fails_inside : OverlayFails s p → FailsToo s'
+    pub fails_inside : OverlayFails it.s p → FailsToo it.s'
     fails_inside h =
-        let k = said.1.fails (until_inside (layout s) e p u) h in
+        let k = said.1.fails (until_inside (layout it.s) e p u) h in
         by (comes Fail k.0 (λ x. cc) (λ x. cc))
       where
-        by : ComesTo W' size s' Means' e' Fail → FailsToo s'
+        by : ComesTo W' it.size it.s' Means' e' Fail → FailsToo it.s'
         by (to_halt q w y g c x) = absurd cc
-        by (to_fail q y g x) = (let k = until_reached H lh O' hh e' q j r y in (k.0, q, k.1, g))
+        by (to_fail q y g x) = (let k = until_reached H (lh it) O' (hh it) e' q j r y in (k.0, q, k.1, g))
 
   -- what is shown where control is let go of
-  pub first_shows : (q m : OState) → Until (layout s') O' q → overlay_step (layout s') q ≡ goes m
-      → is_inside (layout s') m ≡ false → Shows (layout s') q m
-  first_shows q m v g out = ((leaves modules' parts' size s' is' src').shows O' q m
+  pub first_shows : (q m : OState) → Until (layout it.s') O' q → overlay_step (layout it.s') q ≡ goes m
+      → is_inside (layout it.s') m ≡ false → Shows (layout it.s') q m
+  first_shows q m v g out = ((it.leaves it.modules' it.parts' it.size it.s' it.is' it.src').shows O' q m
       (record { came = secrets.begins refl; until = v; steps = g; gone = out })).registers
 
   -- ---- where every part is trusted
 
-  module _ (alone : (p : PartSeen) → IsUntrusted G p → ⊥) (i : is_inside (layout s) O ≡ true)
-      (i' : is_inside (layout s') O' ≡ true) where
-    stays_in : (j : ℕ) (p : OState) → Reached (layout s) O j p → Until (layout s) O p
+  module _ (alone : (p : PartSeen) → IsUntrusted G p → ⊥) (i : is_inside (layout it.s) O ≡ true)
+      (i' : is_inside (layout it.s') O' ≡ true) where
+    stays_in : (j : ℕ) (p : OState) → Reached (layout it.s) O j p → Until (layout it.s) O p
     stays_in _ _ Reached.begins = secrets.still_there i
-    stays_in _ q (goes_on {j = j} {p = p} r e) = by (is_inside (layout s) q) refl (stays_in j p r)
+    stays_in _ q (goes_on {j = j} {p = p} r e) = by (is_inside (layout it.s) q) refl (stays_in j p r)
       where
-        by : (b : Bool) → is_inside (layout s) q ≡ b → Until (layout s) O p → Until (layout s) O q
+        by : (b : Bool) → is_inside (layout it.s) q ≡ b → Until (layout it.s) O p → Until (layout it.s) O q
         by true k u = secrets.one_more u e k
         by false k u =
-            let x = let_out begin agree leaves modules parts size s is src p q u e k in absurd (alone x.0 x.1)
+            let x = let_out it.begin it.agree it.leaves it.modules it.parts it.size it.s it.is it.src p q u e
+            k in absurd (alone x.0 x.1)
 
-    pub alone_halts : (j : ℕ) (p : OState) → Matched s j p → OverlayHalts s p → HaltsToo s s' p
+    pub alone_halts : (j : ℕ) (p : OState) → Matched it.s j p → OverlayHalts it.s p → HaltsToo it.s it.s' p
     alone_halts j p r h =
         halts_inside [] [] [] [] O O' O O' p none_yet none_yet refl 0 Reached.begins i' (stays_in j p r)
         first_shows h
 
-    pub alone_fails : (j : ℕ) (p : OState) → Matched s j p → OverlayFails s p → FailsToo s'
+    pub alone_fails : (j : ℕ) (p : OState) → Matched it.s j p → OverlayFails it.s p → FailsToo it.s'
     alone_fails j p r h =
         fails_inside [] [] [] [] O O' O O' p none_yet none_yet refl 0 Reached.begins i' (stays_in j p r)
         first_shows h

@@ -24,6 +24,7 @@ pub mod Naming
 pub mod Progress
 pub mod Crossing
 pub mod Rounds
+pub mod Both
 pub mod Behind
 pub mod Meanings
 pub mod Beside

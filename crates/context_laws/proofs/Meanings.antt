@@ -1,29 +1,24 @@
--- Sources that mean the same can't be told apart.
+-- Where code outside has all alike at two points of two runs, so it has at those to which it comes from
+-- there, by steps of its own and by rounds, if the second sources tell as much as the first.
 use Rattle.std.proofs.Common.{◌≡◌, inl, inr, ℕ, suc, ◌+◌, ◌-◌, ◌≤◌, List, [], ◌∷◌, ◌++◌, map}
 use Rattle.std.proofs.Common.{length, Option, Some, None, true, false, refl, sym, ap, ◌∙◌, subst, arith}
 use Rattle.std.specs.Prelude.{slice_get, option_map, if◌then◌else◌}
 use Rattle.std.proofs.lemmas.Option.{slice_get-map, slice_get_within}
 use Rattle.std.proofs.lemmas.List.{append-nil, length-append, length-map, map-append}
-use Rattle.component_linker.specs.Parts.{PartSeen}
 use Rattle.component_linker.specs.Standing.{placed}
-use Rattle.component_linker.specs.Started.{StartSeen}
-use Rattle.component_linker.specs.LinkedStarts.{IsStartOf}
 use Rattle.overlay_machine.specs.declared.words.OWord.{OWord}
 use Rattle.overlay_machine.specs.State.{OState}
 use Rattle.overlay_machine.specs.Step.{Ending, goes, overlay_step}
 use Rattle.overlay_machine.specs.Events.{step_event}
 use Rattle.overlay_machine.specs.Link.{Link}
-use Rattle.overlay_machine.specs.Linked.{Linked}
-use Rattle.overlay_machine.specs.Names.{NamesTold}
 use Rattle.overlay_machine.specs.Runs.{Reached, goes_on}
-use Rattle.overlay_machine.specs.Starting.{overlay_at, StartsBegin}
-use Rattle.overlay_machine.proofs.Offers.{starts_tell_names, map_get}
+use Rattle.overlay_machine.specs.Starting.{overlay_at}
+use Rattle.overlay_machine.proofs.Offers.{map_get}
 use Rattle.trusted_border.specs.declared.layout.Layout.{Layout}
 use Rattle.trace_tool.specs.Layout.{layout}
 use Rattle.trace_tool.specs.Views.{flat_view}
 use Rattle.template_runs.specs.Runs.{is_inside}
 use Rattle.template_runs.proofs.Offers.{goes_same, halts_not, fails_not}
-use Rattle.proc_language.specs.declared.module.ModuleFields.{ModuleFields}
 use Rattle.proc_program.specs.Lower.{part_of}
 use Rattle.source_events.specs.declared.Item.{Item}
 use Rattle.proc_semantics.specs.Values.{World}
@@ -32,7 +27,6 @@ use Rattle.proc_semantics.specs.Marked.{Thing, Event, Whence, refined, event_to,
 use Rattle.proc_semantics.proofs.Offers.{mark_laws}
 use Rattle.source_laws.specs.Seen.{Shown, Back, shown_of}
 use Rattle.source_laws.specs.Seen as seen
-use Rattle.source_laws.specs.Sources.{MeansAlways}
 use Rattle.source_laws.specs.Trace.{event_items}
 use Rattle.source_laws.proofs.Offers.{things_item}
 use Rattle.source_laws.specs.Words.{word_from, back_at}
@@ -40,14 +34,12 @@ use Rattle.source_laws.specs.Wiped as since_start
 use Rattle.source_laws.specs.Wiped.{TellsSince, and_then, low_of, last_outside}
 use Rattle.source_laws.specs.Secrets.{Until}
 use Rattle.source_laws.specs.Secrets as secrets
-use Rattle.source_starts.specs.Sources.{AreSources, linked_at, SourcesLeaveNothing}
-use Rattle.source_starts.specs.Words.{slots, SourcesTellWords}
-use Rattle.source_starts.specs.Wiped.{WipedCellsAreTold}
+use Rattle.source_starts.specs.Words.{slots}
 use Rattle.context_laws.specs.Related.{SameNames, Calls}
 use Rattle.context_laws.specs.Related.{Alike, ComesAlike, StepsAlike, both_halt}
 use Rattle.context_laws.specs.Related.{both_fail, both_stay, both_come}
 use Rattle.context_laws.specs.Lockstep.{Round, IsRound, Path, SameCrossing, SameWiped}
-use Rattle.context_laws.specs.Lockstep.{InStep, at_end, round, Holds, Tidies, AreBelow}
+use Rattle.context_laws.specs.Lockstep.{InStep, at_end, round, AreBelow}
 use Rattle.context_laws.specs.Lockstep as spec
 use Rattle.context_laws.specs.Meanings.{name_of, observed, FeedFits, TellsAsMuch, GoByNames, item_by}
 use Rattle.context_laws.specs.Meanings.{Naming, CallNames, item_named, feed_named, event_named, events_named}
@@ -56,7 +48,6 @@ use Rattle.context_laws.specs.Meanings.{items_in}
 use Rattle.context_laws.proofs.Counts.{step_rises}
 use Rattle.context_laws.proofs.Arrive.{arrive_alike}
 use Rattle.context_laws.proofs.Whole.{alike_step, runs_outside, below_later, below_after, after_a, after_b}
-use Rattle.context_laws.proofs.Sources.{StartsAgree, linked_is, holds_is, tidies_is}
 use Rattle.context_laws.proofs.Open.{CallsAlike, has_sites, met, step_kept, calls_kept}
 use Rattle.context_laws.proofs.Told.{items_same}
 use Rattle.context_laws.proofs.Feeds.{feed_fits}
@@ -68,12 +59,14 @@ use Rattle.context_laws.proofs.Crossing.{crossed}
 use Rattle.context_laws.proofs.Behind.{wiped_same, same_ends, all_behind, calls_behind, open_since}
 use Rattle.context_laws.proofs.Behind.{round_shows}
 use Rattle.context_laws.proofs.Rounds.{RoundTold, round_told, entry_silent}
+use Rattle.context_laws.proofs.Both.{TwoLinks, one_link, other_link, lg, lh, hg, hh}
+use Rattle.context_laws.proofs.Both.{tg, th, ng, nh}
 
 pub first_inside : (l : Layout) (p q : OState) → Until l p q → is_inside l p ≡ true
 first_inside l p _ (secrets.still_there i) = i
 first_inside l p _ (secrets.one_more u s i) = first_inside l p _ u
 
--- what comes in behind is named as by itself
+-- a feed and what comes in after it, with calls by their names
 fed_onto : (name : Naming) (xs ys : List (Thing OWord Back))
     → feed_named name (map (λ (x : Thing OWord Back). x.item) (xs ++ ys))
     ≡ feed_named name (map (λ (x : Thing OWord Back). x.item) xs)
@@ -83,57 +76,26 @@ fed_onto name xs ys =
     ∙ map-append (item_named name) (map (λ (x : Thing OWord Back). x.item) xs)
     (map (λ (x : Thing OWord Back). x.item) ys)
 
-module _ (begin : StartsBegin) (agree : StartsAgree) (leaves : SourcesLeaveNothing) (words : SourcesTellWords)
-    (wipes : WipedCellsAreTold)
-    (means : (modules : List ModuleFields) (parts : List PartSeen) (size : ℕ) (s : StartSeen)
-    → IsStartOf parts size s → AreSources modules parts → MeansAlways (map part_of modules) size s)
-    (modules modules' : List ModuleFields) (parts parts' : List PartSeen) (size : ℕ) (s s' : StartSeen)
-    (is : IsStartOf parts size s) (is' : IsStartOf parts' size s') (src : AreSources modules parts)
-    (src' : AreSources modules' parts')
-    (names : SameNames (linked_at parts size s) (linked_at parts' size s')) {calls : CallNames}
+module _ (it : TwoLinks) (names : SameNames (one_link it) (other_link it)) {calls : CallNames}
     (by_names : GoByNames calls names)
-    (same : TellsAsMuch calls (map part_of modules) (map part_of modules') size) where
+    (same : TellsAsMuch calls (map part_of it.modules) (map part_of it.modules') it.size) where
   abbrev G : Link
-  G = linked_at parts size s
+  G = one_link it
 
   abbrev H : Link
-  H = linked_at parts' size s'
+  H = other_link it
 
   abbrev O : OState
-  O = (overlay_at s).state
+  O = (overlay_at it.s).state
 
   abbrev O' : OState
-  O' = (overlay_at s').state
+  O' = (overlay_at it.s').state
 
   abbrev W : World
-  W = map part_of modules
+  W = map part_of it.modules
 
   abbrev W' : World
-  W' = map part_of modules'
-
-  lg : Linked G
-  lg = linked_is begin agree leaves parts size s is
-
-  lh : Linked H
-  lh = linked_is begin agree leaves parts' size s' is'
-
-  hg : Holds G O
-  hg = holds_is begin agree leaves parts size s is
-
-  hh : Holds H O'
-  hh = holds_is begin agree leaves parts' size s' is'
-
-  tg : Tidies G O
-  tg = tidies_is begin agree leaves modules parts size s is src
-
-  th : Tidies H O'
-  th = tidies_is begin agree leaves modules' parts' size s' is' src'
-
-  ng : NamesTold G.parts G.layout
-  ng = starts_tell_names (placed parts size) size s is
-
-  nh : NamesTold H.parts H.layout
-  nh = starts_tell_names (placed parts' size) size s' is'
+  W' = map part_of it.modules'
 
   abbrev Things : Type 0
   Things = List (Thing OWord Back)
@@ -145,41 +107,42 @@ module _ (begin : StartsBegin) (agree : StartsAgree) (leaves : SourcesLeaveNothi
 
   -- an event of the one is one of the other by the same name
   pub observed_at : (xs ys : List Item) (fed : SameFeed calls xs ys) (fits : FeedFits xs) (f n : ℕ)
-      (x : Event Whence ℕ) → slice_get (refined W size xs f).events n ≡ Some x
-      → (y : Event Whence ℕ) × (slice_get (refined W' size ys (same xs ys fed fits f).0).events n ≡ Some y)
+      (x : Event Whence ℕ) → slice_get (refined W it.size xs f).events n ≡ Some x
+      → (y : Event Whence ℕ) × (slice_get (refined W' it.size ys (same xs ys fed fits f).0).events n ≡ Some y)
       × (event_named calls.one (event_to (name_of W) (λ (k : ℕ). k) x)
       ≡ event_named calls.other (event_to (name_of W') (λ (k : ℕ). k) y))
   observed_at xs ys fed fits f n x e =
       let k = same xs ys fed fits f in
-      let at : slice_get (events_named calls.other (observed W' size ys k.0)) n
+      let at : slice_get (events_named calls.other (observed W' it.size ys k.0)) n
       ≡ Some (event_named calls.one (event_to (name_of W) (λ (k : ℕ). k) x)) =
       ap (λ z. slice_get z n) k.2
-      ∙ in_front (events_named calls.one (observed W size xs f)) k.1 n _
-      (slice_get-map (event_named calls.one) (observed W size xs f) n
+      ∙ in_front (events_named calls.one (observed W it.size xs f)) k.1 n _
+      (slice_get-map (event_named calls.one) (observed W it.size xs f) n
       ∙ ap (option_map (event_named calls.one))
-      (slice_get-map (event_to (name_of W) (λ (k : ℕ). k)) (refined W size xs f).events n
+      (slice_get-map (event_to (name_of W) (λ (k : ℕ). k)) (refined W it.size xs f).events n
       ∙ ap (option_map (event_to (name_of W) (λ (k : ℕ). k))) e)) in
-      let m = map_get (event_named calls.other) (observed W' size ys k.0) n _ at in
-      let y = map_get (event_to (name_of W') (λ (k : ℕ). k)) (refined W' size ys k.0).events n m.0 m.1 in
+      let m = map_get (event_named calls.other) (observed W' it.size ys k.0) n _ at in
+      let y = map_get (event_to (name_of W') (λ (k : ℕ). k)) (refined W' it.size ys k.0).events n m.0 m.1 in
       (y.0, y.1, sym m.2 ∙ ap (event_named calls.other) (sym y.2))
 
   -- so the meaning of the other tells it
   told_now : (xs : List Item) (f n : ℕ) (y : Event Whence ℕ)
-      → slice_get (refined W' size xs f).events n ≡ Some y → n + 1 ≤ length (meaning W' size xs f).events
+      → slice_get (refined W' it.size xs f).events n ≡ Some y → n + 1 ≤ length
+      (meaning W' it.size xs f).events
   told_now xs f n y e =
-      let lt = slice_get_within (refined W' size xs f).events n y e in
-      let len = length-map (refined W' size xs f).events plain_event in
-      let k = ap (λ t. length t.events) (mark_laws.forgets W' size xs f) in
+      let lt = slice_get_within (refined W' it.size xs f).events n y e in
+      let len = length-map (refined W' it.size xs f).events plain_event in
+      let k = ap (λ t. length t.events) (mark_laws.forgets W' it.size xs f) in
       omega (arith, lt, len, k)
 
   -- under more fuel too
   pub told_too : (xs : List Item) (f n : ℕ) (y : Event Whence ℕ)
-      → slice_get (refined W' size xs f).events n ≡ Some y → (m : ℕ) → f ≤ m
-      → n + 1 ≤ length (meaning W' size xs m).events
+      → slice_get (refined W' it.size xs f).events n ≡ Some y → (m : ℕ) → f ≤ m
+      → n + 1 ≤ length (meaning W' it.size xs m).events
   told_too xs f n y e m le =
       let all : f + (m - f) ≡ m = omega (arith, le) in
-      told_now xs m n y (subst (λ g. slice_get (refined W' size xs g).events n ≡ Some y) all
-      (event_later W' size xs f (m - f) n y e))
+      told_now xs m n y (subst (λ g. slice_get (refined W' it.size xs g).events n ≡ Some y) all
+      (event_later W' it.size xs f (m - f) n y e))
 
   -- ---- two points of the runs
 
@@ -190,38 +153,39 @@ module _ (begin : StartsBegin) (agree : StartsAgree) (leaves : SourcesLeaveNothi
     pub xs' : Things
     pub b : OState
     pub b' : OState
-    pub since : TellsSince (layout s) O es xs b p
-    pub since' : TellsSince (layout s') O' es' xs' b' p'
+    pub since : TellsSince (layout it.s) O es xs b p
+    pub since' : TellsSince (layout it.s') O' es' xs' b' p'
     pub count : length es ≡ length es'
     pub fed : SameFeed calls (feed xs) (feed xs')
     pub all : AllAlike G H names cs xs xs'
     pub open_calls : CallsAlike G H names cs p.frames p'.frames
     pub i : ℕ
     pub j : ℕ
-    pub reached : Reached (layout s) O i p
-    pub reached' : Reached (layout s') O' j p'
-    pub outside : is_inside (layout s) p ≡ false
-    pub outside' : is_inside (layout s') p' ≡ false
+    pub reached : Reached (layout it.s) O i p
+    pub reached' : Reached (layout it.s') O' j p'
+    pub outside : is_inside (layout it.s) p ≡ false
+    pub outside' : is_inside (layout it.s') p' ≡ false
     pub alike : Alike G H names cs p p'
     pub below : AreBelow cs p p'
 
   abbrev Result : ℕ → Calls → List Round → OState → OState → Type 0
   Result n cs as_ q p' =
-      (q' : OState) × (bs : List Round) × Path (layout s') n p' bs q' × InStep G H names cs as_ bs q q'
-      × SameFeed calls (items_in (layout s) as_ q) (items_in (layout s') bs q')
+      (q' : OState) × (bs : List Round) × Path (layout it.s') n p' bs q' × InStep G H names cs as_ bs q q'
+      × SameFeed calls (items_in (layout it.s) as_ q) (items_in (layout it.s') bs q')
 
   pub steps_alike : (cs : Calls) (p p' : OState) → Point cs p p' → StepsAlike G H names cs p p'
   steps_alike cs p p' k =
-      alike_step G H names lg lh O O' hg hh tg th cs k.i k.j p p' k.reached k.reached' k.outside k.outside'
+      alike_step G H names (lg it) (lh it) O O' (hg it) (hh it) (tg it) (th it) cs k.i k.j p p' k.reached
+      k.reached' k.outside k.outside'
       k.alike k.below
 
   -- ---- a step outside
 
   stays_too : (cs : Calls) (p p' q : OState) → StepsAlike G H names cs p p'
-      → overlay_step (layout s) p ≡ goes q
-      → is_inside (layout s) q ≡ false → (q' : OState) × (overlay_step (layout s') p' ≡ goes q')
-      × (is_inside (layout s') q' ≡ false) × Alike G H names cs q q'
-      × (step_event (layout s) p q ≡ None) × (step_event (layout s') p' q' ≡ None)
+      → overlay_step (layout it.s) p ≡ goes q
+      → is_inside (layout it.s) q ≡ false → (q' : OState) × (overlay_step (layout it.s') p' ≡ goes q')
+      × (is_inside (layout it.s') q' ≡ false) × Alike G H names cs q q'
+      × (step_event (layout it.s) p q ≡ None) × (step_event (layout it.s') p' q' ≡ None)
   stays_too cs p p' q (both_halt x y) e i = absurd (halts_not q (sym x ∙ e))
   stays_too cs p p' q (both_fail x y) e i = absurd (fails_not q (sym x ∙ e))
   stays_too cs p p' q (both_stay m m' x y im jm ev ew al) e i =
@@ -230,16 +194,16 @@ module _ (begin : StartsBegin) (agree : StartsAgree) (leaves : SourcesLeaveNothi
         y,
         jm,
         subst (λ z. Alike G H names cs z m') k al,
-        subst (λ z. step_event (layout s) p z ≡ None) k ev,
+        subst (λ z. step_event (layout it.s) p z ≡ None) k ev,
         ew,
       )
   stays_too cs p p' q (both_come m m' x y im jm c) e i =
-      absurd (let bad : true ≡ false = sym im ∙ ap (is_inside (layout s)) (goes_same m q (sym x ∙ e)) ∙ i
+      absurd (let bad : true ≡ false = sym im ∙ ap (is_inside (layout it.s)) (goes_same m q (sym x ∙ e)) ∙ i
       in cc)
 
-  pub stays : (cs : Calls) (p p' q : OState) (k : Point cs p p') → overlay_step (layout s) p ≡ goes q
-      → is_inside (layout s) q ≡ false
-      → (q' : OState) × (overlay_step (layout s') p' ≡ goes q') × (is_inside (layout s') q' ≡ false)
+  pub stays : (cs : Calls) (p p' q : OState) (k : Point cs p p') → overlay_step (layout it.s) p ≡ goes q
+      → is_inside (layout it.s) q ≡ false
+      → (q' : OState) × (overlay_step (layout it.s') p' ≡ goes q') × (is_inside (layout it.s') q' ≡ false)
       × Point cs q q'
   stays cs p p' q k e i =
       let z = stays_too cs p p' q (steps_alike cs p p' k) e i in (
@@ -253,14 +217,15 @@ module _ (begin : StartsBegin) (agree : StartsAgree) (leaves : SourcesLeaveNothi
           xs' = k.xs';
           b = _;
           b' = _;
-          since = calm_since (layout s) O k.es k.xs k.b p q k.since e (calm z.4);
-          since' = calm_since (layout s') O' k.es' k.xs' k.b' p' z.0 k.since' z.1 (calm z.5);
+          since = calm_since (layout it.s) O k.es k.xs k.b p q k.since e (calm z.4);
+          since' = calm_since (layout it.s') O' k.es' k.xs' k.b' p' z.0 k.since' z.1 (calm z.5);
           count = k.count;
           fed = k.fed;
           all = k.all;
           open_calls = calls_kept G H names cs p.frames p'.frames q.frames z.0.frames k.open_calls
-              (λ n m c f. step_kept G lg O hg k.i p q k.reached e n f (k.below.first n m c))
-              (λ n m c f. step_kept H lh O' hh k.j p' z.0 k.reached' z.1 m f (k.below.second n m c));
+              (λ n m c f. step_kept G (lg it) O (hg it) k.i p q k.reached e n f (k.below.first n m c))
+              (λ n m c f. step_kept H (lh it) O' (hh it) k.j p' z.0 k.reached' z.1 m f
+              (k.below.second n m c));
           i = _;
           j = _;
           reached = goes_on k.reached e;
@@ -269,9 +234,9 @@ module _ (begin : StartsBegin) (agree : StartsAgree) (leaves : SourcesLeaveNothi
           outside' = z.2;
           alike = z.3;
           below =
-              below_later G H names lg lh O O' hg hh tg th cs p p' q z.0
-              (step_rises G lg O hg k.i p q k.reached e)
-              (step_rises H lh O' hh k.j p' z.0 k.reached' z.1) k.below;
+              below_later G H names (lg it) (lh it) O O' (hg it) (hh it) (tg it) (th it) cs p p' q z.0
+              (step_rises G (lg it) O (hg it) k.i p q k.reached e)
+              (step_rises H (lh it) O' (hh it) k.j p' z.0 k.reached' z.1) k.below;
         },
       )
     where
@@ -281,111 +246,116 @@ module _ (begin : StartsBegin) (agree : StartsAgree) (leaves : SourcesLeaveNothi
   -- ---- a round
 
   pub comes_too : (cs : Calls) (p p' q : OState) → StepsAlike G H names cs p p'
-      → overlay_step (layout s) p ≡ goes q
-      → is_inside (layout s) q ≡ true → (q' : OState) × (overlay_step (layout s') p' ≡ goes q')
-      × (is_inside (layout s') q' ≡ true) × ComesAlike G H names cs p q p' q'
+      → overlay_step (layout it.s) p ≡ goes q
+      → is_inside (layout it.s) q ≡ true → (q' : OState) × (overlay_step (layout it.s') p' ≡ goes q')
+      × (is_inside (layout it.s') q' ≡ true) × ComesAlike G H names cs p q p' q'
   comes_too cs p p' q (both_halt x y) e i = absurd (halts_not q (sym x ∙ e))
   comes_too cs p p' q (both_fail x y) e i = absurd (fails_not q (sym x ∙ e))
   comes_too cs p p' q (both_stay m m' x y im jm ev ew al) e i =
-      absurd (let bad : false ≡ true = sym im ∙ ap (is_inside (layout s)) (goes_same m q (sym x ∙ e)) ∙ i
+      absurd (let bad : false ≡ true = sym im ∙ ap (is_inside (layout it.s)) (goes_same m q (sym x ∙ e)) ∙ i
       in cc)
   comes_too cs p p' q (both_come m m' x y im jm c) e i =
       (m', y, jm, subst (λ z. ComesAlike G H names cs p z p' m') (goes_same m q (sym x ∙ e)) c)
 
   -- the items are the same
   come_items : (cs : Calls) (p p' : OState) (k : Point cs p p') (q q' : OState)
-      → overlay_step (layout s) p ≡ goes q
-      → overlay_step (layout s') p' ≡ goes q' → ComesAlike G H names cs p q p' q'
-      → SameFeed calls (event_items (layout s) (flat_view (layout s) q) (step_event (layout s) p q))
-      (event_items (layout s') (flat_view (layout s') q') (step_event (layout s') p' q'))
+      → overlay_step (layout it.s) p ≡ goes q
+      → overlay_step (layout it.s') p' ≡ goes q' → ComesAlike G H names cs p q p' q'
+      → SameFeed calls (event_items (layout it.s) (flat_view (layout it.s) q) (step_event (layout it.s) p q))
+      (event_items (layout it.s') (flat_view (layout it.s') q') (step_event (layout it.s') p' q'))
   come_items cs p p' k q q' e e' c =
-      items_same G H names by_names lg lh ng nh cs p q p' q'
+      items_same G H names by_names (lg it) (lh it) (ng it) (nh it) cs p q p' q'
       (calls_kept G H names cs p.frames p'.frames q.frames q'.frames k.open_calls
-      (λ n m c f. step_kept G lg O hg k.i p q k.reached e n f (k.below.first n m c))
-      (λ n m c f. step_kept H lh O' hh k.j p' q' k.reached' e' m f (k.below.second n m c)))
-      (has_sites G lg O hg _ q (goes_on k.reached e)) (has_sites H lh O' hh _ q' (goes_on k.reached' e'))
-      (met G lg O hg _ q (goes_on k.reached e)) (met H lh O' hh _ q' (goes_on k.reached' e')) c
+      (λ n m c f. step_kept G (lg it) O (hg it) k.i p q k.reached e n f (k.below.first n m c))
+      (λ n m c f. step_kept H (lh it) O' (hh it) k.j p' q' k.reached' e' m f (k.below.second n m c)))
+      (has_sites G (lg it) O (hg it) _ q (goes_on k.reached e))
+      (has_sites H (lh it) O' (hh it) _ q' (goes_on k.reached' e'))
+      (met G (lg it) O (hg it) _ q (goes_on k.reached e)) (met H (lh it) O' (hh it) _ q' (goes_on k.reached'
+      e')) c
 
   abbrev Last : OState → Ending → List Item
-  Last p e = feed_named calls.one (item_by (layout s) p e)
+  Last p e = feed_named calls.one (item_by (layout it.s) p e)
 
   abbrev Last' : OState → Ending → List Item
-  Last' p e = feed_named calls.other (item_by (layout s') p e)
+  Last' p e = feed_named calls.other (item_by (layout it.s') p e)
 
   last_item : (cs : Calls) (p p' : OState) → Point cs p p'
-      → Last p (overlay_step (layout s) p) ≡ Last' p' (overlay_step (layout s') p')
+      → Last p (overlay_step (layout it.s) p) ≡ Last' p' (overlay_step (layout it.s') p')
   last_item cs p p' k = by (steps_alike cs p p' k)
     where
       by : StepsAlike G H names cs p p'
-          → Last p (overlay_step (layout s) p) ≡ Last' p' (overlay_step (layout s') p')
+          → Last p (overlay_step (layout it.s) p) ≡ Last' p' (overlay_step (layout it.s') p')
       by (both_halt x y) = ap (Last p) x ∙ sym (ap (Last' p') y)
       by (both_fail x y) = ap (Last p) x ∙ sym (ap (Last' p') y)
       by (both_stay m m' x y i j ev ew al) =
           ap (Last p) x
-          ∙ ap (λ b. feed_named calls.one (if b then event_items (layout s) (flat_view (layout s) m)
-          (step_event (layout s) p m) else [])) i
+          ∙ ap (λ b. feed_named calls.one (if b then event_items (layout it.s) (flat_view (layout it.s) m)
+          (step_event (layout it.s) p m) else [])) i
           ∙ sym (ap (Last' p') y
-          ∙ ap (λ b. feed_named calls.other (if b then event_items (layout s') (flat_view (layout s') m')
-          (step_event (layout s') p' m') else [])) j)
+          ∙ ap (λ b. feed_named calls.other (if b then event_items (layout it.s') (flat_view (layout it.s')
+          m')
+          (step_event (layout it.s') p' m') else [])) j)
       by (both_come m m' x y i j c) =
           ap (Last p) x
-          ∙ ap (λ b. feed_named calls.one (if b then event_items (layout s) (flat_view (layout s) m)
-          (step_event (layout s) p m) else [])) i
+          ∙ ap (λ b. feed_named calls.one (if b then event_items (layout it.s) (flat_view (layout it.s) m)
+          (step_event (layout it.s) p m) else [])) i
           ∙ come_items cs p p' k m m' x y c
           ∙ sym (ap (Last' p') y
-          ∙ ap (λ b. feed_named calls.other (if b then event_items (layout s') (flat_view (layout s') m')
-          (step_event (layout s') p' m') else [])) j)
+          ∙ ap (λ b. feed_named calls.other (if b then event_items (layout it.s') (flat_view (layout it.s')
+          m')
+          (step_event (layout it.s') p' m') else [])) j)
 
   -- where code outside comes in nothing is shown
   silent : (cs : Calls) (p q p' q' : OState) → ComesAlike G H names cs p q p' q'
-      → (seen.event_outs (layout s) q (step_event (layout s) p q) ≡ [])
-      × (seen.event_outs (layout s') q' (step_event (layout s') p' q') ≡ [])
+      → (seen.event_outs (layout it.s) q (step_event (layout it.s) p q) ≡ [])
+      × (seen.event_outs (layout it.s') q' (step_event (layout it.s') p' q') ≡ [])
   silent cs p q p' q' (inl e) = (
-    ap (seen.event_outs (layout s) q) e.event ∙ entry_silent (layout s) e.one q,
-    ap (seen.event_outs (layout s') q') e.event_other ∙ entry_silent (layout s') e.other q',
+    ap (seen.event_outs (layout it.s) q) e.event ∙ entry_silent (layout it.s) e.one q,
+    ap (seen.event_outs (layout it.s') q') e.event_other ∙ entry_silent (layout it.s') e.other q',
   )
   silent cs p q p' q' (inr e) =
-      (ap (seen.event_outs (layout s) q) e.event, ap (seen.event_outs (layout s') q') e.event_other)
+      (ap (seen.event_outs (layout it.s) q) e.event, ap (seen.event_outs (layout it.s') q') e.event_other)
 
   -- code outside comes in, in both
-  module _ (cs : Calls) (p p' q : OState) (k : Point cs p p') (e : overlay_step (layout s) p ≡ goes q)
-      (q' : OState) (e' : overlay_step (layout s') p' ≡ goes q') (c : ComesAlike G H names cs p q p' q')
+  module _ (cs : Calls) (p p' q : OState) (k : Point cs p p') (e : overlay_step (layout it.s) p ≡ goes q)
+      (q' : OState) (e' : overlay_step (layout it.s') p' ≡ goes q') (c : ComesAlike G H names cs p q p' q')
     where
       abbrev pub Fed : Things
-      Fed = k.xs ++ seen.event_items (layout s) q (step_event (layout s) p q)
+      Fed = k.xs ++ seen.event_items (layout it.s) q (step_event (layout it.s) p q)
 
       abbrev pub FedToo : Things
-      FedToo = k.xs' ++ seen.event_items (layout s') q' (step_event (layout s') p' q')
+      FedToo = k.xs' ++ seen.event_items (layout it.s') q' (step_event (layout it.s') p' q')
 
       all_came : AllAlike G H names cs Fed FedToo
       all_came = all_both G H names cs k.xs k.xs' _ _ k.all
-          (things_alike G H names lg lh ng nh cs p q p' q' k.alike.newest c)
+          (things_alike G H names (lg it) (lh it) (ng it) (nh it) cs p q p' q' k.alike.newest c)
 
       pub one_feed : SameFeed calls (feed Fed) (feed FedToo)
       one_feed =
-          fed_onto calls.one k.xs (seen.event_items (layout s) q (step_event (layout s) p q))
-          ∙ ap (λ z. z ++ feed_named calls.one (feed (seen.event_items (layout s) q
-          (step_event (layout s) p q)))) k.fed
+          fed_onto calls.one k.xs (seen.event_items (layout it.s) q (step_event (layout it.s) p q))
+          ∙ ap (λ z. z ++ feed_named calls.one (feed (seen.event_items (layout it.s) q
+          (step_event (layout it.s) p q)))) k.fed
           ∙ ap (λ z. feed_named calls.other (feed k.xs') ++ z)
-          (ap (feed_named calls.one) (things_item (layout s) q _) ∙ come_items cs p p' k q q' e e' c
-          ∙ sym (ap (feed_named calls.other) (things_item (layout s') q' _)))
-          ∙ sym (fed_onto calls.other k.xs' (seen.event_items (layout s') q' (step_event (layout s') p' q')))
+          (ap (feed_named calls.one) (things_item (layout it.s) q _) ∙ come_items cs p p' k q q' e e' c
+          ∙ sym (ap (feed_named calls.other) (things_item (layout it.s') q' _)))
+          ∙ sym (fed_onto calls.other k.xs' (seen.event_items (layout it.s') q' (step_event (layout it.s') p'
+          q')))
 
-      pub came : TellsSince (layout s) O k.es Fed p q
+      pub came : TellsSince (layout it.s) O k.es Fed p q
       came =
-          subst (λ z. TellsSince (layout s) O k.es Fed (last_outside z k.b p) q) k.outside
-          (subst (λ z. TellsSince (layout s) O z Fed (last_outside (is_inside (layout s) p) k.b p) q)
+          subst (λ z. TellsSince (layout it.s) O k.es Fed (last_outside z k.b p) q) k.outside
+          (subst (λ z. TellsSince (layout it.s) O z Fed (last_outside (is_inside (layout it.s) p) k.b p) q)
           (ap (λ z. k.es ++ z) (silent cs p q p' q' c).0 ∙ append-nil k.es) (and_then k.since e))
 
-      pub came_too : TellsSince (layout s') O' k.es' FedToo p' q'
+      pub came_too : TellsSince (layout it.s') O' k.es' FedToo p' q'
       came_too =
-          subst (λ z. TellsSince (layout s') O' k.es' FedToo (last_outside z k.b' p') q') k.outside'
+          subst (λ z. TellsSince (layout it.s') O' k.es' FedToo (last_outside z k.b' p') q') k.outside'
           (subst
-          (λ z. TellsSince (layout s') O' z FedToo (last_outside (is_inside (layout s') p') k.b' p') q')
+          (λ z. TellsSince (layout it.s') O' z FedToo (last_outside (is_inside (layout it.s') p') k.b' p') q')
           (ap (λ z. k.es' ++ z) (silent cs p q p' q' c).1 ∙ append-nil k.es') (and_then k.since' e'))
 
-  module _ (cs : Calls) (a : Round) (p' : OState) (k : Point cs a.before p') (ia : IsRound (layout s) a)
-      (q' : OState) (e' : overlay_step (layout s') p' ≡ goes q') (i' : is_inside (layout s') q' ≡ true)
+  module _ (cs : Calls) (a : Round) (p' : OState) (k : Point cs a.before p') (ia : IsRound (layout it.s) a)
+      (q' : OState) (e' : overlay_step (layout it.s') p' ≡ goes q') (i' : is_inside (layout it.s') q' ≡ true)
       (c : ComesAlike G H names cs a.before a.entered p' q') where
     abbrev xs : Things
     xs = Fed cs a.before p' a.entered k ia.comes q' e' c
@@ -399,27 +369,30 @@ module _ (begin : StartsBegin) (agree : StartsAgree) (leaves : SourcesLeaveNothi
     same_feed : SameFeed calls (feed xs) (feed ys)
     same_feed = one_feed cs a.before p' a.entered k ia.comes q' e' c
 
-    came_in : TellsSince (layout s) O k.es xs a.before a.entered
+    came_in : TellsSince (layout it.s) O k.es xs a.before a.entered
     came_in = came cs a.before p' a.entered k ia.comes q' e' c
 
-    came_in' : TellsSince (layout s') O' k.es' ys p' q'
+    came_in' : TellsSince (layout it.s') O' k.es' ys p' q'
     came_in' = came_too cs a.before p' a.entered k ia.comes q' e' c
 
     fits : FeedFits (feed xs)
-    fits = feed_fits (layout s) O k.es xs a.before a.entered came_in
+    fits = feed_fits (layout it.s) O k.es xs a.before a.entered came_in
 
     abbrev Told : Type 0
-    Told = RoundTold G W size s refl (slots modules (placed parts size) s) (words modules parts size s is src)
-        (wipes modules parts size s is src) k.es xs a.before a.last a.after
+    Told = RoundTold G W it.size it.s refl (slots it.modules (placed it.parts it.size) it.s)
+        (it.words it.modules it.parts it.size it.s it.is it.src)
+        (it.wipes it.modules it.parts it.size it.s it.is it.src) k.es xs a.before a.last a.after
 
     told : Told
-    told = round_told G W size s refl (slots modules (placed parts size) s)
-        (words modules parts size s is src)
-        (wipes modules parts size s is src) k.es xs a.before a.entered a.last a.after came_in ia.until ia.lets
-        ia.gone (round_shows leaves modules parts size s is src k.i a k.reached ia)
+    told = round_told G W it.size it.s refl (slots it.modules (placed it.parts it.size) it.s)
+        (it.words it.modules it.parts it.size it.s it.is it.src)
+        (it.wipes it.modules it.parts it.size it.s it.is it.src) k.es xs a.before a.entered a.last a.after
+        came_in ia.until ia.lets
+        ia.gone (round_shows it.leaves it.modules it.parts it.size it.s it.is it.src k.i a k.reached ia)
 
     -- the other lets go too
-    tells_more : TellsMore W' size s' (means modules' parts' size s' is' src') k.es' ys
+    tells_more : TellsMore W' it.size it.s' (it.means it.modules' it.parts' it.size it.s' it.is' it.src')
+        k.es' ys
     tells_more = (
       (same (feed xs) (feed ys) same_feed fits told.enough).0,
       λ f le. (
@@ -430,10 +403,11 @@ module _ (begin : StartsBegin) (agree : StartsAgree) (leaves : SourcesLeaveNothi
           omega (arith, len, n)),
     )
 
-    pub other : (b : Round) × IsRound (layout s') b × (b.before ≡ p') × (b.entered ≡ q')
+    pub other : (b : Round) × IsRound (layout it.s') b × (b.before ≡ p') × (b.entered ≡ q')
     other =
-        let g = goes_out W' size s' (means modules' parts' size s' is' src') k.es' ys q'
-        (tells_of (layout s') O' k.es' ys p' q' came_in') i' tells_more in (
+        let g = goes_out W' it.size it.s' (it.means it.modules' it.parts' it.size it.s' it.is' it.src') k.es'
+        ys q'
+        (tells_of (layout it.s') O' k.es' ys p' q' came_in') i' tells_more in (
           record { before = p'; entered = q'; last = g.0; after = g.1 },
           record { outside = k.outside'; comes = e'; until = g.2; lets = g.3; gone = g.4 },
           refl,
@@ -441,7 +415,7 @@ module _ (begin : StartsBegin) (agree : StartsAgree) (leaves : SourcesLeaveNothi
         )
 
     -- behind both rounds
-    module _ (b : Round) (ib : IsRound (layout s') b) (eb : b.before ≡ p') (ee : b.entered ≡ q') where
+    module _ (b : Round) (ib : IsRound (layout it.s') b) (eb : b.before ≡ p') (ee : b.entered ≡ q') where
       kb : Point cs a.before b.before
       kb = subst (Point cs a.before) (sym eb) k
 
@@ -450,29 +424,33 @@ module _ (begin : StartsBegin) (agree : StartsAgree) (leaves : SourcesLeaveNothi
           (subst (λ z. ComesAlike G H names cs a.before a.entered p' z) (sym ee) c)
 
       abbrev Other : Type 0
-      Other = RoundTold H W' size s' refl (slots modules' (placed parts' size) s')
-          (words modules' parts' size s' is' src') (wipes modules' parts' size s' is' src') k.es' ys b.before
+      Other = RoundTold H W' it.size it.s' refl (slots it.modules' (placed it.parts' it.size) it.s')
+          (it.words it.modules' it.parts' it.size it.s' it.is' it.src')
+          (it.wipes it.modules' it.parts' it.size it.s' it.is' it.src') k.es' ys b.before
           b.last
           b.after
 
-      came_b : TellsSince (layout s') O' k.es' ys b.before b.entered
-      came_b = subst (λ z. TellsSince (layout s') O' k.es' ys z b.entered) (sym eb)
-          (subst (TellsSince (layout s') O' k.es' ys p') (sym ee) came_in')
+      came_b : TellsSince (layout it.s') O' k.es' ys b.before b.entered
+      came_b = subst (λ z. TellsSince (layout it.s') O' k.es' ys z b.entered) (sym eb)
+          (subst (TellsSince (layout it.s') O' k.es' ys p') (sym ee) came_in')
 
-      reached_b : Reached (layout s') O' k.j b.before
-      reached_b = subst (Reached (layout s') O' k.j) (sym eb) k.reached'
+      reached_b : Reached (layout it.s') O' k.j b.before
+      reached_b = subst (Reached (layout it.s') O' k.j) (sym eb) k.reached'
 
       told_b : Other
-      told_b = round_told H W' size s' refl (slots modules' (placed parts' size) s')
-          (words modules' parts' size s' is' src') (wipes modules' parts' size s' is' src') k.es' ys b.before
+      told_b = round_told H W' it.size it.s' refl (slots it.modules' (placed it.parts' it.size) it.s')
+          (it.words it.modules' it.parts' it.size it.s' it.is' it.src')
+          (it.wipes it.modules' it.parts' it.size it.s' it.is' it.src') k.es' ys b.before
           b.entered b.last b.after came_b ib.until ib.lets ib.gone
-          (round_shows leaves modules' parts' size s' is' src' k.j b reached_b ib)
+          (round_shows it.leaves it.modules' it.parts' it.size it.s' it.is' it.src' k.j b reached_b ib)
 
-      ga : (i : ℕ) × Reached (layout s) O i a.after
-      ga = after_a G H names lg lh O O' hg hh tg th cs a b k.i k.j k.reached reached_b ia ib kb.below
+      ga : (i : ℕ) × Reached (layout it.s) O i a.after
+      ga = after_a G H names (lg it) (lh it) O O' (hg it) (hh it) (tg it) (th it) cs a b k.i k.j k.reached
+          reached_b ia ib kb.below
 
-      gb : (j : ℕ) × Reached (layout s') O' j b.after
-      gb = after_b G H names lg lh O O' hg hh tg th cs a b k.i k.j k.reached reached_b ia ib kb.below
+      gb : (j : ℕ) × Reached (layout it.s') O' j b.after
+      gb = after_b G H names (lg it) (lh it) O O' (hg it) (hh it) (tg it) (th it) cs a b k.i k.j k.reached
+          reached_b ia ib kb.below
 
       abbrev F : ℕ
       F = told.enough + told.wiped.enough
@@ -485,12 +463,14 @@ module _ (begin : StartsBegin) (agree : StartsAgree) (leaves : SourcesLeaveNothi
       record Both : Type 0 where
         pub one : Event Whence ℕ
         pub two : Event Whence ℕ
-        pub one_is : slice_get (refined W size (feed xs) F).events (length k.es) ≡ Some one
-        pub two_is : slice_get (refined W' size (feed ys) F').events (length k.es') ≡ Some two
-        pub one_shown : seen.event_outs (layout s) a.after (step_event (layout s) a.last a.after)
-            ≡ shown_of (event_to (word_from (slots modules (placed parts size) s) xs) (back_at xs) one) ∷ []
-        pub two_shown : seen.event_outs (layout s') b.after (step_event (layout s') b.last b.after)
-            ≡ shown_of (event_to (word_from (slots modules' (placed parts' size) s') ys) (back_at ys) two)
+        pub one_is : slice_get (refined W it.size (feed xs) F).events (length k.es) ≡ Some one
+        pub two_is : slice_get (refined W' it.size (feed ys) F').events (length k.es') ≡ Some two
+        pub one_shown : seen.event_outs (layout it.s) a.after (step_event (layout it.s) a.last a.after)
+            ≡ shown_of (event_to (word_from (slots it.modules (placed it.parts it.size) it.s) xs) (back_at xs)
+            one) ∷ []
+        pub two_shown : seen.event_outs (layout it.s') b.after (step_event (layout it.s') b.last b.after)
+            ≡ shown_of (event_to (word_from (slots it.modules' (placed it.parts' it.size) it.s') ys)
+            (back_at ys) two)
             ∷ []
         pub names_same : event_named calls.one (event_to (name_of W) (λ (k : ℕ). k) one)
             ≡ event_named calls.other (event_to (name_of W') (λ (k : ℕ). k) two)
@@ -501,9 +481,10 @@ module _ (begin : StartsBegin) (agree : StartsAgree) (leaves : SourcesLeaveNothi
           let y = told_b.event F' (omega arith) in
           let z = observed_at (feed xs) (feed ys) same_feed fits F (length k.es) x.0 x.1 in
           let at : Some z.0 ≡ Some y.0 =
-          sym (event_later W' size (feed ys) (same (feed xs) (feed ys) same_feed fits F).0 _ (length k.es) z.0
+          sym (event_later W' it.size (feed ys) (same (feed xs) (feed ys) same_feed fits F).0 _ (length k.es)
+          z.0
           z.1)
-          ∙ ap (slice_get (refined W' size (feed ys) F').events) k.count ∙ y.1 in
+          ∙ ap (slice_get (refined W' it.size (feed ys) F').events) k.count ∙ y.1 in
           let one : z.0 ≡ y.0 = cc in
           record {
             one = x.0;
@@ -518,21 +499,25 @@ module _ (begin : StartsBegin) (agree : StartsAgree) (leaves : SourcesLeaveNothi
 
       cross : (ds : Calls) × SameCrossing G H names cs a b ds × (low_of both.one ≡ low_of both.two)
       cross =
-          crossed G H names by_names lg lh cs (name_of W) (name_of W')
-          (word_from (slots modules (placed parts size) s) xs)
-          (word_from (slots modules' (placed parts' size) s') ys) (back_at xs) (back_at ys)
+          crossed G H names by_names (lg it) (lh it) cs (name_of W) (name_of W')
+          (word_from (slots it.modules (placed it.parts it.size) it.s) xs)
+          (word_from (slots it.modules' (placed it.parts' it.size) it.s') ys) (back_at xs) (back_at ys)
           (λ w v e. named_same G H names by_names cs xs ys all_in (name_of W' v) _ _
           (subst
-          (λ n. IsNamed (placed parts size) xs n (word_from (slots modules (placed parts size) s) xs w)) e
-          (is_named begin modules parts size s is src xs w))
-          (is_named begin modules' parts' size s' is' src' ys v))
+          (λ n. IsNamed (placed it.parts it.size) xs n (word_from (slots it.modules (placed it.parts it.size)
+          it.s) xs w)) e
+          (is_named it.begin it.modules it.parts it.size it.s it.is it.src xs w))
+          (is_named it.begin it.modules' it.parts' it.size it.s' it.is' it.src' ys v))
           (λ n. back_alike G H names cs xs ys n all_in) a b
-          (runs_outside G H names lg lh O O' hg hh tg th G O hg ga.0 a.after ga.1 ia.gone)
-          (runs_outside G H names lg lh O O' hg hh tg th H O' hh gb.0 b.after gb.1 ib.gone)
-          (has_sites G lg O hg ga.0 a.after ga.1) (has_sites H lh O' hh gb.0 b.after gb.1)
-          (met G lg O hg ga.0 a.after ga.1) (met H lh O' hh gb.0 b.after gb.1)
-          (round_shows leaves modules parts size s is src k.i a k.reached ia)
-          (round_shows leaves modules' parts' size s' is' src' k.j b reached_b ib) both.one both.two
+          (runs_outside G H names (lg it) (lh it) O O' (hg it) (hh it) (tg it) (th it) G O (hg it) ga.0
+          a.after ga.1 ia.gone)
+          (runs_outside G H names (lg it) (lh it) O O' (hg it) (hh it) (tg it) (th it) H O' (hh it) gb.0
+          b.after gb.1 ib.gone)
+          (has_sites G (lg it) O (hg it) ga.0 a.after ga.1) (has_sites H (lh it) O' (hh it) gb.0 b.after gb.1)
+          (met G (lg it) O (hg it) ga.0 a.after ga.1) (met H (lh it) O' (hh it) gb.0 b.after gb.1)
+          (round_shows it.leaves it.modules it.parts it.size it.s it.is it.src k.i a k.reached ia)
+          (round_shows it.leaves it.modules' it.parts' it.size it.s' it.is' it.src' k.j b reached_b ib)
+          both.one both.two
           both.one_shown both.two_shown both.names_same
 
       lows : told.wiped.low ≡ told_b.wiped.low
@@ -547,7 +532,8 @@ module _ (begin : StartsBegin) (agree : StartsAgree) (leaves : SourcesLeaveNothi
 
       wiped : SameWiped G a b
       wiped =
-          wiped_same G H names O O' hg hh cs a b kb.alike.seen.1 ga gb told.wiped.low told_b.wiped.low
+          wiped_same G H names O O' (hg it) (hh it) cs a b kb.alike.seen.1 ga gb told.wiped.low
+          told_b.wiped.low
           told.wiped.wiped
           told_b.wiped.wiped lows
           (same_ends G H names cs cross.0 a b cross.1 told.wiped.wiped.end told_b.wiped.wiped.end
@@ -572,35 +558,38 @@ module _ (begin : StartsBegin) (agree : StartsAgree) (leaves : SourcesLeaveNothi
         open_calls = calls_behind G H names cs cross.0 a b cross.1
             (calls_kept G H names cs a.before.frames b.before.frames a.after.frames b.after.frames
             kb.open_calls
-            (λ n m c f. open_since G lg O hg k.i n f a k.reached ia (kb.below.first n m c))
-            (λ n m c f. open_since H lh O' hh k.j m f b reached_b ib (kb.below.second n m c)));
+            (λ n m c f. open_since G (lg it) O (hg it) k.i n f a k.reached ia (kb.below.first n m c))
+            (λ n m c f. open_since H (lh it) O' (hh it) k.j m f b reached_b ib (kb.below.second n m c)));
         i = ga.0;
         j = gb.0;
         reached = ga.1;
         reached' = gb.1;
         outside = ia.gone;
         outside' = ib.gone;
-        alike = arrive_alike G H names lg lh cs a b
-            (runs_outside G H names lg lh O O' hg hh tg th G O hg ga.0 a.after ga.1 ia.gone)
-            (runs_outside G H names lg lh O O' hg hh tg th H O' hh gb.0 b.after gb.1 ib.gone) kb.alike.seen.1
-            (tg k.i a k.reached ia) (th k.j b reached_b ib) wiped cross.0 cross.1;
-        below = below_after G H names lg lh O O' hg hh tg th cs a b k.i k.j k.reached reached_b ia ib kb.below
+        alike = arrive_alike G H names (lg it) (lh it) cs a b
+            (runs_outside G H names (lg it) (lh it) O O' (hg it) (hh it) (tg it) (th it) G O (hg it) ga.0
+            a.after ga.1 ia.gone)
+            (runs_outside G H names (lg it) (lh it) O O' (hg it) (hh it) (tg it) (th it) H O' (hh it) gb.0
+            b.after gb.1 ib.gone) kb.alike.seen.1
+            ((tg it) k.i a k.reached ia) ((th it) k.j b reached_b ib) wiped cross.0 cross.1;
+        below = below_after G H names (lg it) (lh it) O O' (hg it) (hh it) (tg it) (th it) cs a b k.i k.j
+            k.reached reached_b ia ib kb.below
             cross.0 cross.1;
       }
 
       pub met_again : (ds : Calls) × Point ds a.after b.after
       met_again = (cross.0, behind)
 
-      items_b : SameFeed calls (event_items (layout s) (flat_view (layout s) a.entered)
-          (step_event (layout s) a.before a.entered))
-          (event_items (layout s') (flat_view (layout s') b.entered)
-          (step_event (layout s') b.before b.entered))
+      items_b : SameFeed calls (event_items (layout it.s) (flat_view (layout it.s) a.entered)
+          (step_event (layout it.s) a.before a.entered))
+          (event_items (layout it.s') (flat_view (layout it.s') b.entered)
+          (step_event (layout it.s') b.before b.entered))
       items_b = come_items cs a.before p' k a.entered q' ia.comes e' c
-          ∙ sym (ap (λ z. feed_named calls.other (event_items (layout s') (flat_view (layout s') z)
-          (step_event (layout s') p' z))) ee)
+          ∙ sym (ap (λ z. feed_named calls.other (event_items (layout it.s') (flat_view (layout it.s') z)
+          (step_event (layout it.s') p' z))) ee)
           ∙ sym
-          (ap (λ z. feed_named calls.other (event_items (layout s') (flat_view (layout s') b.entered)
-          (step_event (layout s') z b.entered))) eb)
+          (ap (λ z. feed_named calls.other (event_items (layout it.s') (flat_view (layout it.s') b.entered)
+          (step_event (layout it.s') z b.entered))) eb)
 
       joined : (n : ℕ) (as_ : List Round) (q : OState) → Result n cross.0 as_ q b.after
           → Result (suc n) cs (a ∷ as_) q p'
@@ -610,17 +599,18 @@ module _ (begin : StartsBegin) (agree : StartsAgree) (leaves : SourcesLeaveNothi
             b ∷ r.1,
             spec.inside b ib r.2,
             round a b cb cross.1 r.3,
-            map-append (item_named calls.one) _ (items_in (layout s) as_ q)
-                ∙ ap (λ z. z ++ feed_named calls.one (items_in (layout s) as_ q)) items_b
-                ∙ ap (λ z. feed_named calls.other (event_items (layout s') (flat_view (layout s') b.entered)
-                (step_event (layout s') b.before b.entered)) ++ z) r.4
-                ∙ sym (map-append (item_named calls.other) _ (items_in (layout s') r.1 r.0)),
+            map-append (item_named calls.one) _ (items_in (layout it.s) as_ q)
+                ∙ ap (λ z. z ++ feed_named calls.one (items_in (layout it.s) as_ q)) items_b
+                ∙ ap (λ z. feed_named calls.other (event_items (layout it.s') (flat_view (layout it.s')
+                b.entered)
+                (step_event (layout it.s') b.before b.entered)) ++ z) r.4
+                ∙ sym (map-append (item_named calls.other) _ (items_in (layout it.s') r.1 r.0)),
           )
 
   -- ---- runs
 
   pub go_in_step : (n : ℕ) (cs : Calls) (p p' q : OState) (as_ : List Round) → Point cs p p'
-      → Path (layout s) n p as_ q → Result n cs as_ q p'
+      → Path (layout it.s) n p as_ q → Result n cs as_ q p'
   go_in_step _ cs p p' _ _ k spec.ends =
       (p', [], spec.ends, at_end k.alike (steps_alike cs p p' k), last_item cs p p' k)
   go_in_step _ cs p p' q as_ k (spec.outside {n = n} {q = m} x e w r) =
@@ -629,14 +619,14 @@ module _ (begin : StartsBegin) (agree : StartsAgree) (leaves : SourcesLeaveNothi
       (t.0, t.1, spec.outside k.outside' z.1 z.2 t.2, t.3, t.4)
   go_in_step _ cs _ p' q _ k (spec.inside {n = n} {rs = as_} a ia r) =
       let c = comes_too cs a.before p' a.entered (steps_alike cs a.before p' k) ia.comes
-      (first_inside (layout s) a.entered a.last ia.until) in
+      (first_inside (layout it.s) a.entered a.last ia.until) in
       let o = other cs a p' k ia c.0 c.1 c.2 c.3 in
       joined cs a p' k ia c.0 c.1 c.2 c.3 o.0 o.1 o.2 o.3 n as_ q
       (go_in_step n _ a.after o.0.after q as_ (behind cs a p' k ia c.0 c.1 c.2 c.3 o.0 o.1 o.2 o.3) r)
 
   -- where no code has run
-  pub first_point : Alike G H names [] O O' → AreBelow [] O O' → is_inside (layout s) O ≡ false
-      → is_inside (layout s') O' ≡ false → Point [] O O'
+  pub first_point : Alike G H names [] O O' → AreBelow [] O O' → is_inside (layout it.s) O ≡ false
+      → is_inside (layout it.s') O' ≡ false → Point [] O O'
   first_point al below io io' = record {
     es = [];
     es' = [];
@@ -659,8 +649,3 @@ module _ (begin : StartsBegin) (agree : StartsAgree) (leaves : SourcesLeaveNothi
     alike = al;
     below = below;
   }
-
-abbrev pub SourcesMeanAll : Type 0
-SourcesMeanAll =
-    (modules : List ModuleFields) (parts : List PartSeen) (size : ℕ) (s : StartSeen) → IsStartOf parts size s
-    → AreSources modules parts → MeansAlways (map part_of modules) size s
