@@ -10,7 +10,7 @@ use Rattle.lcm_isa.specs.Numbers as numbers
 use Rattle.lcm_isa.specs.Numbers.{number_of, decode_of, candidate, all_with}
 use Rattle.lcm_machine.specs.declared.cells.Span.{Span}
 use Rattle.lcm_machine.specs.Spans.{zero_regs}
-use Rattle.lcm_machine.specs.Row.{faces, opens, some, clear}
+use Rattle.lcm_machine.specs.Row.{faces, opens, some, clear, perform}
 use Rattle.lcm_machine.specs.Table as table
 use Rattle.call_sequence.specs.Sequences.{call_code, return_code, entry_code}
 use Rattle.component_linker.specs.Parts.{PartSeen}
@@ -43,7 +43,7 @@ use Rattle.context_laws.proofs.Offers.{numbers_apart}
 use Rattle.known_steps.specs.Known.{Known, Partly, blank, knows, case_by, by_fetched, at_pc, known_run}
 use Rattle.known_steps.specs.Known.{words_since}
 use Rattle.known_steps.specs.Known.{gone, at_xjmp}
-use Rattle.known_steps.proofs.Offers.{known_from, known_at_start, whole, Crosses_to, call_known, Runs_to}
+use Rattle.known_steps.proofs.Offers.{known_from, known_at_start, whole, CrossesTo, call_known, RunsTo}
 use Rattle.known_steps.proofs.Offers.{runs_known}
 use Rattle.context_instance.proofs.Offers.{outsider, parts_with, is_linked, other_there}
 use Rattle.callback_instance.specs.Callers.{says, adds, CallersLetGo}
@@ -131,7 +131,8 @@ record Computed : Type 0 where
 computed : Computed
 unfolding start_cell start_regs part_word regions_of component_of frame_of laid_of lay_proc before_epilogue
     items.put instrs first_data exports_of imports_of variable_named callee_named entry_code call_code
-    return_code number_of decode_of candidate all_with numbers.table faces opens owner_of clear table.need
+    return_code number_of decode_of candidate all_with numbers.table faces opens owner_of clear perform
+    table.need
     table.ask table.by_cap entry_step own_stack need known_run site_code
 computed = record {
   begins = refl;
@@ -151,14 +152,14 @@ unfolding start_regs component_of frame_of laid_of lay_proc before_epilogue item
     imports_of variable_named callee_named entry_code call_code return_code faces owner_of
 adds_begins = refl
 
-to_call : Runs_to K S L [] 0 true calling at_start
+to_call : RunsTo K S L [] 0 true calling at_start
 to_call =
     runs_known K S L [] 0 true 25 beginning calling at_start.maps.cells
     (known_at_start P 8 says_start
     (is_linked answerer (main_in (compiled says)) (compiled says) 95 4 says_sites says_links)) computed.begins
     computed.to_call
 
-calls : Crosses_to K S L 0 [] called (frame ∷ []) 1 (whole K S L [] 0 calling to_call.0)
+calls : CrossesTo K S L 0 [] called (frame ∷ []) 1 (whole K S L [] 0 calling to_call.0)
 calls =
     call_known K S L 0 [] calling called to_call.0 0 3 site (stack 307 304) (number 0) pushed to_call.1 refl
     refl

@@ -48,8 +48,8 @@ use Rattle.context_laws.specs.Lockstep as path
 use Rattle.context_laws.specs.Meanings.{by_number, SameMeaningsAreNotToldApart, item_by, items_in}
 use Rattle.context_laws.proofs.Offers.{numbers_apart, one_feed}
 use Rattle.known_steps.specs.Known.{Partly, Stays, here, on}
-use Rattle.known_steps.proofs.Offers.{Steps_to, whole, step_known, Crosses_to, call_known, return_known}
-use Rattle.known_steps.proofs.Offers.{Runs_to}
+use Rattle.known_steps.proofs.Offers.{StepsTo, whole, step_known, CrossesTo, call_known, return_known}
+use Rattle.known_steps.proofs.Offers.{RunsTo}
 use Rattle.known_steps.proofs.Offers.{runs_known, jump_note}
 use Rattle.known_steps.proofs.Offers.{halts_known, event_by, jump_event, known_at_start}
 use Rattle.context_instance.proofs.Offers.{adversary, outsider, main, is_linked, other_there}
@@ -102,14 +102,14 @@ in_call s m = whole K S L (frame ∷ []) 1 s m
 abbrev behind_call : Partly → Cells → OState
 behind_call s m = whole K S L [] 1 s m
 
-record Sides_seen : Type 0 where
+record Stands : Type 0 where
   pub begins : is_inside L at_start ≡ false
   pub enters : (m : Cells) → is_inside L (before_call entered m) ≡ true
   pub is_called : (m : Cells) → is_inside L (in_call called m) ≡ false
   pub is_answered : (m : Cells) → is_inside L (behind_call answered m) ≡ true
   pub is_left : (m : Cells) → is_inside L (behind_call left m) ≡ false
 
-sides : Sides_seen
+sides : Stands
 unfolding faces owner_of start_regs component_of frame_of laid_of lay_proc before_epilogue items.put instrs
     first_data exports_of imports_of variable_named callee_named entry_code call_code return_code
 sides = record {
@@ -120,43 +120,43 @@ sides = record {
   is_left = λ m. refl;
 }
 
-to_entry : Runs_to K S L [] 0 false entering at_start
+to_entry : RunsTo K S L [] 0 false entering at_start
 to_entry =
     runs_known K S L [] 0 false 12 beginning entering at_start.maps.cells
     (known_at_start P 8 passes_start (is_linked adversary main (compiled passes) 137 2 passes_sites
     one_links)) sides.begins
     computed.to_entry
 
-enters : Steps_to K S L [] 0 entered (overlay_step L (before_call entering to_entry.0))
+enters : StepsTo K S L [] 0 entered (overlay_step L (before_call entering to_entry.0))
 enters = step_known K S L [] 0 entering entered to_entry.0 to_entry.1 computed.enters
 
-to_call : Runs_to K S L [] 0 true calling (before_call entered enters.0)
+to_call : RunsTo K S L [] 0 true calling (before_call entered enters.0)
 to_call =
     runs_known K S L [] 0 true 59 entered calling enters.0 enters.1 (sides.enters enters.0) computed.to_call
 
-calls : Crosses_to K S L 0 [] called (frame ∷ []) 1 (before_call calling to_call.0)
+calls : CrossesTo K S L 0 [] called (frame ∷ []) 1 (before_call calling to_call.0)
 calls =
     call_known K S L 0 [] calling called to_call.0 0 6 site (stack 307 301) (Plain (Int (pos 0))) pushed
     to_call.1
     refl refl crossed.knows_call crossed.calls crossed.site_is crossed.calls_on refl refl computed.pushes refl
     computed.jumps
 
-to_answer : Runs_to K S L (frame ∷ []) 1 false answering (in_call called calls.0)
+to_answer : RunsTo K S L (frame ∷ []) 1 false answering (in_call called calls.0)
 to_answer =
     runs_known K S L (frame ∷ []) 1 false 1 called answering calls.0 calls.1 (sides.is_called calls.0)
     computed.to_answer
 
-answers : Crosses_to K S L 1 [] answered [] 1 (in_call answering to_answer.0)
+answers : CrossesTo K S L 1 [] answered [] 1 (in_call answering to_answer.0)
 answers =
     return_known K S L 1 [] answering to_answer.0 Rcode Rdata 0 0 frame site (stack 300 300) to_answer.1
     crossed.knows_answer crossed.answers refl refl refl crossed.site_is crossed.answers_on refl
 
-to_leave : Runs_to K S L [] 1 true leaving (behind_call answered answers.0)
+to_leave : RunsTo K S L [] 1 true leaving (behind_call answered answers.0)
 to_leave =
     runs_known K S L [] 1 true 29 answered leaving answers.0 answers.1 (sides.is_answered answers.0)
     computed.to_leave
 
-leaves : Steps_to K S L [] 1 left (overlay_step L (behind_call leaving to_leave.0))
+leaves : StepsTo K S L [] 1 left (overlay_step L (behind_call leaving to_leave.0))
 leaves = step_known K S L [] 1 leaving left to_leave.0 to_leave.1 computed.leaves
 
 -- ---- the rounds

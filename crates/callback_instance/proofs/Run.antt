@@ -10,7 +10,7 @@ use Rattle.lcm_isa.specs.declared.Reg.TheVariants.{Rcode, Rdata, C1, C2}
 use Rattle.lcm_isa.specs.Numbers as numbers
 use Rattle.lcm_isa.specs.Numbers.{number_of, decode_of, candidate, all_with}
 use Rattle.lcm_machine.specs.Spans.{zero_regs}
-use Rattle.lcm_machine.specs.Row.{faces, opens, some, clear}
+use Rattle.lcm_machine.specs.Row.{faces, opens, some, clear, perform}
 use Rattle.lcm_machine.specs.Table as table
 use Rattle.call_sequence.specs.Sequences.{call_code, return_code, entry_code}
 use Rattle.component_linker.specs.Parts.{PartSeen}
@@ -187,7 +187,8 @@ pub record Computed : Type 0 where
 pub computed : Computed
 unfolding start_cell start_regs part_word regions_of component_of frame_of laid_of lay_proc before_epilogue
     items.put instrs first_data exports_of imports_of variable_named callee_named entry_code call_code
-    return_code number_of decode_of candidate all_with numbers.table faces opens owner_of clear table.need
+    return_code number_of decode_of candidate all_with numbers.table faces opens owner_of clear perform
+    table.need
     table.ask table.by_cap entry_step own_stack need known_run
 computed = record {
   to_entry = refl;

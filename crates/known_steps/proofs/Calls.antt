@@ -112,8 +112,8 @@ module _ (k : Known) where
 
 module _ (k : Known) (spans : List Span) (l : Layout) (n : ℕ) (fs : List OpenFrame) where
   -- the overlay comes to what is known, with these frames
-  abbrev pub Crosses_to : Partly → List OpenFrame → ℕ → OState → Type 0
-  Crosses_to t gs j o =
+  abbrev pub CrossesTo : Partly → List OpenFrame → ℕ → OState → Type 0
+  CrossesTo t gs j o =
       (m : Cells) × AreIn k t.changes m
       × (overlay_step l o ≡ goes (record { maps = with_cells k spans t m; frames = gs; calls = j }))
 
@@ -149,7 +149,7 @@ module _ (k : Known) (spans : List Span) (l : Layout) (n : ℕ) (fs : List OpenF
           → words_since k s.changes (address c.addr) (suc j) ≡ Some (w ∷ ws)
           → (is_plain s.regs.c1 && is_plain s.regs.c2) ≡ true
           → by_fetched k (at_xjmp i e c j n s) (some (Xjmp C1 C2) (Int (pos 0))) ≡ Some t
-          → Crosses_to t (made_frame ∷ fs) (n + 1)
+          → CrossesTo t (made_frame ∷ fs) (n + 1)
           (record { maps = with_cells k spans s m; frames = fs; calls = n })
       unfolding overlay_step own_stack faces
       call_known there case site own room top known plain is =
@@ -167,7 +167,7 @@ module _ (k : Known) (spans : List Span) (l : Layout) (n : ℕ) (fs : List OpenF
       (c : CapFields) → AreIn k s.changes m → knows k s (at_pc k s) ≡ true → case_by k l s ≡ Back r1 r2
       → reg s.regs r1 ≡ RetCode i → reg s.regs r2 ≡ RetData q → ((q == f.call) && (i == f.site)) ≡ true
       → site_code l i ≡ Some e → own_stack l (blank s.regs) ≡ Some c → (c.end + 1 == f.base) ≡ true
-      → Crosses_to (behind_return e c f r2 s) fs n
+      → CrossesTo (behind_return e c f r2 s) fs n
       (record { maps = with_cells k spans s m; frames = f ∷ fs; calls = n })
   unfolding overlay_step return_step own_stack faces need ask
   return_known s m r1 r2 i q f e c h there case one two same site own next = (

@@ -149,6 +149,7 @@ module _ (k : Known) (spans : List Span) where
   go_over s m (Some x) = refl
 
   others_over : (e : Effect) (s : State OWord) (m : Cells) → others k e (over s m) ≡ over (others k e s) m
+  unfolding perform
   others_over e s m =
       let one = spend look Plain s e.spent in
       let two = spend look Plain one e.also_spent in
@@ -192,8 +193,8 @@ module _ (k : Known) (spans : List Span) where
   fetch_known s m h e = fetch_by (faces look (blank s.regs) Pc) _ _ (there_known s m _ h e)
 
   -- a row comes to what is known after it
-  abbrev Goes_to : Partly → Outcome OWord → Type 0
-  Goes_to t o = (m : Cells) × AreIn k t.changes m × (o ≡ went (with_cells t m))
+  abbrev GoesTo : Partly → Outcome OWord → Type 0
+  GoesTo t o = (m : Cells) × AreIn k t.changes m × (o ≡ went (with_cells t m))
 
   plan_known : (s : Partly) (m : Cells) (i : Instr) (next : Word) → AreIn k s.changes m
       → knows k s (target_in k s i) ≡ true → plan_in look (with_cells s m) i next ≡ known_plan k s i next
@@ -203,7 +204,7 @@ module _ (k : Known) (spans : List Span) where
       (there_known s m (target_in k s i) h e)
 
   outcome_known : (s t : Partly) (m : Cells) (p : Plan) → AreIn k s.changes m → by_plan k s p ≡ Some t
-      → Goes_to t (outcome look Plain (with_cells s m) p)
+      → GoesTo t (outcome look Plain (with_cells s m) p)
   outcome_known s t m (Fails f) h e = absurd cc
   outcome_known s t m Halts h e = absurd cc
   outcome_known s t m (Goes x) h e =
@@ -211,7 +212,7 @@ module _ (k : Known) (spans : List Span) where
 
   row_by : (b : Bool) (s t : Partly) (m : Cells) (i : Instr) (next : Word) → AreIn k s.changes m
       → knows k s (target_in k s i) ≡ b → (if b then by_plan k s (known_plan k s i next) else None) ≡ Some t
-      → Goes_to t (row look Plain i next (with_cells s m))
+      → GoesTo t (row look Plain i next (with_cells s m))
   unfolding row
   row_by true s t m i next h e is =
       let c = outcome_known s t m (known_plan k s i next) h is in
@@ -220,7 +221,7 @@ module _ (k : Known) (spans : List Span) where
 
   pub fetched_goes : (s t : Partly) (m : Cells) (f : Fetched) → AreIn k s.changes m → by_fetched k s f ≡ Some
       t
-      → Goes_to t (step_fetched look Plain (with_cells s m) f)
+      → GoesTo t (step_fetched look Plain (with_cells s m) f)
   fetched_goes s t m (none f) h e = absurd cc
   fetched_goes s t m (some i next) h e = row_by _ s t m i next h refl e
 
@@ -243,11 +244,11 @@ module _ (k : Known) (spans : List Span) where
     abbrev pub whole : Partly → Cells → OState
     whole s m = record { maps = with_cells s m; frames = fs; calls = n }
 
-    abbrev pub Steps_to : Partly → Ending → Type 0
-    Steps_to t e = (m : Cells) × AreIn k t.changes m × (e ≡ goes (whole t m))
+    abbrev pub StepsTo : Partly → Ending → Type 0
+    StepsTo t e = (m : Cells) × AreIn k t.changes m × (e ≡ goes (whole t m))
 
     other_known : (s t : Partly) (m : Cells) → AreIn k s.changes m → knows k s (at_pc k s) ≡ true
-        → by_fetched k s (fetched k s) ≡ Some t → Steps_to t (other_step (whole s m))
+        → by_fetched k s (fetched k s) ≡ Some t → StepsTo t (other_step (whole s m))
     unfolding other_step step_of
     other_known s t m h e is =
         let c = fetched_goes s t m (fetched k s) h is in (
@@ -271,15 +272,15 @@ module _ (k : Known) (spans : List Span) where
     entry_by s m a (Some p) (Some c) e f = rw (e, f) refl
 
     lifted_is : (s t : Partly) (m : Cells) (e : Ending) → AreIn k s.changes m → by_ending k s e ≡ Some t
-        → Steps_to t (lifted s m e)
+        → StepsTo t (lifted s m e)
     lifted_is s t m (goes q) h e =
         let same : record s { regs = q.maps.regs } ≡ t = cc in
-        subst (λ x. Steps_to x (lifted s m (goes q))) same (m, h, refl)
+        subst (λ x. StepsTo x (lifted s m (goes q))) same (m, h, refl)
     lifted_is s t m halts h e = absurd cc
     lifted_is s t m fails h e = absurd cc
 
     case_goes : (s t : Partly) (m : Cells) (c : Case) → AreIn k s.changes m → knows k s (at_pc k s) ≡ true
-        → by_case k l s c ≡ Some t → Steps_to t (step_by l c (whole s m))
+        → by_case k l s c ≡ Some t → StepsTo t (step_by l c (whole s m))
     case_goes s t m Other h e is = other_known s t m h e is
     case_goes s t m (Entry a) h e is =
         let c = lifted_is s t m (entry_step l a (at_blank k s)) h is in
@@ -288,7 +289,7 @@ module _ (k : Known) (spans : List Span) where
     case_goes s t m (Back r1 r2) h e is = absurd cc
 
     step_by_knows : (b : Bool) (s t : Partly) (m : Cells) → AreIn k s.changes m → knows k s (at_pc k s) ≡ b
-        → (if b then by_case k l s (case_by k l s) else None) ≡ Some t → Steps_to t (overlay_step l (whole s
+        → (if b then by_case k l s (case_by k l s) else None) ≡ Some t → StepsTo t (overlay_step l (whole s
         m))
     unfolding overlay_step
     step_by_knows true s t m h e is =
@@ -297,5 +298,5 @@ module _ (k : Known) (spans : List Span) where
     step_by_knows false s t m h e is = absurd cc
 
     pub step_known : (s t : Partly) (m : Cells) → AreIn k s.changes m → known_step k l s ≡ Some t
-        → Steps_to t (overlay_step l (whole s m))
+        → StepsTo t (overlay_step l (whole s m))
     step_known s t m h is = step_by_knows _ s t m h refl is

@@ -35,8 +35,8 @@ module _ (k : Known) (spans : List Span) (l : Layout) (fs : List OpenFrame) (n :
   at s m = whole k spans l fs n s m
 
   -- from one state to what is known of another
-  abbrev pub Runs_to : Bool → Partly → OState → Type 0
-  Runs_to b t o = (m : Cells) × AreIn k t.changes m × Stays l b o (at t m)
+  abbrev pub RunsTo : Bool → Partly → OState → Type 0
+  RunsTo b t o = (m : Cells) × AreIn k t.changes m × Stays l b o (at t m)
 
   inside_same : (s : Partly) (m : Cells) → is_inside l (at s m) ≡ is_inside l (at_blank k s)
   unfolding faces
@@ -44,10 +44,10 @@ module _ (k : Known) (spans : List Span) (l : Layout) (fs : List OpenFrame) (n :
 
   further : (b d : Bool) (j : ℕ) (x t : Partly) (o : OState)
       → ((m : Cells) → AreIn k x.changes m → is_inside l (at x m) ≡ b → known_run k l b j x ≡ Some t
-      → Runs_to b t (at x m))
+      → RunsTo b t (at x m))
       → is_inside l o ≡ b → is_or_not k b (is_inside l (at_blank k x)) ≡ d
       → (if d then known_run k l b j x else None) ≡ Some t
-      → (m : Cells) × AreIn k x.changes m × (overlay_step l o ≡ goes (at x m)) → Runs_to b t o
+      → (m : Cells) × AreIn k x.changes m × (overlay_step l o ≡ goes (at x m)) → RunsTo b t o
   further b true j x t o more i is e c =
       let r = more c.0 c.1 (inside_same x c.0 ∙ is_so b _ is) e in
       (r.0, r.1, on i c.2 r.2)
@@ -55,20 +55,20 @@ module _ (k : Known) (spans : List Span) (l : Layout) (fs : List OpenFrame) (n :
 
   run_by : (b : Bool) (j : ℕ) (s t : Partly) (m : Cells) (o : Option Partly)
       → ((x : Partly) (m' : Cells) → AreIn k x.changes m' → is_inside l (at x m') ≡ b
-      → known_run k l b j x ≡ Some t → Runs_to b t (at x m'))
+      → known_run k l b j x ≡ Some t → RunsTo b t (at x m'))
       → AreIn k s.changes m → is_inside l (at s m) ≡ b → known_step k l s ≡ o
       → option_and_then (λ x. if is_or_not k b (is_inside l (at_blank k x)) then known_run k l b j x else
       None) o
-      ≡ Some t → Runs_to b t (at s m)
+      ≡ Some t → RunsTo b t (at s m)
   run_by b j s t m None more h i step e = absurd cc
   run_by b j s t m (Some x) more h i step e =
       further b _ j x t (at s m) (more x) i refl e (step_known k spans l fs n s x m h step)
 
   pub runs_known : (b : Bool) (j : ℕ) (s t : Partly) (m : Cells) → AreIn k s.changes m
-      → is_inside l (at s m) ≡ b → known_run k l b j s ≡ Some t → Runs_to b t (at s m)
+      → is_inside l (at s m) ≡ b → known_run k l b j s ≡ Some t → RunsTo b t (at s m)
   unfolding known_run
   runs_known b zero s t m h i e =
-      let same : s ≡ t = cc in subst (λ x. Runs_to b x (at s m)) same (m, h, here i)
+      let same : s ≡ t = cc in subst (λ x. RunsTo b x (at s m)) same (m, h, here i)
   runs_known b (suc j) s t m h i e =
       run_by b j s t m _ (λ x m' g inside known. runs_known b j x t m' g inside known) h i refl e
 

@@ -19,9 +19,8 @@ use Rattle.lcm_machine.specs.Maps.{Regs, State}
 use Rattle.lcm_machine.specs.Places.{reg, set_reg}
 use Rattle.lcm_machine.specs.Cells.{cell}
 use Rattle.lcm_machine.specs.Table.{plan, target}
-use Rattle.lcm_machine.specs.Row.{faces, opens, look_face, face_there, fetch, Fetched, none, some, spend}
-use Rattle.lcm_machine.specs.Row.{make}
-use Rattle.lcm_machine.specs.Row.{go_on, put}
+use Rattle.lcm_machine.specs.Row.{faces, opens, look_face, face_there, fetch, Fetched, none, some, put}
+use Rattle.lcm_machine.specs.Row.{perform}
 use Rattle.trusted_border.specs.declared.layout.Layout.{Layout}
 use Rattle.trusted_border.specs.declared.layout.SiteCode.{SiteCode}
 use Rattle.trusted_border.specs.Layout.{trusted_at}
@@ -38,13 +37,15 @@ use Rattle.trace_tool.specs.Cuts.{is_inside}
 
 -- ---- what is known
 
--- cells that were set, or taken away, since a time at which the words of some were known
+-- the words that some cells had at one time
 abbrev pub Known : Type 0
 Known = ℕ → Option OWord
 
+-- cells that were set, or taken away, since then, newest first
 abbrev pub Changes : Type 0
 Changes = List (ℕ × Option OWord)
 
+-- the word of a cell now, where it is known
 abbrev pub word_since : Known → Changes → ℕ → Option OWord
 word_since k [] a = k a
 word_since k (c ∷ cs) a = if a == c.0 then c.1 else word_since k cs a
@@ -58,12 +59,14 @@ pub record Partly : Type 0 where
   pub regs : Regs OWord
   pub changes : Changes
 
--- ---- a step of it
+-- ---- a step of it: as the overlay makes it, where all that the step asks is known
 
+-- the registers alone
 abbrev pub blank : Regs OWord → State OWord
 blank rs = record { regs = rs; cells = maps.empty; spans = [] }
 
 module _ (k : Known) where
+  -- words of places: read, set, and taken where they are linear
   abbrev pub known_word : Partly → Place → Option OWord
   known_word s (R r) = Some (reg s.regs r)
   known_word s (Cell a) = word_since k s.changes a
@@ -75,16 +78,14 @@ module _ (k : Known) where
   abbrev pub taken_from : Partly → Place → OWord → Partly
   taken_from s p w = if is_linear (look w) then set_place s p (zero_word Plain) else s
 
+  -- an effect carried out
   abbrev pub moved : Partly → Option Moved → Option Partly
   moved s None = Some s
   moved s (Some m) = option_map (λ w. set_place (taken_from s m.from w) m.to w) (known_word s m.from)
 
-  -- what an effect does to registers, once its word is moved
+  -- what an effect does beside moving a word: it sets registers alone
   abbrev pub others : Effect → State OWord → State OWord
-  others e s =
-      go_on Plain (make Plain (make Plain (spend look Plain (spend look Plain s e.spent) e.also_spent)
-      e.first)
-      e.second) e.next
+  others e s = perform look Plain s (record e { moved = None })
 
   abbrev pub with_others : Effect → Partly → Partly
   with_others e s = record s { regs = (others e (blank s.regs)).regs }
@@ -100,6 +101,7 @@ module _ (k : Known) where
   knows s None = true
   knows s (Some a) = is_some (word_since k s.changes a)
 
+  -- by the plan of an instruction
   abbrev pub by_plan : Partly → Plan → Option Partly
   by_plan s (Goes e) = performed s e
   by_plan s _ = None
@@ -116,16 +118,19 @@ module _ (k : Known) where
   by_fetched s (none f) = None
   by_fetched s (some i next) = if knows s (target_in s i) then by_plan s (known_plan s i next) else None
 
+  -- by the end of an entry, which leaves memory
   abbrev pub by_ending : Partly → Ending → Option Partly
   by_ending s (goes q) = Some (record s { regs = q.maps.regs })
   by_ending s _ = None
 
+  -- what is fetched, and so the case of the step
   abbrev pub fetched : Partly → Fetched
   fetched s = fetch (faces look (blank s.regs) Pc) (face_since s)
 
   abbrev pub at_blank : Partly → OState
   at_blank s = record { maps = blank s.regs; frames = []; calls = 0 }
 
+  -- a call and a return are no such steps, but see below
   abbrev pub by_case : Layout → Partly → Case → Option Partly
   by_case l s Other = by_fetched s (fetched s)
   by_case l s (Entry a) = by_ending s (entry_step l a (at_blank s))
@@ -141,6 +146,7 @@ module _ (k : Known) where
   abbrev pub known_step : Layout → Partly → Option Partly
   known_step l s = if knows s (at_pc s) then by_case l s (case_by l s) else None
 
+  -- that it is, or that it isn't
   abbrev pub is_or_not : Bool → Bool → Bool
   is_or_not b c = if b then c else not c
 
