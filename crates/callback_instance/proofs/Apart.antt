@@ -4,14 +4,15 @@ use Rattle.proc_templates.specs.Compiled.{compiled}
 use Rattle.context_laws.specs.Meanings.{by_number, SameMeaningsAreNotToldApart}
 use Rattle.context_laws.specs.Ends.{SameMeaningsEndAlike}
 use Rattle.context_laws.proofs.Offers.{numbers_apart}
-use Rattle.callback_instance.specs.Passes.{passes, stores, PassersBeside, TwoPassers}
+use Rattle.context_instance.specs.Doubles.{LinksBeside}
+use Rattle.callback_instance.specs.Passes.{passes, stores, TwoPassers}
 use Rattle.callback_instance.proofs.Modules.{limits, limits_too, resolved, resolved_too, differ}
 use Rattle.context_instance.proofs.Offers.{parts_of, main}
 use Rattle.callback_instance.proofs.Links.{passes_start, stores_start, passes_starts, stores_starts, beside}
 use Rattle.callback_instance.proofs.Links.{passes_sources, stores_sources, passes_main, stores_main}
 use Rattle.callback_instance.proofs.Means.{mean_the_same, end_the_same, calls}
 
-abbrev pub links_there : PassersBeside
+abbrev pub links_there : LinksBeside passes stores
 links_there = record {
   parts = parts_of (compiled passes);
   parts_too = parts_of (compiled stores);

@@ -10,7 +10,7 @@ use Rattle.proc_semantics.specs.Told.{repeated}
 use Rattle.proc_semantics.specs.Values.{Store, found, linked, main_target}
 use Rattle.proc_semantics.specs.Rules.{Then, Level, level, enough, call, given_from, body_of, proc_of, start}
 use Rattle.proc_semantics.specs.Marked.{Whence, ImportWord, CodeHalf, DataHalf, Regs, Way}
-use Rattle.same_meanings.specs.Same.{tracing, LevelledThen, Waiter, wait_at, Sides, SameTold, SameCall}
+use Rattle.same_meanings.specs.Same.{tracing, Continuation, Waiter, wait_at, Sides, SameBehaviour, SameCall}
 use Rattle.same_meanings.specs.Same.{SameWaits}
 use Rattle.same_meanings.specs.Same.{SameRefined, first_store}
 use Rattle.same_meanings.proofs.Offers.{any_feed, both_deeper, ticks, both_wipe, both_call, both_halt}
@@ -85,7 +85,7 @@ called part site base low = refl
 module _ (n : ℕ) (waits : SameWaits S n) where
   -- it calls out, and halts with the answer
   call_same : (left : ℕ) (st st' : Store)
-      → SameTold S n
+      → SameBehaviour S n
       (λ d. call tracing (U ∷ []) (At d) (in_main left) 0 by_import Outside (Num (pos 6) ∷ [])
       (λ v st. tracing.halting v) st)
       (λ d. call tracing (V ∷ []) (At' d) (in_main left) 0 by_import Outside (Num (pos 6) ∷ [])
@@ -104,8 +104,8 @@ module _ (n : ℕ) (waits : SameWaits S n) where
       (λ d. (At d).wait (wait_at (Some c) d) st) (λ d. (At' d).wait (wait_at (Some c) d) st') called
       (waits (Some c) (Some c) st st' (refl, refl, refl, refl, λ v x y h. both_halt S n v) tt))
 
-  runs_same : (left : Option ℕ) (rs rs' : Regs Whence ℕ) (k k' : LevelledThen) (st st' : Store)
-      → SameTold S n (λ d. proc_of tracing (U ∷ []) (At d) 0 (Some P) left rs (k d) st)
+  runs_same : (left : Option ℕ) (rs rs' : Regs Whence ℕ) (k k' : Continuation) (st st' : Store)
+      → SameBehaviour S n (λ d. proc_of tracing (U ∷ []) (At d) 0 (Some P) left rs (k d) st)
       (λ d. proc_of tracing (V ∷ []) (At' d) 0 (Some Q) left rs' (k' d) st')
   runs_same left rs rs' k k' st st' =
       ticks S (1 + P.need) (1 + Q.need) n _ _
@@ -114,13 +114,14 @@ module _ (n : ℕ) (waits : SameWaits S n) where
       (same_as S n _ _ _ _ (λ d. says_body (At d) given (k d) st) (λ d. adds_body (At' d) given (k' d) st')
       (ticks S 3 5 n _ _ (call_same given st st')))))
 
-  proc_same : (left : Option ℕ) (rs rs' : Regs Whence ℕ) (k k' : LevelledThen) (st st' : Store)
-      → SameTold S n (λ d. (At d).proc it left rs (k d) st) (λ d. (At' d).proc it left rs' (k' d) st')
+  proc_same : (left : Option ℕ) (rs rs' : Regs Whence ℕ) (k k' : Continuation) (st st' : Store)
+      → SameBehaviour S n (λ d. (At d).proc it left rs (k d) st) (λ d. (At' d).proc it left rs' (k' d) st')
   proc_same left rs rs' k k' st st' =
       both_deeper S n _ _ (runs_same left rs rs' (λ d. k (suc d)) (λ d. k' (suc d)) st st')
 
   starts : (size : ℕ)
-      → SameTold S n (λ d. start tracing (U ∷ []) (At d) size (main_target (U ∷ [])) (first_store (U ∷ [])))
+      → SameBehaviour S n (λ d. start tracing (U ∷ []) (At d) size (main_target (U ∷ [])) (first_store (U ∷
+      [])))
       (λ d. start tracing (V ∷ []) (At' d) size (main_target (V ∷ [])) (first_store (V ∷ [])))
   unfolding main_target
   starts size =
@@ -129,7 +130,7 @@ module _ (n : ℕ) (waits : SameWaits S n) where
       (first_store (U ∷ [])) (first_store (V ∷ []))
 
   hops : (c c' : Option Waiter) (left : Option ℕ) (v : _) (st st' : Store)
-      → SameTold S n (λ d. (At d).hop (wait_at c d) left it v st)
+      → SameBehaviour S n (λ d. (At d).hop (wait_at c d) left it v st)
       (λ d. (At' d).hop (wait_at c' d) left it v st')
   hops c c' left v st st' =
       both_deeper S n _ _

@@ -21,7 +21,8 @@ use Rattle.proc_semantics.specs.Values.{pair_found, if_there}
 use Rattle.proc_semantics.specs.Rules.{Then, Level, level, with_number, result_of, enough, call}
 use Rattle.proc_semantics.specs.Rules.{given_from, call_by, body_of, proc_of, finish}
 use Rattle.proc_semantics.specs.Marked.{Whence, CameWord, Frame, Way}
-use Rattle.same_meanings.specs.Same.{tracing, LevelledThen, Waiter, wait_at, Sides, SameTold, SameThen}
+use Rattle.same_meanings.specs.Same.{tracing, Continuation, Waiter, wait_at, Sides, SameBehaviour}
+use Rattle.same_meanings.specs.Same.{SameContinuation}
 use Rattle.same_meanings.specs.Same.{SameCall, SameWaits, BothFound, SameRefined}
 use Rattle.same_meanings.specs.Same.{numbered}
 use Rattle.same_meanings.proofs.Offers.{both_deeper, both_higher, ticks, both_fail, both_wipe, both_call}
@@ -146,9 +147,9 @@ module _ (N : Type 0) (name name' : Whence → N)
   fed_pair (fed.Hop p n) = a_pair (found_pair (found (U ∷ []) p n) (found (V ∷ []) p n) (names_same p n))
 
   -- with one number in the registers it fails, as there is no callback
-  alone : (n : ℕ) (left : Option ℕ) (v : ℤ) (ws ws' : List (Option Whence)) (k k' : LevelledThen)
+  alone : (n : ℕ) (left : Option ℕ) (v : ℤ) (ws ws' : List (Option Whence)) (k k' : Continuation)
       (st st' : Store)
-      → SameTold S n
+      → SameBehaviour S n
       (λ d. proc_of tracing (U ∷ []) (At d) 0 (Some P) left
       (record { registers = register_of (Num v) ∷ []; words = ws }) (k d) st)
       (λ d. proc_of tracing (V ∷ []) (At' d) 0 (Some Q) left
@@ -165,7 +166,7 @@ module _ (N : Type 0) (name name' : Whence → N)
         (by_callback (None ∷ Some (CameWord k 1) ∷ Some (CameWord k 2) ∷ [])) (Num v ∷ []) (Num v ∷ [])
     called k v part site base low = rw (came k 1, came k 2) refl
 
-    module _ (k left : ℕ) (q q' : LevelledThen) (then_same : SameThen S n q q') where
+    module _ (k left : ℕ) (q q' : Continuation) (then_same : SameContinuation S n q q') where
       abbrev words : List (Option Whence)
       words = None ∷ Some (CameWord k 1) ∷ Some (CameWord k 2) ∷ []
 
@@ -173,14 +174,14 @@ module _ (N : Type 0) (name name' : Whence → N)
       frame = record { home = 0; left = left; need = 6; words = words }
 
       -- what goes on with an answer
-      answered_same : SameThen S n (λ d. finish tracing (U ∷ []) 6 (q (suc d)))
+      answered_same : SameContinuation S n (λ d. finish tracing (U ∷ []) 6 (q (suc d)))
           (λ d. finish tracing (V ∷ []) 6 (q' (suc d)))
       answered_same v st st' h =
           ticks S 7 7 n (λ d. q (suc d) v st) (λ d. q' (suc d) v st')
           (both_higher S n (λ d. q d v st) (λ d. q' d v st') (then_same v st st' h))
 
       by_pair : (given : ℕ) (v : ℤ) (x x' : Pair) → SamePair x x' → (st st' : Store) → Holds st'
-          → SameTold S n
+          → SameBehaviour S n
           (λ d. call_by tracing (U ∷ []) (At d) 0 given 0 (by_callback words) x (Num v ∷ [])
           (finish tracing (U ∷ []) 6 (q (suc d))) st)
           (λ d. call_by tracing (V ∷ []) (At' d) 0 given 0 (by_callback words) x' (Num v ∷ [])
@@ -207,7 +208,7 @@ module _ (N : Type 0) (name name' : Whence → N)
           st st')
 
       call_same : (v : ℤ) (x x' : Pair) → SamePair x x' → (st st' : Store) → Holds st'
-          → SameTold S n
+          → SameBehaviour S n
           (λ d. call tracing (U ∷ []) (At d) frame 0 (by_callback words) x (Num v ∷ [])
           (finish tracing (U ∷ []) 6 (q (suc d))) st)
           (λ d. call tracing (V ∷ []) (At' d) frame 0 (by_callback words) x' (Num v ∷ [])
@@ -217,7 +218,7 @@ module _ (N : Type 0) (name name' : Whence → N)
 
       -- the bodies, from a number and a pair
       body_same : (v : ℤ) (x x' : Pair) → SamePair x x' → (st st' : Store) → Holds st'
-          → SameTold S n
+          → SameBehaviour S n
           (λ d. body_of tracing (U ∷ []) (At d) frame P (Some (Num v ∷ Closure x ∷ Other ∷ [])) (q (suc d))
           st)
           (λ d. body_of tracing (V ∷ []) (At' d) frame Q (Some (Num v ∷ Closure x' ∷ Other ∷ [])) (q' (suc d))
@@ -234,7 +235,7 @@ module _ (N : Type 0) (name name' : Whence → N)
 
       -- from what comes with an item
       taken_same : (o : Option ℤ) (x x' : Option Pair) → MaybePair x x' → (st st' : Store) → Holds st'
-          → SameTold S n
+          → SameBehaviour S n
           (λ d. body_of tracing (U ∷ []) (At d) frame P
           (if_there o (λ v. if_there x (λ p. Some (Num v ∷ Closure p ∷ Other ∷ [])))) (q (suc d)) st)
           (λ d. body_of tracing (V ∷ []) (At' d) frame Q
@@ -244,8 +245,9 @@ module _ (N : Type 0) (name name' : Whence → N)
       taken_same (Some v) _ _ (a_pair {p = x} {q = x'} s) st st' h = body_same v x x' s st st' h
 
     enters : (part called : List ℕ) (left : Option ℕ) (ints : List (Option ℤ)) (pairs : List FeedPair)
-        (back : FeedBack) (k : ℕ) (q q' : LevelledThen) → SameThen S n q q' → (st st' : Store) → Holds st'
-        → SameTold S n
+        (back : FeedBack) (k : ℕ) (q q' : Continuation) → SameContinuation S n q q' → (st st' : Store)
+        → Holds st'
+        → SameBehaviour S n
         (λ d. (At d).proc it left
         (tracing.fed (U ∷ []) (numbered k (Enter part called left ints pairs back)) ints pairs) (q d) st)
         (λ d. (At' d).proc it left
@@ -262,7 +264,7 @@ module _ (N : Type 0) (name name' : Whence → N)
 
     -- one that is hopped to has one number in its registers
     hops : (c c' : Option Waiter) (left : Option ℕ) (v : ℤ) (st st' : Store)
-        → SameTold S n (λ d. (At d).hop (wait_at c d) left it v st)
+        → SameBehaviour S n (λ d. (At d).hop (wait_at c d) left it v st)
         (λ d. (At' d).hop (wait_at c' d) left it v st')
     hops c c' left v st st' =
         both_deeper S n _ _

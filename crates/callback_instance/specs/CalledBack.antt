@@ -13,7 +13,8 @@ use Rattle.source_starts.specs.Sources.{linked_at}
 use Rattle.context_laws.specs.Related.{SameNames}
 use Rattle.context_laws.specs.Lockstep.{Round, Path, InStep}
 use Rattle.context_laws.specs.Meanings.{by_number, GoByNames, items_in}
-use Rattle.callback_instance.specs.Passes.{asked, PassersBeside}
+use Rattle.context_instance.specs.Doubles.{LinksBeside}
+use Rattle.callback_instance.specs.Passes.{asked, passes, stores}
 
 -- by a round trusted code calls out by a pair, with a number
 pub record CallsWith (l : Layout) (d : Opened) (z : ℤ) (r : Round) : Type 0 where
@@ -50,7 +51,7 @@ pub record RunCallsBack (s : StartSeen) : Type 0 where
 -- In the link of the one module there is such a run, and in the link of the other one beside it a run in step
 -- with it, in which the same items come in, and which halts too.
 pub record PassersCallBack : Type 0 where
-  pub there : PassersBeside
+  pub there : LinksBeside passes stores
   pub one : RunCallsBack there.start
   pub names : SameNames (linked_at there.parts there.size there.start)
       (linked_at there.parts_too there.size there.start_too)

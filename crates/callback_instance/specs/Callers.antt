@@ -53,10 +53,10 @@ says = caller (number 0 6)
 abbrev pub adds : ModuleFields
 adds = caller (op 0 Plus (number 0 3) (number 0 3))
 
--- Both are modules whose names are resolved; their components differ, and they mean the same. There are links
--- of both beside each other, in which main is theirs. In the one, trusted code lets go for the first time by a
--- call with 6; so in the other it lets go too, with the same shown, and from there on code outside does the
--- same.
+-- Both are modules whose names are resolved; their components differ, and they mean the same. There are
+-- links of both beside each other, in which main is theirs. In the one, trusted code lets go for the first
+-- time by a call with 6; so in the other it lets go too, with the same shown, and from there on code
+-- outside does the same.
 pub record CallersLetGo : Type 0 where
   pub limits : IsModule says × IsModule adds
   pub resolved : (name_faults says ≡ []) × (name_faults adds ≡ [])
@@ -85,5 +85,6 @@ pub record CallersLetGo : Type 0 where
   pub in_both : Calls
   pub shows : SameCrossing (linked_at parts size start) (linked_at parts_too size start_too) names [] first
       first_too in_both
-  pub on : GoesInStep by_number (linked_at parts size start) (linked_at parts_too size start_too) names in_both
+  pub on : GoesInStep by_number (linked_at parts size start) (linked_at parts_too size start_too) names
+      in_both
       first.after first_too.after

@@ -1,8 +1,6 @@
 -- Two modules that pass a number to a callback, in two ways.
 use Rattle.std.specs.Prelude.{◌≡◌, ◌≢◌, ℕ, pos, false, true, [], ◌∷◌, List, map, Some, None}
 use Rattle.component_linker.specs.Parts.{PartSeen}
-use Rattle.component_linker.specs.Standing.{placed}
-use Rattle.component_linker.specs.Start.{Exported, main_of}
 use Rattle.component_linker.specs.Started.{StartSeen}
 use Rattle.component_linker.specs.LinkedStarts.{IsStartOf}
 use Rattle.overlay_machine.specs.Link.{IsUntrusted}
@@ -25,6 +23,7 @@ use Rattle.context_laws.specs.Sources.{AreBeside}
 use Rattle.context_laws.specs.Meanings.{Came, observed, by_number, MeanTheSame, DoesTheSame}
 use Rattle.context_laws.specs.Meanings as observing
 use Rattle.context_laws.specs.Ends.{EndTheSame, RunsEndAlike}
+use Rattle.context_instance.specs.Doubles.{LinksBeside}
 
 abbrev pub lettered : ℕ → Name
 lettered letter = record { text = letter ∷ []; at = 0 }
@@ -104,23 +103,6 @@ called_and_left =
     (Number (pos 6) ∷ Number (pos 0) ∷ Number (pos 0) ∷ Number (pos 0) ∷ [])
     ∷ Leaves (116 ∷ []) (pos 9) (Some 1) 0 ∷ []
 
--- links of both, beside each other, with the same main, which is untrusted
-pub record PassersBeside : Type 0 where
-  pub parts : List PartSeen
-  pub parts_too : List PartSeen
-  pub size : ℕ
-  pub start : StartSeen
-  pub start_too : StartSeen
-  pub is : IsStartOf parts size start
-  pub is_too : IsStartOf parts_too size start_too
-  pub sources : AreSources (passes ∷ []) parts
-  pub sources_too : AreSources (stores ∷ []) parts_too
-  pub beside : AreBeside (linked_at parts size start) (linked_at parts_too size start_too)
-  pub main : Exported
-  pub main_is : main_of (placed parts size) ≡ Some main
-  pub main_too : main_of (placed parts_too size) ≡ Some main
-  pub untrusted : main.part.trusted ≡ false
-
 -- Both are modules whose names are resolved, and their components differ; the first calls out, on some feed;
 -- but they mean the same and end the same way, so that they can't be told apart, and whole plain runs end
 -- alike, whatever untrusted parts are linked beside them; and there are links of both.
@@ -140,4 +122,4 @@ pub record TwoPassers : Type 0 where
   pub alike : (parts parts' : List PartSeen) (size : ℕ) (s s' : StartSeen) → IsStartOf parts size s
       → IsStartOf parts' size s' → AreSources (passes ∷ []) parts → AreSources (stores ∷ []) parts'
       → AreBeside (linked_at parts size s) (linked_at parts' size s') → RunsEndAlike s s'
-  pub there : PassersBeside
+  pub there : LinksBeside passes stores

@@ -5,11 +5,11 @@ ghost use Rattle.callback_instance.specs.Callers.{CallersLetGo};
 
 use context_laws::laws::{same_meanings_are_not_told_apart, same_meanings_end_alike};
 
-/// Two modules that share a procedure which calls its callback with the double of its number, and gives back
-/// the answer, the one by a sum, the other over a global. Both are modules whose names are resolved; their
-/// components differ; a feed has them call and answer; and they mean the same and end the same way. So, linked
-/// with the same untrusted parts at the same addresses, no code outside can tell them apart, and whole plain
-/// runs end alike; and there are such links of both.
+/// Two modules that share a procedure which calls its callback with the double of its number, and gives
+/// back the answer, the one by a sum, the other over a global. Both are modules whose names are resolved;
+/// their components differ; a feed has them call and answer; and they mean the same and end the same way.
+/// So, linked with the same untrusted parts at the same addresses, no code outside can tell them apart, and
+/// whole plain runs end alike; and there are such links of both.
 pub fn two_passers_are_one()
     ensures { TwoPassers }
 {

@@ -18,7 +18,8 @@ use Rattle.proc_semantics.specs.Rules.{finish}
 use Rattle.proc_semantics.specs.Rules.{level}
 use Rattle.proc_semantics.specs.Marked.{Whence, Frame, Thing}
 use Rattle.proc_semantics.specs.Marked as tagged
-use Rattle.same_meanings.specs.Same.{wait_at, tracing, Upshot, upshot, Sides, SameTold, SameRefined}
+use Rattle.same_meanings.specs.Same.{wait_at, tracing, Behaviour, behaviour, Sides, SameBehaviour}
+use Rattle.same_meanings.specs.Same.{SameRefined}
 use Rattle.same_meanings.specs.Straight.{Outcome, Gives, GoesOn, with_some, followed, body_outcome}
 use Rattle.same_meanings.specs.Straight.{SameOutcome}
 use Rattle.same_meanings.specs.Straight.{both_break, both_give, SameValue, SameValues, a_number, a_closure}
@@ -174,7 +175,7 @@ module _ (left : Option ℕ) where
 
   abbrev Hops : ℕ → ℤ → Type 0
   Hops n v = (cs cs' : Waits) (st st' : Store) → Holds st'
-      → SameTold S n (λ d. (At d).hop (cs d) left it v st) (λ d. (At' d).hop (cs' d) left it v st')
+      → SameBehaviour S n (λ d. (At d).hop (cs d) left it v st) (λ d. (At' d).hop (cs' d) left it v st')
 
   -- one hop more
   once : (n : ℕ) (v : ℤ) → ((w : ℤ) → result_of Plus v v ≡ Some w → Hops n w) → Hops n v
@@ -197,16 +198,17 @@ module _ (left : Option ℕ) where
   grows (suc j) n v g = once n v (λ w e. grows j n w (doubled j v w g e))
 
   -- with 0 neither ever has fuel enough
-  abbrev never : Upshot observing.Name
+  abbrev never : Behaviour observing.Name
   never = record { events = []; end = OutOfFuel }
 
   record Never (name : Whence → observing.Name) (m : tracing.Comp) : Type 0 where
-    pub is : (low : Option ℕ) (f : ℕ) (feed : List (Thing Whence ℕ)) → upshot name (m low f feed) ≡ never
+    pub is : (low : Option ℕ) (f : ℕ) (feed : List (Thing Whence ℕ)) → behaviour name (m low f feed) ≡ never
 
   tick_never : (name : Whence → observing.Name) (m : tracing.Comp) → Never name m → Never name (tick m)
   tick_never name m s = record { is = is }
     where
-      is : (low : Option ℕ) (f : ℕ) (feed : List (Thing Whence ℕ)) → upshot name (tick m low f feed) ≡ never
+      is : (low : Option ℕ) (f : ℕ) (feed : List (Thing Whence ℕ))
+          → behaviour name (tick m low f feed) ≡ never
       is low zero feed = refl
       is low (suc f) feed = s.is low f feed
 

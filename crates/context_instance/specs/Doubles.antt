@@ -89,7 +89,7 @@ keeps = record {
 }
 
 -- links of both, beside each other, with the same main, which is untrusted
-pub record LinksBeside : Type 0 where
+pub record LinksBeside (one other : ModuleFields) : Type 0 where
   pub parts : List PartSeen
   pub parts_too : List PartSeen
   pub size : ℕ
@@ -97,8 +97,8 @@ pub record LinksBeside : Type 0 where
   pub start_too : StartSeen
   pub is : IsStartOf parts size start
   pub is_too : IsStartOf parts_too size start_too
-  pub sources : AreSources (sums ∷ []) parts
-  pub sources_too : AreSources (keeps ∷ []) parts_too
+  pub sources : AreSources (one ∷ []) parts
+  pub sources_too : AreSources (other ∷ []) parts_too
   pub beside : AreBeside (linked_at parts size start) (linked_at parts_too size start_too)
   pub main : Exported
   pub main_is : main_of (placed parts size) ≡ Some main
@@ -123,4 +123,4 @@ pub record TwoWays : Type 0 where
   pub alike : (parts parts' : List PartSeen) (size : ℕ) (s s' : StartSeen) → IsStartOf parts size s
       → IsStartOf parts' size s' → AreSources (sums ∷ []) parts → AreSources (keeps ∷ []) parts'
       → AreBeside (linked_at parts size s) (linked_at parts' size s') → RunsEndAlike s s'
-  pub there : LinksBeside
+  pub there : LinksBeside sums keeps

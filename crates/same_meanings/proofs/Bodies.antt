@@ -16,7 +16,8 @@ use Rattle.proc_semantics.specs.Values.{World, Store, register_of, first_of, res
 use Rattle.proc_semantics.specs.Values.{pair_fed, registers_fed}
 use Rattle.proc_semantics.specs.Rules.{Level, level, with_place, enough, body_of, begin, proc_of, finish}
 use Rattle.proc_semantics.specs.Marked.{Whence, Frame, Regs}
-use Rattle.same_meanings.specs.Same.{tracing, Levelled, LevelledThen, Sides, numbered, SameTold, SameThen}
+use Rattle.same_meanings.specs.Same.{tracing, Levelled, Continuation, Sides, numbered, SameBehaviour}
+use Rattle.same_meanings.specs.Same.{SameContinuation}
 use Rattle.same_meanings.specs.Straight.{AllStraight, Outcome, body_outcome, a_number, a_closure}
 use Rattle.same_meanings.specs.Straight.{an_other, SameValues, no_values, and_value, SameOutcome, both_break}
 use Rattle.same_meanings.specs.Straight.{both_stop, both_give, SameStraight, StraightDecide}
@@ -118,9 +119,9 @@ fed_same W W' ints pairs =
 
 -- ---- bodies
 
-module _ (S : Sides) (n : ℕ) (q q' : LevelledThen) (s : SameThen S n q q') where
+module _ (S : Sides) (n : ℕ) (q q' : Continuation) (s : SameContinuation S n q q') where
   went_same : (p p' : Procedure) (k k' : LevelledNext) (o o' : Outcome) → SameOutcome S.Stores o o'
-      → SameTold S n (went o (λ d. finish tracing S.one p.need (q d)) k)
+      → SameBehaviour S n (went o (λ d. finish tracing S.one p.need (q d)) k)
       (went o' (λ d. finish tracing S.other p'.need (q' d)) k')
   went_same p p' k k' _ _ both_break = both_fail S n
   went_same p p' k k' _ _ (both_stop v) = both_halt S n v
@@ -131,19 +132,19 @@ module _ (S : Sides) (n : ℕ) (q q' : LevelledThen) (s : SameThen S n q q') whe
       → AllStraight (block_of p.body) → AllStraight (block_of p'.body) → (env env' : List Value)
       (st st' : Store)
       → SameOutcome S.Stores (body_outcome f.home p env st) (body_outcome g.home p' env' st')
-      → SameTold S n (λ d. body_of tracing S.one (l d) f p (Some env) (q d) st)
+      → SameBehaviour S n (λ d. body_of tracing S.one (l d) f p (Some env) (q d) st)
       (λ d. body_of tracing S.other (l' d) g p' (Some env') (q' d) st')
   bodies_same l l' f g p p' i i' env env' st st' o =
-      body_tells (λ m. SameTold S n m (λ d. body_of tracing S.other (l' d) g p' (Some env') (q' d) st'))
+      body_tells (λ m. SameBehaviour S n m (λ d. body_of tracing S.other (l' d) g p' (Some env') (q' d) st'))
       (λ m t. ticked S n m _ t) S.one l f p i env q (λ d env st. tracing.failing) st
-      (body_tells (λ m. SameTold S n (went (body_outcome f.home p env st)
+      (body_tells (λ m. SameBehaviour S n (went (body_outcome f.home p env st)
       (λ d. finish tracing S.one p.need (q d)) (λ d env st. tracing.failing)) m)
       (λ m t. ticked_too S n _ m t) S.other l' g p' i' env' q' (λ d env st. tracing.failing) st'
       (went_same p p' _ _ (body_outcome f.home p env st) (body_outcome g.home p' env' st') o))
 
 -- ---- procedures
 
-module _ (S : Sides) (n : ℕ) (q q' : LevelledThen) (s : SameThen S n q q') (t t' : Target)
+module _ (S : Sides) (n : ℕ) (q q' : Continuation) (s : SameContinuation S n q q') (t t' : Target)
     (is : SameStraight S t t') (rs rs' : Regs Whence ℕ) (same : SameRegisters rs.registers rs'.registers)
     (st st' : Store) (stores : S.Stores st st') where
   abbrev Begun : ℕ → List Bool → Option ℕ → Levelled
@@ -154,7 +155,7 @@ module _ (S : Sides) (n : ℕ) (q q' : LevelledThen) (s : SameThen S n q q') (t 
       (taken [] cs rs'.registers) (q' (suc d)) st'))
 
   taken_bodies : (given given' : ℕ) (o o' : Option (List Value)) → SameTaken o o'
-      → SameTold S n (λ d. body_of tracing S.one (level tracing S.one d)
+      → SameBehaviour S n (λ d. body_of tracing S.one (level tracing S.one d)
       (tracing.frame t.home given is.one rs) is.one o (q (suc d)) st)
       (λ d. body_of tracing S.other (level tracing S.other d) (tracing.frame t'.home given' is.other rs')
       is.other o' (q' (suc d)) st')
@@ -167,13 +168,14 @@ module _ (S : Sides) (n : ℕ) (q q' : LevelledThen) (s : SameThen S n q q') (t 
       (is.same vs ws v st st' stores)
 
   begun : (left : Option ℕ)
-      → SameTold S n (λ d. begin tracing S.one (level tracing S.one d) t.home is.one left rs (q (suc d)) st)
+      → SameBehaviour S n (λ d. begin tracing S.one (level tracing S.one d) t.home is.one left rs (q (suc d))
+      st)
       (Begun is.other.need is.other.callbacks left)
   begun left =
-      subst (λ x. SameTold S n
+      subst (λ x. SameBehaviour S n
       (λ d. begin tracing S.one (level tracing S.one d) t.home is.one left rs (q (suc d)) st)
       (Begun x is.other.callbacks left)) is.need
-      (subst (λ x. SameTold S n
+      (subst (λ x. SameBehaviour S n
       (λ d. begin tracing S.one (level tracing S.one d) t.home is.one left rs (q (suc d)) st)
       (Begun is.one.need x left)) is.callbacks
       (both_place S n (enough is.one.need left) _ _
@@ -183,7 +185,7 @@ module _ (S : Sides) (n : ℕ) (q q' : LevelledThen) (s : SameThen S n q q') (t 
 
   -- whatever its registers are
   pub straight_same : (left : Option ℕ)
-      → SameTold S n (λ d. (level tracing S.one d).proc t left rs (q d) st)
+      → SameBehaviour S n (λ d. (level tracing S.one d).proc t left rs (q d) st)
       (λ d. (level tracing S.other d).proc t' left rs' (q' d) st')
   straight_same left =
       both_deeper S n _ _

@@ -12,7 +12,8 @@ use Rattle.proc_program.specs.declared.program.Procedure.{Procedure}
 use Rattle.proc_semantics.specs.declared.value.Target.{Target}
 use Rattle.proc_semantics.specs.Values.{Store, target, found, main_target}
 use Rattle.proc_semantics.specs.Rules.{level, start, part_name_of}
-use Rattle.same_meanings.specs.Same.{tracing, LevelledThen, Waiter, wait_at, Sides, SameTold, SameThen}
+use Rattle.same_meanings.specs.Same.{tracing, Continuation, Waiter, wait_at, Sides, SameBehaviour}
+use Rattle.same_meanings.specs.Same.{SameContinuation}
 use Rattle.same_meanings.specs.Same.{SameWaits, BothFound, SameRefined, first_store, numbered}
 use Rattle.same_meanings.proofs.Waits.{procedures_decide}
 
@@ -63,8 +64,9 @@ module _ (S : Sides) where
   abbrev pub EnterSame : ℕ → Target → Target → Type 0
   EnterSame n t t' =
       (part called : List ℕ) (left : Option ℕ) (ints : List (Option ℤ)) (pairs : List FeedPair)
-      (back : FeedBack) (k : ℕ) (q q' : LevelledThen) → SameThen S n q q' → (st st' : Store) → S.Stores st st'
-      → SameTold S n
+      (back : FeedBack) (k : ℕ) (q q' : Continuation) → SameContinuation S n q q' → (st st' : Store)
+      → S.Stores st st'
+      → SameBehaviour S n
       (λ d. (level tracing S.one d).proc t left
       (tracing.fed S.one (numbered k (Enter part called left ints pairs back)) ints pairs) (q d) st)
       (λ d. (level tracing S.other d).proc t' left
@@ -73,12 +75,13 @@ module _ (S : Sides) where
   abbrev pub HopSame : ℕ → Target → Target → Type 0
   HopSame n t t' =
       (c c' : Option Waiter) (left : Option ℕ) (v : ℤ) (st st' : Store) → S.Stores st st'
-      → SameTold S n (λ d. (level tracing S.one d).hop (wait_at c d) left t v st)
+      → SameBehaviour S n (λ d. (level tracing S.one d).hop (wait_at c d) left t v st)
       (λ d. (level tracing S.other d).hop (wait_at c' d) left t' v st')
 
   abbrev pub StartSame : ℕ → ℕ → Type 0
   StartSame size n =
-      SameTold S n (λ d. start tracing S.one (level tracing S.one d) size (main_target S.one) (first_store
+      SameBehaviour S n (λ d. start tracing S.one (level tracing S.one d) size (main_target S.one)
+      (first_store
       S.one))
       (λ d. start tracing S.other (level tracing S.other d) size (main_target S.other) (first_store S.other))
 

@@ -12,14 +12,14 @@ use Rattle.proc_semantics.specs.Values.{Store}
 use Rattle.proc_semantics.specs.Rules.{with_number, with_place, is_given, resumed, returned}
 use Rattle.proc_semantics.specs.Marked.{Thing, Whence, Way, numbered_items, Leaves}
 use Rattle.proc_semantics.specs.Marked as tagged
-use Rattle.same_meanings.specs.Same.{tracing, Levelled, LevelledThen, Waiter, wait_at, ComesTo, Sides, FeedOf}
-use Rattle.same_meanings.specs.Same.{numbered, SameTold, SameWait, SameCall}
+use Rattle.same_meanings.specs.Same.{tracing, Levelled, Continuation, Waiter, wait_at, Behaves, Sides, FeedOf}
+use Rattle.same_meanings.specs.Same.{numbered, SameBehaviour, SameWaiting, SameCall}
 use Rattle.same_meanings.proofs.Comes.{tick, said_first, comes_as, comes_ended, comes_ticked, comes_deeper}
 use Rattle.same_meanings.proofs.Comes.{comes_higher, comes_calling, comes_leaving}
 
 module _ (S : Sides) where
   abbrev Same : ℕ → Levelled → Levelled → Type 0
-  Same = SameTold S
+  Same = SameBehaviour S
 
   -- ---- of the bound
 
@@ -140,7 +140,7 @@ module _ (S : Sides) where
         let r = s.is None at feed lt fits in (
           _,
           comes_calling S.name part site base w vs m low _ r.0 r.1,
-          subst (λ x. ComesTo S.name_too (λ d. tracing.calling part site base w' vs' (m' d)) low
+          subst (λ x. Behaves S.name_too (λ d. tracing.calling part site base w' vs' (m' d)) low
               (numbered_items at feed) (said_first x r.0)) (sym (e part site base low))
               (comes_calling S.name_too part site base w' vs' m' low _ r.0 r.2),
         );
@@ -166,8 +166,8 @@ module _ (S : Sides) where
     where
       is : (low : Option ℕ) (k : ℕ) (feed : List Item) → length feed < suc n → FeedOf S.Fits feed
           → (u : _)
-          × ComesTo S.name (λ d. tracing.taking (m d)) low (numbered_items k feed) u
-          × ComesTo S.name_too (λ d. tracing.taking (m' d)) low (numbered_items k feed) u
+          × Behaves S.name (λ d. tracing.taking (m d)) low (numbered_items k feed) u
+          × Behaves S.name_too (λ d. tracing.taking (m' d)) low (numbered_items k feed) u
       is low k [] lt fits = (
         record { events = []; end = Waiting },
         record { enough = 0; is = λ d f a b. refl },
@@ -182,7 +182,7 @@ module _ (S : Sides) where
 
   -- ---- what may not be there
 
-  pub both_number : (n : ℕ) (o : Option ℤ) (k k' : LevelledThen) (st st' : Store)
+  pub both_number : (n : ℕ) (o : Option ℤ) (k k' : Continuation) (st st' : Store)
       → ((v : ℤ) → o ≡ Some v → Same n (λ d. k d v st) (λ d. k' d v st'))
       → Same n (λ d. with_number tracing o (k d) st) (λ d. with_number tracing o (k' d) st')
   both_number n None k k' st st' s = both_fail n
@@ -210,7 +210,8 @@ module _ (S : Sides) where
   later_at None d = refl
   later_at (Some c) d = refl
 
-  pub later_same : (n : ℕ) (c c' : Option Waiter) → SameWait S n c c' → SameWait S n (later c) (later c')
+  pub later_same : (n : ℕ) (c c' : Option Waiter) → SameWaiting S n c c'
+      → SameWaiting S n (later c) (later c')
   later_same n None None h = tt
   later_same n (Some c) (Some c') h = (
     h.0,
@@ -223,7 +224,7 @@ module _ (S : Sides) where
   later_same n None (Some c') h = absurd h
   later_same n (Some c) None h = absurd h
 
-  pub fewer_wait : (n k : ℕ) (c c' : Option Waiter) → n ≤ k → SameWait S k c c' → SameWait S n c c'
+  pub fewer_wait : (n k : ℕ) (c c' : Option Waiter) → n ≤ k → SameWaiting S k c c' → SameWaiting S n c c'
   fewer_wait n k None None le h = tt
   fewer_wait n k (Some c) (Some c') le h = (
     h.0,
@@ -237,13 +238,13 @@ module _ (S : Sides) where
   fewer_wait n k (Some c) None le h = absurd h
 
   -- an answer to a call of that part and number, with that base and so many words given
-  abbrev Answer : List ℕ → ℕ → ℕ → Option ℕ → ℤ → Store → LevelledThen → List ℕ → ℕ → ℕ → ℕ → Levelled
+  abbrev Answer : List ℕ → ℕ → ℕ → Option ℕ → ℤ → Store → Continuation → List ℕ → ℕ → ℕ → ℕ → Levelled
   Answer part site base left v st r p s b g d =
       if bytes_eq part p && (site == s) && (base == b) && is_given left g
       then tracing.answered g (r d v st) else tracing.failing
 
   pub both_resume : (n : ℕ) (c c' : Option Waiter) (part : List ℕ) (site base : ℕ) (left : Option ℕ)
-      (v : Option ℤ) (st st' : Store) → SameWait S n c c' → S.Stores st st'
+      (v : Option ℤ) (st st' : Store) → SameWaiting S n c c' → S.Stores st st'
       → Same n (λ d. resumed tracing (wait_at c d) part site base left v st)
       (λ d. resumed tracing (wait_at c' d) part site base left v st')
   both_resume n None None part site base left v st st' h e = both_fail n
@@ -263,7 +264,7 @@ module _ (S : Sides) where
   both_resume n (Some c) None part site base left v st st' h e = absurd h
 
   pub both_return : (n : ℕ) (c c' : Option Waiter) (left : Option ℕ) (part : List ℕ) (site base : ℕ) (v : ℤ)
-      (st st' : Store) → SameWait S n c c' → S.Stores st st'
+      (st st' : Store) → SameWaiting S n c c' → S.Stores st st'
       → Same n (λ d. returned tracing (wait_at c d) left part site base v st)
       (λ d. returned tracing (wait_at c' d) left part site base v st')
   both_return n c c' None part site base v st st' h e = both_fail n

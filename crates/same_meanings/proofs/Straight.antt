@@ -17,7 +17,7 @@ use Rattle.proc_semantics.specs.Values.{World, Store, is_zero, global_word, set_
 use Rattle.proc_semantics.specs.Rules.{Next, Level, with_number, with_place, result_of, element_at, expr}
 use Rattle.proc_semantics.specs.Rules.{element, operated, assigned, stmt, block, body_of, finish}
 use Rattle.proc_semantics.specs.Marked.{Whence, Frame}
-use Rattle.same_meanings.specs.Same.{tracing, Levelled, LevelledThen}
+use Rattle.same_meanings.specs.Same.{tracing, Levelled, Continuation}
 use Rattle.same_meanings.specs.Straight.{IsPure, IsStraight, AllStraight, Outcome, Breaks, Stops, Gives}
 use Rattle.same_meanings.specs.Straight.{GoesOn}
 use Rattle.same_meanings.specs.Straight.{with_some, followed, value_by, set_to, step_outcome, block_outcome}
@@ -28,7 +28,7 @@ abbrev pub LevelledNext : Type 0
 LevelledNext = ℕ → Next tracing
 
 -- what an outcome tells
-abbrev pub went : Outcome → LevelledThen → LevelledNext → Levelled
+abbrev pub went : Outcome → Continuation → LevelledNext → Levelled
 went Breaks back k d = tracing.failing
 went (Stops v) back k d = tracing.halting v
 went (Gives v st) back k d = back d v st
@@ -40,7 +40,7 @@ module _ (P : Levelled → Type 0) (ticking : (m : Levelled) → P m → P (λ d
   abbrev Value_ : List Value → Store → Exp → Option ℤ
   Value_ env st e = value_by f.home env st e
 
-  element_tells : (o : Option ℤ) (a : Array) (k : LevelledThen) (st : Store)
+  element_tells : (o : Option ℤ) (a : Array) (k : Continuation) (st : Store)
       → P (λ d. with_number tracing
       (if_there o (λ i. if_there (element_at a i) (λ o. Some (global_word st f.home o)))) (k d) st)
       → P (λ d. with_number tracing o
@@ -54,13 +54,13 @@ module _ (P : Levelled → Type 0) (ticking : (m : Levelled) → P m → P (λ d
       by None p = p
       by (Some o) p = p
 
-  second : (y : Option ℤ) (x : ℤ) (o : Op) (k : LevelledThen) (st : Store)
+  second : (y : Option ℤ) (x : ℤ) (o : Op) (k : Continuation) (st : Store)
       → P (λ d. with_number tracing (if_there y (λ y. result_of o x y)) (k d) st)
       → P (λ d. with_number tracing y (λ y. operated tracing o x y (k d)) st)
   second None x o k st p = p
   second (Some y) x o k st p = p
 
-  first : (x y : Option ℤ) (o : Op) (k next : LevelledThen) (st : Store)
+  first : (x y : Option ℤ) (o : Op) (k next : Continuation) (st : Store)
       → ((x : ℤ) → P (λ d. with_number tracing (if_there y (λ y. result_of o x y)) (k d) st)
       → P (λ d. next d x st))
       → P (λ d. with_number tracing (if_there x (λ x. if_there y (λ y. result_of o x y))) (k d) st)
@@ -68,7 +68,7 @@ module _ (P : Levelled → Type 0) (ticking : (m : Levelled) → P m → P (λ d
   first None y o k next st h p = p
   first (Some x) y o k next st h p = h x p
 
-  pub expr_tells : (e : Exp) → IsPure e → (env : List Value) (k : LevelledThen) (st : Store)
+  pub expr_tells : (e : Exp) → IsPure e → (env : List Value) (k : Continuation) (st : Store)
       → P (λ d. with_number tracing (Value_ env st e) (k d) st)
       → P (λ d. expr tracing W (l d) f env e (k d) st)
   expr_tells (Number n) i env k st p = ticking (λ d. k d (pos n) st) p
@@ -84,31 +84,31 @@ module _ (P : Levelled → Type 0) (ticking : (m : Levelled) → P m → P (λ d
       (second (Value_ env st b) x o k st q)) p))
 
   -- what goes on with a value has the outcome of it
-  some_tells : (o : Option ℤ) (out : ℤ → Outcome) (back : LevelledThen) (k : LevelledNext)
-      (next : LevelledThen) (st : Store) → ((v : ℤ) → P (went (out v) back k) → P (λ d. next d v st))
+  some_tells : (o : Option ℤ) (out : ℤ → Outcome) (back : Continuation) (k : LevelledNext)
+      (next : Continuation) (st : Store) → ((v : ℤ) → P (went (out v) back k) → P (λ d. next d v st))
       → P (went (with_some o out) back k) → P (λ d. with_number tracing o (next d) st)
   some_tells None out back k next st h p = p
   some_tells (Some v) out back k next st h p = h v p
 
-  set_tells : (x : Location) (v : ℤ) (back : LevelledThen) (k : LevelledNext) (env : List Value) (st : Store)
+  set_tells : (x : Location) (v : ℤ) (back : Continuation) (k : LevelledNext) (env : List Value) (st : Store)
       → P (went (set_to f.home x v env st) back k) → P (λ d. assigned tracing f.home x v (k d) env st)
   set_tells (Local i) v back k env st p = p
   set_tells (Global o) v back k env st p = p
 
-  place_tells : (o : Option ℕ) (v : ℤ) (back : LevelledThen) (k : LevelledNext) (env : List Value)
+  place_tells : (o : Option ℕ) (v : ℤ) (back : Continuation) (k : LevelledNext) (env : List Value)
       (st : Store)
       → P (went (with_some o (λ o. GoesOn env (set_word st f.home o v))) back k)
       → P (λ d. with_place tracing o (λ o. k d env (set_word st f.home o v)))
   place_tells None v back k env st p = p
   place_tells (Some o) v back k env st p = p
 
-  branch_tells : (t : Bool) (x y : Outcome) (back : LevelledThen) (k : LevelledNext) (m m' : ℕ → Store → _)
+  branch_tells : (t : Bool) (x y : Outcome) (back : Continuation) (k : LevelledNext) (m m' : ℕ → Store → _)
       (st : Store) → (P (went x back k) → P (λ d. m d st)) → (P (went y back k) → P (λ d. m' d st))
       → P (went (if t then x else y) back k) → P (λ d. (if t then m d else m' d) st)
   branch_tells true x y back k m m' st h h' p = h p
   branch_tells false x y back k m m' st h h' p = h' p
 
-  behind : (o : Outcome) (out : List Value → Store → Outcome) (back : LevelledThen) (k next : LevelledNext)
+  behind : (o : Outcome) (out : List Value → Store → Outcome) (back : Continuation) (k next : LevelledNext)
       → ((env : List Value) (st : Store) → P (went (out env st) back k) → P (λ d. next d env st))
       → P (went (followed o out) back k) → P (went o back next)
   behind Breaks out back k next h p = p
@@ -117,7 +117,7 @@ module _ (P : Levelled → Type 0) (ticking : (m : Levelled) → P m → P (λ d
   behind (GoesOn env st) out back k next h p = h env st p
 
   mutual
-    pub stmt_tells : (s : Statement) → IsStraight s → (back : LevelledThen) (k : LevelledNext)
+    pub stmt_tells : (s : Statement) → IsStraight s → (back : Continuation) (k : LevelledNext)
         (env : List Value) (st : Store) → P (went (step_outcome f.home s env st) back k)
         → P (λ d. stmt tracing W (l d) f s (back d) (k d) env st)
     stmt_tells (Set x e) i back k env st p =
@@ -157,7 +157,7 @@ module _ (P : Levelled → Type 0) (ticking : (m : Levelled) → P m → P (λ d
         ticking _ (expr_tells e i env _ st
         (some_tells (Value_ env st e) (λ v. Stops v) back k (λ d v st. tracing.halting v) st (λ v q. q) p))
 
-    pub block_tells : (b : Block) → AllStraight b → (back : LevelledThen) (k : LevelledNext)
+    pub block_tells : (b : Block) → AllStraight b → (back : Continuation) (k : LevelledNext)
         (env : List Value) (st : Store) → P (went (block_outcome f.home b env st) back k)
         → P (λ d. block tracing W (l d) f b (back d) (k d) env st)
     block_tells no_steps i back k env st p = p
@@ -166,7 +166,7 @@ module _ (P : Levelled → Type 0) (ticking : (m : Levelled) → P m → P (λ d
         (behind (step_outcome f.home s env st) (block_outcome f.home ss) back k
         (λ d. block tracing W (l d) f ss (back d) (k d)) (block_tells ss i.1 back k) p)
 
-  ended : (o : Outcome) (p : Procedure) (q : LevelledThen) (k : LevelledNext)
+  ended : (o : Outcome) (p : Procedure) (q : Continuation) (k : LevelledNext)
       → P (went (followed o (λ env st. Gives (pos 0) st)) (λ d. finish tracing W p.need (q d)) k)
       → P (went o (λ d. finish tracing W p.need (q d)) (λ d env. finish tracing W p.need (q d) (pos 0)))
   ended Breaks p q k h = h
@@ -174,7 +174,7 @@ module _ (P : Levelled → Type 0) (ticking : (m : Levelled) → P m → P (λ d
   ended (Gives v st) p q k h = h
   ended (GoesOn env st) p q k h = h
 
-  pub body_tells : (p : Procedure) → AllStraight (block_of p.body) → (env : List Value) (q : LevelledThen)
+  pub body_tells : (p : Procedure) → AllStraight (block_of p.body) → (env : List Value) (q : Continuation)
       (k : LevelledNext) (st : Store)
       → P (went (body_outcome f.home p env st) (λ d. finish tracing W p.need (q d)) k)
       → P (λ d. body_of tracing W (l d) f p (Some env) (q d) st)

@@ -12,7 +12,8 @@ use Rattle.proc_semantics.specs.Rules.{Level, level, start, part_name_of, hopped
 use Rattle.proc_semantics.specs.Rules.{on_item}
 use Rattle.proc_semantics.specs.Marked.{numbered_items}
 use Rattle.same_meanings.specs.Same.{tracing, Waiter, wait_at, FeedOf}
-use Rattle.same_meanings.specs.Same.{Sides, numbered, first_store, SameTold, SameThen, SameWait}
+use Rattle.same_meanings.specs.Same.{Sides, numbered, first_store, SameBehaviour, SameContinuation}
+use Rattle.same_meanings.specs.Same.{SameWaiting}
 use Rattle.same_meanings.specs.Same.{SameWaits, BothFound, SameProcedures, SameRefined, ProceduresDecide}
 use Rattle.same_meanings.proofs.Steps.{of_none, same_as, both_deeper, both_fail, both_leave, both_take, later}
 use Rattle.same_meanings.proofs.Steps.{later_at, later_same, fewer_wait, both_resume, both_return}
@@ -26,8 +27,8 @@ module _ (S : Sides) (size : ℕ) (P : SameProcedures S size) where
 
   module _ (n : ℕ) (waits : SameWaits S n) where
     hopped_same : (c c' : Option Waiter) (left : Option ℕ) (o o' : Option Target) (v : ℤ) (st st' : Store)
-        → BothFound S P.Targets o o' → SameWait S n c c' → S.Stores st st'
-        → SameTold S n (λ d. hopped tracing S.one (At d) (wait_at c d) left o v st)
+        → BothFound S P.Targets o o' → SameWaiting S n c c' → S.Stores st st'
+        → SameBehaviour S n (λ d. hopped tracing S.one (At d) (wait_at c d) left o v st)
         (λ d. hopped tracing S.other (At' d) (wait_at c' d) left o' v st')
     hopped_same c c' left None None v st st' t h e = both_fail S n
     hopped_same c c' left (Some t) (Some t') v st st' b h e = P.hops n waits t t' b c c' h left v st st' e
@@ -36,8 +37,8 @@ module _ (S : Sides) (size : ℕ) (P : SameProcedures S size) where
 
     -- an entered procedure ends with a value
     left_same : (part : List ℕ) (c c' : Option Waiter) (k : ℕ) (left : Option ℕ) (back : FeedBack)
-        → SameWait S n c c'
-        → SameThen S n (λ d. left_by tracing S.one (At d) part (wait_at c d) k left back)
+        → SameWaiting S n c c'
+        → SameContinuation S n (λ d. left_by tracing S.one (At d) part (wait_at c d) k left back)
         (λ d. left_by tracing S.other (At' d) part (wait_at c' d) k left back)
     left_same part c c' k left way.Out h v st st' e =
         both_leave S n part k v (λ d. (At d).wait (wait_at c d) st) (λ d. (At' d).wait (wait_at c' d) st')
@@ -50,24 +51,25 @@ module _ (S : Sides) (size : ℕ) (P : SameProcedures S size) where
 
     entered_same : (c c' : Option Waiter) (o o' : Option Target) (k : ℕ) (part name : List ℕ)
         (left : Option ℕ) (ints : List (Option ℤ)) (pairs : List FeedPair) (back : FeedBack) (st st' : Store)
-        → S.Fits (Enter part name left ints pairs back) → BothFound S P.Targets o o' → SameWait S n c c'
+        → S.Fits (Enter part name left ints pairs back) → BothFound S P.Targets o o' → SameWaiting S n c c'
         → S.Stores st st'
-        → SameTold S n (λ d. entered tracing S.one (At d) (wait_at c d) o k left
+        → SameBehaviour S n (λ d. entered tracing S.one (At d) (wait_at c d) o k left
         (tracing.fed S.one (numbered k (Enter part name left ints pairs back)) ints pairs) back st)
         (λ d. entered tracing S.other (At' d) (wait_at c' d) o' k left
         (tracing.fed S.other (numbered k (Enter part name left ints pairs back)) ints pairs) back st')
     entered_same c c' None None k part name left ints pairs back st st' fits b h e = both_fail S n
     entered_same c c' (Some t) (Some t') k part name left ints pairs back st st' fits b h e =
         P.enters n waits t t' b part name left ints pairs back fits k _ _
-        (subst (λ p. SameThen S n (λ d. left_by tracing S.one (At d) (part_name_of S.one t.home) (wait_at c d)
+        (subst (λ p. SameContinuation S n (λ d. left_by tracing S.one (At d) (part_name_of S.one t.home)
+        (wait_at c d)
         k left back) (λ d. left_by tracing S.other (At' d) p (wait_at c' d) k left back)) (P.parts t t' b)
         (left_same (part_name_of S.one t.home) c c' k left back h)) st st' e
     entered_same c c' None (Some t') k part name left ints pairs back st st' fits b h e = absurd b
     entered_same c c' (Some t) None k part name left ints pairs back st st' fits b h e = absurd b
 
-    item_same : (c c' : Option Waiter) (k : ℕ) (i : Item) (st st' : Store) → S.Fits i → SameWait S n c c'
+    item_same : (c c' : Option Waiter) (k : ℕ) (i : Item) (st st' : Store) → S.Fits i → SameWaiting S n c c'
         → S.Stores st st'
-        → SameTold S n (λ d. on_item tracing S.one (At d) (wait_at c d) st (numbered k i))
+        → SameBehaviour S n (λ d. on_item tracing S.one (At d) (wait_at c d) st (numbered k i))
         (λ d. on_item tracing S.other (At' d) (wait_at c' d) st' (numbered k i))
     item_same c c' k (Enter part name left ints pairs back) st st' fits h e =
         entered_same c c' (found S.one part name) (found S.other part name) k part name left ints pairs back
@@ -108,7 +110,7 @@ module _ (S : Sides) (size : ℕ) (P : SameProcedures S size) where
 -- a meaning without main begins where the feed is asked
 pub starts_without : (S : Sides) (size n : ℕ) → main_target S.one ≡ None → main_target S.other ≡ None
     → S.Stores (first_store S.one) (first_store S.other) → SameWaits S n
-    → SameTold S n (λ d. start tracing S.one (level tracing S.one d) size (main_target S.one)
+    → SameBehaviour S n (λ d. start tracing S.one (level tracing S.one d) size (main_target S.one)
     (first_store S.one))
     (λ d. start tracing S.other (level tracing S.other d) size (main_target S.other) (first_store S.other))
 starts_without S size n e e' st waits =

@@ -1,5 +1,6 @@
--- Computations of two refined meanings that tell the same, by names of words, and end the same way, on each
--- short feed; so that what goes on with values, and calls that wait, can be compared too.
+-- Computations of two refined meanings that behave the same: they tell the same, by names of words, and end
+-- the same way. The relation is step-indexed, by the length of the feed; so continuations, and calls that
+-- wait, can be compared too.
 use Rattle.std.specs.Prelude.{◌≡◌, ℕ, ◌≤◌, ◌<◌, ℤ, List, [], ◌∷◌, length, map, Option, Some, None}
 use Rattle.source_events.specs.declared.Item.{Item}
 use Rattle.source_events.specs.declared.Item.TheVariants.{Enter}
@@ -24,8 +25,8 @@ tracing = marked Whence ℕ whences
 abbrev pub Levelled : Type 0
 Levelled = ℕ → Comp Whence ℕ
 
-abbrev pub LevelledThen : Type 0
-LevelledThen = ℕ → Then tracing
+abbrev pub Continuation : Type 0
+Continuation = ℕ → Then tracing
 
 -- a call that waits
 pub record Waiter : Type 0 where
@@ -33,7 +34,7 @@ pub record Waiter : Type 0 where
   pub site : ℕ
   pub base : ℕ
   pub given : ℕ
-  pub resume : LevelledThen
+  pub resume : Continuation
 
 abbrev pub wait_at : Option Waiter → ℕ → Option (Wait tracing)
 wait_at None d = None
@@ -45,21 +46,21 @@ wait_at (Some c) d = Some (record {
   resume = c.resume d;
 })
 
--- ---- what a computation comes to
+-- ---- how a computation behaves
 
--- the events, by names of words, and the end
-pub record Upshot (N : Type 0) : Type 0 where
+-- what it tells: the events, by names of words, and the end
+pub record Behaviour (N : Type 0) : Type 0 where
   pub events : List (Event N ℕ)
   pub end : MeaningEnd
 
-abbrev pub upshot : {N : Type 0} → (Whence → N) → Report Whence ℕ → Upshot N
-upshot name t = record { events = map (event_to name (λ (k : ℕ). k)) t.events; end = t.end }
+abbrev pub behaviour : {N : Type 0} → (Whence → N) → Report Whence ℕ → Behaviour N
+behaviour name t = record { events = map (event_to name (λ (k : ℕ). k)) t.events; end = t.end }
 
--- that it is told at every level and under every fuel from some on
-pub record ComesTo {N : Type 0} (name : Whence → N) (m : Levelled) (low : Option ℕ)
-    (feed : List (Thing Whence ℕ)) (u : Upshot N) : Type 0 where
+-- that it tells this at every level and under every fuel from some on
+pub record Behaves {N : Type 0} (name : Whence → N) (m : Levelled) (low : Option ℕ)
+    (feed : List (Thing Whence ℕ)) (u : Behaviour N) : Type 0 where
   pub enough : ℕ
-  pub is : (d f : ℕ) → enough ≤ d → enough ≤ f → upshot name (m d low f feed) ≡ u
+  pub is : (d f : ℕ) → enough ≤ d → enough ≤ f → behaviour name (m d low f feed) ≡ u
 
 -- ---- two meanings
 
@@ -93,24 +94,25 @@ first_store world = map (λ (u : Program). u.globals) world
 
 module _ (S : Sides) where
   -- On each feed shorter than n both come to the same, whatever was wiped and wherever the numbers begin.
-  pub record SameTold (n : ℕ) (m m' : Levelled) : Type 0 where
+  pub record SameBehaviour (n : ℕ) (m m' : Levelled) : Type 0 where
     pub is : (low : Option ℕ) (k : ℕ) (feed : List Item) → length feed < n → FeedOf S.Fits feed
-        → (u : Upshot S.Names)
-        × ComesTo S.name m low (numbered_items k feed) u
-        × ComesTo S.name_too m' low (numbered_items k feed) u
+        → (u : Behaviour S.Names)
+        × Behaves S.name m low (numbered_items k feed) u
+        × Behaves S.name_too m' low (numbered_items k feed) u
 
   -- with each value, from globals that belong to each other
-  abbrev pub SameThen : ℕ → LevelledThen → LevelledThen → Type 0
-  SameThen n k k' = (v : ℤ) (st st' : Store) → S.Stores st st' → SameTold n (λ d. k d v st) (λ d. k' d v st')
+  abbrev pub SameContinuation : ℕ → Continuation → Continuation → Type 0
+  SameContinuation n k k' = (v : ℤ) (st st' : Store) → S.Stores st st'
+      → SameBehaviour n (λ d. k d v st) (λ d. k' d v st')
 
   -- both wait with the same part, number, base and words given, and go on alike; or none waits
-  abbrev pub SameWait : ℕ → Option Waiter → Option Waiter → Type 0
-  SameWait n None None = Unit {0}
-  SameWait n (Some c) (Some c') =
+  abbrev pub SameWaiting : ℕ → Option Waiter → Option Waiter → Type 0
+  SameWaiting n None None = Unit {0}
+  SameWaiting n (Some c) (Some c') =
       (c.part ≡ c'.part) × (c.site ≡ c'.site) × (c.base ≡ c'.base) × (c.given ≡ c'.given)
-      × SameThen n c.resume c'.resume
-  SameWait n None (Some c') = ⊥
-  SameWait n (Some c) None = ⊥
+      × SameContinuation n c.resume c'.resume
+  SameWaiting n None (Some c') = ⊥
+  SameWaiting n (Some c) None = ⊥
 
   -- two calls are told alike
   abbrev pub SameCall : Way Whence ℕ → Way Whence ℕ → List Value → List Value → Type 0
@@ -121,8 +123,8 @@ module _ (S : Sides) where
   -- where the feed is asked
   abbrev pub SameWaits : ℕ → Type 0
   SameWaits n =
-      (c c' : Option Waiter) (st st' : Store) → SameWait n c c' → S.Stores st st'
-      → SameTold n (λ d. (level tracing S.one d).wait (wait_at c d) st)
+      (c c' : Option Waiter) (st st' : Store) → SameWaiting n c c' → S.Stores st st'
+      → SameBehaviour n (λ d. (level tracing S.one d).wait (wait_at c d) st)
       (λ d. (level tracing S.other d).wait (wait_at c' d) st')
 
   -- neither is there, or both are, and belong to each other
@@ -141,18 +143,19 @@ module _ (S : Sides) where
     pub parts : (t t' : Target) → Targets t t' → part_name_of S.one t.home ≡ part_name_of S.other t'.home
     pub enters : (n : ℕ) → SameWaits n → (t t' : Target) → Targets t t' → (part name : List ℕ)
         (left : Option ℕ) (ints : List (Option ℤ)) (pairs : List FeedPair) (back : FeedBack)
-        → S.Fits (Enter part name left ints pairs back) → (k : ℕ) (q q' : LevelledThen) → SameThen n q q'
+        → S.Fits (Enter part name left ints pairs back) → (k : ℕ) (q q' : Continuation)
+        → SameContinuation n q q'
         → (st st' : Store) → S.Stores st st'
-        → SameTold n (λ d. (level tracing S.one d).proc t left
+        → SameBehaviour n (λ d. (level tracing S.one d).proc t left
         (tracing.fed S.one (numbered k (Enter part name left ints pairs back)) ints pairs) (q d) st)
         (λ d. (level tracing S.other d).proc t' left
         (tracing.fed S.other (numbered k (Enter part name left ints pairs back)) ints pairs) (q' d) st')
     pub hops : (n : ℕ) → SameWaits n → (t t' : Target) → Targets t t' → (c c' : Option Waiter)
-        → SameWait n c c' → (left : Option ℕ) (v : ℤ) (st st' : Store) → S.Stores st st'
-        → SameTold n (λ d. (level tracing S.one d).hop (wait_at c d) left t v st)
+        → SameWaiting n c c' → (left : Option ℕ) (v : ℤ) (st st' : Store) → S.Stores st st'
+        → SameBehaviour n (λ d. (level tracing S.one d).hop (wait_at c d) left t v st)
         (λ d. (level tracing S.other d).hop (wait_at c' d) left t' v st')
     pub starts : (n : ℕ) → SameWaits n
-        → SameTold n (λ d. start tracing S.one (level tracing S.one d) size (main_target S.one)
+        → SameBehaviour n (λ d. start tracing S.one (level tracing S.one d) size (main_target S.one)
         (first_store S.one))
         (λ d. start tracing S.other (level tracing S.other d) size (main_target S.other)
         (first_store S.other))

@@ -15,7 +15,7 @@ use Rattle.proc_semantics.specs.declared.value.Value.TheVariants.{Num, Closure, 
 use Rattle.proc_semantics.specs.Values.{Store, proc_at, found, main_target, is_zero, global_word}
 use Rattle.proc_semantics.specs.Values.{set_word, variable, if_there}
 use Rattle.proc_semantics.specs.Rules.{result_of, element_at, level, start, part_name_of}
-use Rattle.same_meanings.specs.Same.{tracing, Waiter, wait_at, Sides, first_store, SameTold, SameWait}
+use Rattle.same_meanings.specs.Same.{tracing, Waiter, wait_at, Sides, first_store, SameBehaviour, SameWaiting}
 use Rattle.same_meanings.specs.Same.{SameWaits, BothFound, SameRefined}
 
 -- expressions without calls, and statements with such alone and without loops
@@ -138,11 +138,11 @@ pub record StraightProcedures (S : Sides) (size : ℕ) : Type 1 where
   pub found : (part name : List ℕ) → BothFound S Targets (found S.one part name) (found S.other part name)
   pub parts : (t t' : Target) → Targets t t' → part_name_of S.one t.home ≡ part_name_of S.other t'.home
   pub hops : (n : ℕ) → SameWaits S n → (t t' : Target) → Targets t t' → (c c' : Option Waiter)
-      → SameWait S n c c' → (left : Option ℕ) (v : ℤ) (st st' : Store) → S.Stores st st'
-      → SameTold S n (λ d. (level tracing S.one d).hop (wait_at c d) left t v st)
+      → SameWaiting S n c c' → (left : Option ℕ) (v : ℤ) (st st' : Store) → S.Stores st st'
+      → SameBehaviour S n (λ d. (level tracing S.one d).hop (wait_at c d) left t v st)
       (λ d. (level tracing S.other d).hop (wait_at c' d) left t' v st')
   pub starts : (n : ℕ) → SameWaits S n
-      → SameTold S n (λ d. start tracing S.one (level tracing S.one d) size (main_target S.one)
+      → SameBehaviour S n (λ d. start tracing S.one (level tracing S.one d) size (main_target S.one)
       (first_store S.one))
       (λ d. start tracing S.other (level tracing S.other d) size (main_target S.other)
       (first_store S.other))
