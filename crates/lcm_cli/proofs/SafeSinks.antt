@@ -51,6 +51,7 @@ safe_sinks_hold room first last e l steps files seen kept left answers =
     record {
       due = k.due;
       came = subst (λ z. Comes (plan_in asked) files k.due z) (sym f.0) k.came;
+      makes = k.makes;
       gives = k.gives;
       is = k.is;
       fills = filled room first last k.gives.text e f.1;

@@ -71,9 +71,9 @@ pub fn roads_are_one()
     names_differ();
 }
 
-/// Over an empty [`SafeSink`](outside_io::SafeSink) a `run` ends with WriteFault only where the text that is
-/// due has as many bytes as the sink has room for, or more. So where there is room for a byte more than that
-/// text, whatever the files hold and whether they tell it, `run` never does.
+/// Over an empty [`SafeSink`](outside_io::SafeSink) a `run` ends with WriteFault only if the text that is due
+/// of the bytes that it read has as many bytes as the sink has room for, or more. So if there is room for a
+/// byte more than that text, whatever the files hold and whether they tell it, `run` never does.
 pub fn safe_sinks_hold_runs()
     ensures { SafeSinksHoldRuns }
 {}
