@@ -1,5 +1,5 @@
 -- A text that is audited: why its plan ends, and what comes of it.
-use Rattle.std.proofs.Common.{◌≡◌, ◌≢◌, ℕ, List, [], ◌∷◌, Option, Some, refl, sym, ap, subst, ◌∙◌, inl}
+use Rattle.std.proofs.Common.{◌≡◌, ◌≢◌, ℕ, List, [], ◌∷◌, Option, Some, refl, sym, ap, subst, ◌∙◌}
 use Rattle.std.specs.Prelude.{Result, Ok, Err}
 use Rattle.outside_io.specs.FilesSeen.{FilesSeen}
 use Rattle.outside_io.specs.Whole.{GivesWhole as ComesWhole}
@@ -29,7 +29,8 @@ audit_by : (name : List ℕ)
     → ByBytes (Some (asked.Audit name)) name 0 (λ text. unless refusal.Audit (audited text))
 audit_by name =
     reason_by (Some (asked.Audit name)) refusal.Audit audited name 0
-    (λ old mid text f w e. (name, refl, (old, inl (refl, refl, refl), text, w, answered_fault text f e)))
+    (λ old mid text f w e.
+    (name, refl, ([], old, (refl, refl, refl), text, refl, w, answered_fault text f e)))
 
 pub audit_reasoned : (name : List ℕ) → Reasoned (Some (asked.Audit name)) (audit_at name)
 unfolding audit_at

@@ -1,6 +1,6 @@
 -- The cause of every status.
-use Rattle.std.proofs.Common.{◌≡◌, ◌≢◌, ℕ, zero, suc, ◌⊎◌, ◌+◌, List, [], Option, Some, None, refl, sym, ap}
-use Rattle.std.proofs.Common.{subst, ◌∙◌, inl, inr, true, false}
+use Rattle.std.proofs.Common.{◌≡◌, ◌≢◌, ℕ, zero, suc, ◌⊎◌, ◌+◌, List, [], ◌∷◌, Option, Some, None, refl, sym}
+use Rattle.std.proofs.Common.{ap, subst, ◌∙◌, inl, inr, true, false}
 use Rattle.std.specs.Prelude.{Result, Ok, Err, Bool, ℤ, nat_lt, if◌then◌else◌}
 use Rattle.outside_io.specs.Counts.{Rose}
 use Rattle.outside_io.specs.FilesSeen.{FilesSeen}
@@ -56,17 +56,18 @@ use Rattle.lcm_cli.proofs.Settled.{complete, puts_rose}
 
 -- ---- a read that failed
 
-turn_reads : {A : Type 0} (p : Plan A) (old seen : FilesSeen) (name : List ℕ) (index : ℕ)
-    → IsTurn p old name index seen → seen.failed_reads ≡ old.failed_reads
-turn_reads (Made x) old seen name index h = absurd h
-turn_reads (Ends why) old seen name index h = absurd h
-turn_reads (Reads n k next) old seen name index (inl h) = ap (λ (s : FilesSeen). s.failed_reads) h.2
-turn_reads (Reads n k next) old seen name index (inr h) = turn_reads (next h.0) h.1 seen name index h.3
-    ∙ ap (λ (s : FilesSeen). s.failed_reads) h.2.quiet
+turn_reads : {A : Type 0} (p : Plan A) (before : List (List ℕ)) (old seen : FilesSeen) (name : List ℕ)
+    (index : ℕ) → IsTurn p before old name index seen → seen.failed_reads ≡ old.failed_reads
+turn_reads (Made x) before old seen name index h = absurd h
+turn_reads (Ends why) before old seen name index h = absurd h
+turn_reads (Reads n k next) [] old seen name index h = ap (λ (s : FilesSeen). s.failed_reads) h.2
+turn_reads (Reads n k next) (bytes ∷ before) old seen name index h =
+    turn_reads (next bytes) before h.0 seen name index h.2 ∙ ap (λ (s : FilesSeen). s.failed_reads) h.1.quiet
 
-unread_rose : {A : Type 0} (p : Plan A) (old new : FilesSeen) → IsUnread p old new
+unread_rose : {A : Type 0} (p : Plan A) (read : List (List ℕ)) (old new : FilesSeen) → IsUnread p read old new
     → Rose old.failed_reads new.failed_reads
-unread_rose p old new h = subst (λ n. Rose n new.failed_reads) (turn_reads p old h.2 h.0 h.1 h.3) h.4.rose
+unread_rose p read old new h =
+    subst (λ n. Rose n new.failed_reads) (turn_reads p read old h.2 h.0 h.1 h.3) h.4.rose
 
 -- ---- a trace ends by no write
 
@@ -108,7 +109,7 @@ Caused asked read old new status.StepsUsed =
     ⊎ MeantTo asked read old.files new.files (λ e. e ≡ end.OutOfFuel))
 Caused asked read old new status.Usage = asked ≡ None
 Caused asked read old new status.ReadFault =
-    Rose old.files.failed_reads new.files.failed_reads × IsUnread (plan_in asked) old.files new.files
+    Rose old.files.failed_reads new.files.failed_reads × IsUnread (plan_in asked) read old.files new.files
 Caused asked read old new status.WriteFault =
     Rose old.sink.faults new.sink.faults
     ⊎ (Rose old.files.failed_puts new.files.failed_puts × (out_name asked ≡ Some new.files.last_failed_put))
@@ -116,29 +117,30 @@ Caused asked read old new status.NoMemory =
     OnlyGave old.files new.files × (new.sink ≡ old.sink) × (new.kept ≡ old.kept)
 Caused asked read old new status.TooLong =
     (index : ℕ) × Wrote asked read (refusal.TooLong index) old new
-    × IsLong (plan_in asked) old.files index new.files
+    × IsLong (plan_in asked) read old.files index new.files
 Caused asked read old new status.AsmRefused =
     (index : ℕ) × (f : AsmFault) × Wrote asked read (refusal.Assembly index f) old new
-    × IsUnassembled asked (plan_in asked) old.files index f new.files
+    × IsUnassembled asked (plan_in asked) read old.files index f new.files
 Caused asked read old new status.SourceRefused =
     (index : ℕ) × (f : SourceFault) × Wrote asked read (refusal.Source index f) old new
-    × (IsUncompiled asked (plan_in asked) old.files index f new.files
+    × (IsUncompiled asked (plan_in asked) read old.files index f new.files
     ⊎ IsUnmade asked (refusal.Source index f))
 Caused asked read old new status.AuditRefused =
     (f : AuditFault) × Wrote asked read (refusal.Audit f) old new
-    × IsUnaudited asked (plan_in asked) old.files f new.files
+    × IsUnaudited asked (plan_in asked) read old.files f new.files
 Caused asked read old new status.FileRefused =
     ((index : ℕ) × (f : FileFault) × Wrote asked read (refusal.File index f) old new
-    × IsUndecoded asked (plan_in asked) old.files index f new.files)
+    × IsUndecoded asked (plan_in asked) read old.files index f new.files)
     ⊎ (((f : ImageFault) × (image_status f ≡ status.FileRefused) × Wrote asked read (refusal.Image f) old new
-    × IsUnloaded asked old.files f new.files)
-    ⊎ (((line : ℕ) × Wrote asked read (refusal.Feed line) old new × IsUnfed asked old.files line new.files)
+    × IsUnloaded asked read old.files f new.files)
+    ⊎ (((line : ℕ) × Wrote asked read (refusal.Feed line) old new
+    × IsUnfed asked read old.files line new.files)
     ⊎ ((line : ℕ) × Wrote asked read (refusal.Script line) old new
-    × IsUnscripted asked (plan_in asked) old.files line new.files)))
+    × IsUnscripted asked (plan_in asked) read old.files line new.files)))
 Caused asked read old new status.RuleBroken =
-    (r : RuleAt) × ((Wrote asked read (refusal.Rule r) old new × Breaks asked old.files r new.files)
+    (r : RuleAt) × ((Wrote asked read (refusal.Rule r) old new × Breaks asked read old.files r new.files)
     ⊎ (Wrote asked read (refusal.Image (image.Rule r)) old new
-    × IsUnloaded asked old.files (image.Rule r) new.files))
+    × IsUnloaded asked read old.files (image.Rule r) new.files))
 
 run_caused : (asked : Option Command) (read : List (List ℕ)) (old new : Outside) (i : ImageSeen) (steps : ℕ)
     (telling : Telling)
@@ -173,7 +175,7 @@ mean_caused asked read old new s fuel c end.Waiting h = inr (inr (inr (inr (s, f
 mean_caused asked read old new s fuel c end.OutOfFuel h = inr (inr (s, fuel, c, h))
 
 image_caused : (asked : Option Command) (read : List (List ℕ)) (old new : Outside) (f : ImageFault)
-    → IsUnloaded asked old.files f new.files → Wrote asked read (refusal.Image f) old new
+    → IsUnloaded asked read old.files f new.files → Wrote asked read (refusal.Image f) old new
     → Caused asked read old new (image_status f)
 image_caused asked read old new (image.Rule r) h w = (r, inr (w, h))
 image_caused asked read old new image.Magic h w = inr (inl (image.Magic, refl, w, h))
@@ -185,10 +187,11 @@ image_caused asked read old new (image.File part f) h w = inr (inl (image.File p
 image_caused asked read old new image.NoMemory h w = inr (inl (image.NoMemory, refl, w, h))
 
 err_caused : (asked : Option Command) (read : List (List ℕ)) (old new : Outside) (why : Refusal)
-    → WhyIs asked (plan_in asked) old.files why new.files → Wrote asked read why old new
+    → WhyIs asked (plan_in asked) read old.files why new.files → Wrote asked read why old new
     → Caused asked read old new (refusal_status why)
 err_caused asked read old new refusal.Usage h w = h
-err_caused asked read old new refusal.ReadFault h w = (unread_rose (plan_in asked) old.files new.files h, h)
+err_caused asked read old new refusal.ReadFault h w =
+    (unread_rose (plan_in asked) read old.files new.files h, h)
 err_caused asked read old new (refusal.TooLong index) h w = (index, w, h)
 err_caused asked read old new (refusal.Assembly index f) h w = (index, f, w, h)
 err_caused asked read old new (refusal.Source index f) h w = (index, f, w, h)
@@ -239,7 +242,7 @@ due_caused asked fits read old new seen (Ok (Tell s fuel)) a c x p w =
 due_caused asked fits read old new seen (Err why) a c x p w =
     let n : new.files ≡ seen = unput_seen seen new.files a (refused why) x refl p in
     subst (λ (b : Answer). Caused asked read old new b.status) (sym x)
-    (err_caused asked read old new why (why_is asked fits old.files new.files why (rw n c.0))
+    (err_caused asked read old new why (why_is asked fits read old.files new.files why (rw n c.0))
     (c.1, subst (λ (b : Answer). Adds old.sink b.text new.sink) x w))
 
 -- ---- each cause

@@ -1,6 +1,6 @@
 -- What links and is debugged: why its plan ends, and what comes of it.
-use Rattle.std.proofs.Common.{◌≡◌, ℕ, ◌<◌, ◌≤◌, ◌^◌, List, length, Option, Some, refl, sym, subst, ◌∙◌}
-use Rattle.std.proofs.Common.{inl, inr, arith}
+use Rattle.std.proofs.Common.{◌≡◌, ℕ, ◌<◌, ◌≤◌, ◌^◌, List, [], ◌++◌, length, Option, Some, refl, sym, ap}
+use Rattle.std.proofs.Common.{subst, ◌∙◌, inl, inr, arith}
 use Rattle.std.specs.Prelude.{Result, Ok, Err}
 use Rattle.outside_io.specs.FilesSeen.{FilesSeen}
 use Rattle.outside_io.specs.Whole.{GivesWhole}
@@ -23,7 +23,7 @@ use Rattle.file_plans.specs.declared.TheConstants.{LONGEST_FILE}
 use Rattle.file_plans.specs.declared.refusal.Refusal.{Refusal}
 use Rattle.file_plans.specs.declared.refusal.Refusal.TheVariants as refusal
 use Rattle.file_plans.specs.declared.refusal.Stop.{Stop}
-use Rattle.file_plans.specs.Plans.{Plan, Made, ◌>>=◌, unless, whole, too_long, unread, Comes, Follows}
+use Rattle.file_plans.specs.Plans.{Plan, Made, ◌>>=◌, unless, Comes, Follows}
 use Rattle.file_plans.proofs.Offers.{comes_bind, comes_made, follows_bind, follows_end}
 use Rattle.component_linker.specs.LinkedStarts.{IsStartOf}
 use Rattle.lcm_cli.specs.declared.ready.ReadyTask.TheVariants as ready
@@ -31,8 +31,10 @@ use Rattle.lcm_cli.specs.ReadyTasks.{FollowsTask}
 use Rattle.lcm_cli.specs.Commands.{Task, Debug, debug_plan}
 use Rattle.link_tool.specs.Linked.{linked_in}
 use Rattle.lcm_cli.specs.Debugs.{unscripted, script_at}
-use Rattle.lcm_cli.specs.Causes.{Breaks, IsUnloaded}
-use Rattle.lcm_cli.proofs.Ends.{Never, Foreign, comes_split, same_err, not_made, never_bind}
+use Rattle.lcm_cli.specs.Bytes.{ComesOf}
+use Rattle.lcm_cli.specs.Causes.{AreLast, Breaks, IsUnloaded}
+use Rattle.lcm_cli.proofs.Came.{split_of, IsSettled, settled_unless, settled_bind, read_made}
+use Rattle.lcm_cli.proofs.Ends.{Never, Foreign, same_err, not_made, never_bind}
 use Rattle.lcm_cli.proofs.Ends.{never_reads, never_unless, never_linked, never_image}
 use Rattle.lcm_cli.proofs.Reasons.{Reasoned, ByBytes, reason_by, reads_reasoned, reasoned_bind, reasoned_made}
 use Rattle.lcm_cli.proofs.Reasons.{in_reasoned, linked_break, image_fails}
@@ -50,7 +52,8 @@ module _ (l : Linked) (script : List ℕ) where
   script_by : (index : ℕ) → ByBytes the_command script index (λ text. unless unscripted (scripted text))
   script_by index =
       reason_by the_command unscripted scripted script index
-      (λ old mid text f w e. (l, script, refl, index, (old, inl (refl, refl, refl), text, w, (f, e, refl))))
+      (λ old mid text f w e.
+      (l, script, refl, index, ([], old, (refl, refl, refl), text, refl, w, (f, e, refl))))
 
   script_reasoned : (index : ℕ) → Reasoned the_command (script_at script index)
   unfolding script_at
@@ -104,45 +107,49 @@ never_debug why s h image l script =
     never_bind (linked_in l) (behind script) why (never_in why h image l) (never_behind why s script)
 
 -- where its script is not why it ends, what links is
-ends_first : (l : Linked) (script : List ℕ) (old new : FilesSeen) (why : Refusal) → NotOfScript why
-    → Comes (debug_plan l script) old (Err why) new → Comes (linked_in l) old (Err why) new
+ends_first : (l : Linked) (script : List ℕ) (read : List (List ℕ)) (old new : FilesSeen) (why : Refusal)
+    → NotOfScript why → ComesOf (debug_plan l script) read old (Err why) new
+    → ComesOf (linked_in l) read old (Err why) new
 unfolding debug_plan
-ends_first l script old new why s h =
-    elim (comes_split (linked_in l) (behind script) old new (Err why) h)
-    as (λ _. Comes (linked_in l) old (Err why) new) [
-      | inl k ↦ absurd (never_behind why s script k.0 k.1 new k.3)
+ends_first l script read old new why s h =
+    elim (split_of (linked_in l) (behind script) read old new (Err why) h)
+    as (λ _. ComesOf (linked_in l) read old (Err why) new) [
+      | inl k ↦ absurd (never_behind why s script k.0 k.1 new k.5.0)
       | inr k ↦ (let e = same_err why k.0 k.2 in rw (← e) k.1)
     ]
 
-pub debug_breaks : (l : Linked) (script : List ℕ) (old new : FilesSeen) (r : RuleAt)
-    → Comes (debug_plan l script) old (Err (refusal.Rule r)) new
-    → Breaks (Some (asked.Debug l script)) old r new
-debug_breaks (what.Parts words size) script old new r h =
-    linked_break words size old new r
-    (ends_first (what.Parts words size) script old new (refusal.Rule r) tt h)
-debug_breaks (what.Image name) script old new r h =
+pub debug_breaks : (l : Linked) (script : List ℕ) (read : List (List ℕ)) (old new : FilesSeen) (r : RuleAt)
+    → ComesOf (debug_plan l script) read old (Err (refusal.Rule r)) new
+    → Breaks (Some (asked.Debug l script)) read old r new
+debug_breaks (what.Parts words size) script read old new r h =
+    linked_break words size read old new r
+    (ends_first (what.Parts words size) script read old new (refusal.Rule r) tt h)
+debug_breaks (what.Image name) script read old new r h =
     never_image (refusal.Rule r) tt name old new
-    (ends_first (what.Image name) script old new (refusal.Rule r) tt h)
+    (ends_first (what.Image name) script read old new (refusal.Rule r) tt h).0
 
-pub debug_unloaded : (l : Linked) (script : List ℕ) (old new : FilesSeen) (f : ImageFault)
-    → Comes (debug_plan l script) old (Err (refusal.Image f)) new
-    → IsUnloaded (Some (asked.Debug l script)) old f new
-debug_unloaded (what.Parts words size) script old new f h =
+pub debug_unloaded : (l : Linked) (script : List ℕ) (read : List (List ℕ)) (old new : FilesSeen)
+    (f : ImageFault) → ComesOf (debug_plan l script) read old (Err (refusal.Image f)) new
+    → IsUnloaded (Some (asked.Debug l script)) read old f new
+debug_unloaded (what.Parts words size) script read old new f h =
     absurd (never_linked (refusal.Image f) tt words size old new
-    (ends_first (what.Parts words size) script old new (refusal.Image f) tt h))
-debug_unloaded (what.Image name) script old new f h =
-    let g = image_fails name old new f (ends_first (what.Image name) script old new (refusal.Image f) tt h) in
-    (name, refl, g.0, g.1, g.2)
+    (ends_first (what.Parts words size) script read old new (refusal.Image f) tt h).0)
+debug_unloaded (what.Image name) script read old new f h =
+    let g = image_fails name read old new f
+    (ends_first (what.Image name) script read old new (refusal.Image f) tt h) in
+    (name, refl, g.0, g.1, g.2, g.3)
 
 -- ---- what comes of it
 
 -- what links came, and then the script's file
-pub record DebugCame (l : Linked) (script : List ℕ) (old : FilesSeen) (t : Task) (new : FilesSeen)
-    : Type 0 where
+pub record DebugCame (l : Linked) (script : List ℕ) (read : List (List ℕ)) (old : FilesSeen) (t : Task)
+    (new : FilesSeen) : Type 0 where
   pub image : ImageSeen
+  pub before : List (List ℕ)
   pub mid : FilesSeen
-  pub came : Comes (linked_in l) old (Ok image) mid
+  pub came : ComesOf (linked_in l) before old (Ok image) mid
   pub text : List ℕ
+  pub read_is : AreLast read before text
   pub script_came : GivesWhole mid script LONGEST_FILE text new
   pub lines : List Line
   pub is_script : scripted text ≡ Ok lines
@@ -151,37 +158,51 @@ pub record DebugCame (l : Linked) (script : List ℕ) (old : FilesSeen) (t : Tas
 same_task : (x y : Task) → (let r : Result Task Refusal = Ok x in r) ≡ Ok y → x ≡ y
 same_task x y e = cc
 
-module _ (l : Linked) (script : List ℕ) (old : FilesSeen) (t : Task) (new : FilesSeen) where
-  came_by : (i : ImageSeen) (mid : FilesSeen) → Comes (linked_in l) old (Ok i) mid → (text : List ℕ)
-      (seen : FilesSeen) → GivesWhole mid script LONGEST_FILE text seen
+-- what a script's text comes to
+abbrev by_script : ImageSeen → Result (List Line) ScriptFault → Plan Task
+by_script i r = unless unscripted r >>= (λ lines. Made (Debug i lines))
+
+settled_script : (i : ImageSeen) (text : List ℕ) → IsSettled (by_script i (scripted text))
+settled_script i text =
+    settled_bind (unless unscripted (scripted text)) (λ lines. Made (Debug i lines))
+    (settled_unless unscripted (scripted text)) (λ lines. inl (Debug i lines, refl))
+
+module _ (l : Linked) (script : List ℕ) (read : List (List ℕ)) (old : FilesSeen) (t : Task)
+    (new : FilesSeen) where
+  came_by : (i : ImageSeen) (mid : FilesSeen) (front : List (List ℕ)) (text : List ℕ)
+      → AreLast read front text → ComesOf (linked_in l) front old (Ok i) mid
+      → GivesWhole mid script LONGEST_FILE text new
       → (r : Result (List Line) ScriptFault) → scripted text ≡ r
-      → Comes (unless unscripted r >>= (λ lines. Made (Debug i lines))) seen (Ok t) new
-      → DebugCame l script old t new
-  came_by i mid c text seen w (Ok lines) e h = record {
+      → Comes (by_script i r) new (Ok t) new → DebugCame l script read old t new
+  came_by i mid front text q c w (Ok lines) e h = record {
     image = i;
+    before = front;
     mid = mid;
     came = c;
     text = text;
-    script_came = subst (λ z. GivesWhole mid script LONGEST_FILE text z) (sym h.1) w;
+    read_is = q;
+    script_came = w;
     lines = lines;
     is_script = e;
     task = same_task t (Debug i lines) h.0;
   }
-  came_by i mid c text seen w (Err f) e h = absurd (let k = h.0 in cc)
+  came_by i mid front text q c w (Err f) e h = absurd (let k = h.0 in cc)
 
-  came_behind : (i : ImageSeen) (mid : FilesSeen) → Comes (linked_in l) old (Ok i) mid
-      → Comes (behind script i) mid (Ok t) new → DebugCame l script old t new
+  came_behind : (i : ImageSeen) (mid : FilesSeen) (front back : List (List ℕ)) → read ≡ front ++ back
+      → ComesOf (linked_in l) front old (Ok i) mid → ComesOf (behind script i) back mid (Ok t) new
+      → DebugCame l script read old t new
   unfolding script_at
-  came_behind i mid c (whole text seen w h) = came_by i mid c text seen w (scripted text) refl h
-  came_behind i mid c (too_long k e) = absurd (cc)
-  came_behind i mid c (unread k e) = absurd (cc)
+  came_behind i mid front back q c h =
+      let s = read_made script (length i.parts) (λ text. by_script i (scripted text)) (settled_script i)
+      back mid new t h in
+      came_by i mid front s.0 (q ∙ ap (λ b. front ++ b) s.1) c s.2 (scripted s.0) refl s.3
 
-  pub debug_came : Comes (debug_plan l script) old (Ok t) new → DebugCame l script old t new
+  pub debug_came : ComesOf (debug_plan l script) read old (Ok t) new → DebugCame l script read old t new
   unfolding debug_plan
   debug_came h =
-      elim (comes_split (linked_in l) (behind script) old new (Ok t) h)
-      as (λ _. DebugCame l script old t new) [
-        | inl k ↦ came_behind k.0 k.1 k.2 k.3
+      elim (split_of (linked_in l) (behind script) read old new (Ok t) h)
+      as (λ _. DebugCame l script read old t new) [
+        | inl k ↦ came_behind k.0 k.1 k.2 k.3 k.6 k.4 k.5
         | inr k ↦ absurd (let e = k.2 in cc)
       ]
 

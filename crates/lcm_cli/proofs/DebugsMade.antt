@@ -9,11 +9,10 @@ use Rattle.debug_tool.specs.Laws.{CommandsRemember}
 use Rattle.debug_tool.specs.Replies.{debug_text}
 use Rattle.step_back.specs.declared.debugger.TheConstants.{MOST_DEPTH}
 use Rattle.file_plans.specs.declared.refusal.Refusal.{Refusal}
-use Rattle.file_plans.specs.Plans.{Comes}
 use Rattle.refusal_lines.specs.declared.status.Status.{Status}
 use Rattle.refusal_lines.specs.declared.status.Status.TheVariants as status
 use Rattle.lcm_cli.specs.Commands.{Task, Debug, plan_in, debug_plan}
-use Rattle.lcm_cli.specs.Bytes.{Makes}
+use Rattle.lcm_cli.specs.Bytes.{ComesOf, Makes}
 use Rattle.lcm_cli.specs.Answers.{Answer, Outside, with_files, writes, IsAnswerOf, AnswersWhole, Answers}
 use Rattle.lcm_cli.specs.Answers.{read_in}
 use Rattle.lcm_cli.specs.Causes.{IsRunStatus, DebugGiven}
@@ -22,7 +21,7 @@ use Rattle.lcm_cli.proofs.RunsMade.{StartLaws, started, refused_none, whole_run}
 
 module _ (all : StartLaws) (remember : CommandsRemember) (l : Linked) (script : List ℕ)
     (read : List (List ℕ)) (old : Outside) (ended : Status) (new : Outside) where
-  given_debug : (seen : FilesSeen) (t : Task) (a : Answer) (c : DebugCame l script old.files t seen)
+  given_debug : (seen : FilesSeen) (t : Task) (a : Answer) (c : DebugCame l script read old.files t seen)
       → Makes (debug_plan l script) read (Ok (Debug c.image c.lines))
       → IsAnswerOf (Ok (Debug c.image c.lines)) a → AnswersWhole (with_files old seen) a ended new
       → DebugGiven l script read old ended new
@@ -32,9 +31,11 @@ module _ (all : StartLaws) (remember : CommandsRemember) (l : Linked) (script : 
       subst (λ b. AnswersWhole (with_files old seen) b ended new) x.2 g in
       let p : new.files ≡ seen = h.put in
       record {
+        before = c.before;
         mid = c.mid;
-        from = started all l old.files c.mid c.image x.0 c.came x.1;
+        from = started all l c.before old.files c.mid c.image x.0 c.came x.1;
         text = c.text;
+        read_is = c.read_is;
         script_came = rw p c.script_came;
         lines = c.lines;
         is_script = c.is_script;
@@ -46,12 +47,12 @@ module _ (all : StartLaws) (remember : CommandsRemember) (l : Linked) (script : 
       }
 
   given_due : (seen : FilesSeen) (due : Result Task Refusal) (a : Answer)
-      → Comes (debug_plan l script) old.files due seen → Makes (debug_plan l script) read due
+      → ComesOf (debug_plan l script) read old.files due seen → Makes (debug_plan l script) read due
       → IsAnswerOf due a → AnswersWhole (with_files old seen) a ended new → IsRunStatus ended
       → DebugGiven l script read old ended new
   given_due seen (Err why) a c k x g r = absurd (refused_none why a ended x g.status_is r)
   given_due seen (Ok t) a c k x g r =
-      let m = debug_came l script old.files t seen c in
+      let m = debug_came l script read old.files t seen c in
       given_debug seen t a m (subst (λ u. Makes (debug_plan l script) read (Ok u)) m.task k)
       (subst (λ u. IsAnswerOf (Ok u) a) m.task x) g
 
@@ -61,5 +62,5 @@ pub debugs : StartLaws → CommandsRemember → (words : Option Command) (old : 
 debugs all remember words old ended new a l script e r =
     let w = whole_run (plan_in words) old ended new a r in
     given_due all remember l script (read_in a) old ended new w.seen w.due w.gives
-    (subst (λ q. Comes (plan_in q) old.files w.due w.seen) e w.came)
+    (subst (λ q. ComesOf (plan_in q) (read_in a) old.files w.due w.seen) e w.came)
     (subst (λ q. Makes (plan_in q) (read_in a) w.due) e w.makes) w.is w.given r

@@ -11,6 +11,7 @@ use Rattle.assembler.specs.Assembled.{assembled}
 use Rattle.component_linker.specs.declared.fault.RuleAt.{RuleAt}
 use Rattle.component_linker.specs.Accepted.{accepted}
 use Rattle.component_linker.specs.Parts.{PartSeen}
+use Rattle.image_loader.specs.Image.{ImageSeen}
 use Rattle.file_plans.specs.declared.refusal.Refusal.{Refusal}
 use Rattle.file_plans.specs.declared.refusal.Refusal.TheVariants as refusal
 use Rattle.file_plans.specs.Plans.{Plan, Reads, Ends, Made, ◌>>=◌, unless, each_at, whole, too_long, unread}
@@ -20,6 +21,8 @@ use Rattle.link_tool.specs.Parts.{broken_in, linked, loaded, form_by, component_
 use Rattle.proc_sources.specs.Sources.{sourced}
 use Rattle.link_tool.specs.Linked.{linked_parts, linked_image}
 use Rattle.link_tool.proofs.Offers.{image_with}
+use Rattle.lcm_cli.specs.Bytes.{bytes_of}
+use Rattle.lcm_cli.proofs.Came.{split_of, IsSettled, settled_unless, settled_bind}
 
 -- what comes of two plans that are joined
 abbrev pub Split : {A B : Type 0} → Plan A → (A → Plan B) → FilesSeen → Result B Refusal → FilesSeen → Type 0
@@ -28,16 +31,12 @@ Split {A} p f old due new = ((x : A) × (mid : FilesSeen) × Comes p old (Ok x) 
 
 pub comes_split : {A B : Type 0} (p : Plan A) (f : A → Plan B) (old new : FilesSeen) (due : Result B Refusal)
     → Comes (p >>= f) old due new → Split p f old due new
-comes_split (Made x) f old new due h = inl (x, old, (refl, refl), h)
-comes_split (Ends why) f old new due h = inr (why, (refl, h.1), h.0)
-comes_split (Reads name index next) f old new due (whole bytes mid w h) =
-    elim (comes_split (next bytes) f mid new due h) as (λ _. Split (Reads name index next) f old due new) [
-      | inl s ↦ inl (s.0, s.1, whole bytes mid w s.2, s.3)
-      | inr s ↦ inr (s.0, whole bytes mid w s.1, s.2)
+comes_split p f old new due h =
+    elim (split_of p f (bytes_of (p >>= f) old due new h) old new due (h, refl))
+    as (λ _. Split p f old due new) [
+      | inl s ↦ inl (s.0, s.1, s.4.0, s.5.0)
+      | inr s ↦ inr (s.0, s.1.0, s.2)
     ]
-comes_split (Reads name index next) f old new due (too_long t e) =
-    inr (refusal.TooLong index, too_long t refl, e)
-comes_split (Reads name index next) f old new due (unread t e) = inr (refusal.ReadFault, unread t refl, e)
 
 pub same_err : {A : Type 0} (x y : Refusal) → (let r : Result A Refusal = Err x in r) ≡ Err y → y ≡ x
 same_err x y e = cc
@@ -114,8 +113,12 @@ pub never_component : (why : Refusal) → Foreign why → (index : ℕ) (w : Par
 unfolding component_at
 never_component why h index w = never_form why h w.ending w.name index
 
-abbrev part_by : ℕ → PartWord → ComponentFields → Plan PartSeen
+abbrev pub part_by : ℕ → PartWord → ComponentFields → Plan PartSeen
 part_by index w c = unless (broken_in index) (accepted
+    (record { component = c; trusted = is_trusted_mark w.mark }))
+
+pub settled_part : (index : ℕ) (w : PartWord) (c : ComponentFields) → IsSettled (part_by index w c)
+settled_part index w c = settled_unless (broken_in index) (accepted
     (record { component = c; trusted = is_trusted_mark w.mark }))
 
 pub never_part : (why : Refusal) → Foreign why → (index : ℕ) (w : PartWord) → Never (part_at index w) why
@@ -136,12 +139,19 @@ never_each why item h index (w ∷ ws) =
     (λ x. never_bind (each_at item (index + 1) ws) (λ xs. Made (x ∷ xs)) why
     (never_each why item h (index + 1) ws) (λ xs. not_made (x ∷ xs) why))
 
+abbrev pub link_by : ℕ → List PartSeen → Plan ImageSeen
+link_by size parts = unless refusal.Rule (linked parts size) >>= (λ u. Made (image_with size parts))
+
+pub settled_link : (size : ℕ) (parts : List PartSeen) → IsSettled (link_by size parts)
+settled_link size parts =
+    settled_bind (unless refusal.Rule (linked parts size)) (λ u. Made (image_with size parts))
+    (settled_unless refusal.Rule (linked parts size)) (λ u. inl (image_with size parts, refl))
+
 pub never_linked : (why : Refusal) → Foreign why → (words : List PartWord) (size : ℕ)
     → Never (linked_parts words size) why
 unfolding linked_parts
 never_linked why h words size =
-    never_bind (each_at part_at 0 words)
-    (λ ps. unless refusal.Rule (linked ps size) >>= (λ _. Made (image_with size ps))) why
+    never_bind (each_at part_at 0 words) (link_by size) why
     (never_each why part_at (never_part why h) 0 words)
     (λ ps. never_bind (unless refusal.Rule (linked ps size)) (λ _. Made (image_with size ps)) why
     (never_unless refusal.Rule (linked ps size) why (λ r. foreign (refusal.Rule r) why h))

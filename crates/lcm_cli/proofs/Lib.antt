@@ -1,6 +1,7 @@
 pub mod Sinks
 pub mod Given
 pub mod Making
+pub mod Came
 pub mod Ends
 pub mod Tasks
 pub mod Reasons

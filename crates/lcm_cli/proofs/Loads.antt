@@ -21,6 +21,7 @@ use Rattle.lcm_cli.specs.Commands.{Task, Run, Totals, for_task}
 use Rattle.lcm_cli.specs.declared.ready.ReadyTask.TheVariants as ready
 use Rattle.file_plans.proofs.Offers.{comes_same}
 use Rattle.lcm_cli.proofs.Tasks.{task_done}
+use Rattle.lcm_cli.proofs.Came.{IsSettled, settled_unless, settled_bind}
 use Rattle.lcm_cli.proofs.Ends.{Never, same_err, not_made, never_unless, never_bind}
 use Rattle.link_tool.proofs.Offers.{image_with}
 
@@ -42,18 +43,6 @@ load_done seed load start e m seen =
     (h.0, ap (λ x. Run h.0 load_steps (Totals x)) (sym e), h.2)
 
 -- ---- what comes of a plan that reads nothing
-
-abbrev pub IsSettled : {A : Type 0} → Plan A → Type 0
-IsSettled {A} p = ((x : A) × (p ≡ Made x)) ⊎ ((why : Refusal) × (p ≡ Ends why))
-
-settled_unless : {A F : Type 0} (told : F → Refusal) (r : Result A F) → IsSettled (unless told r)
-settled_unless told (Ok x) = inl (x, refl)
-settled_unless told (Err f) = inr (told f, refl)
-
-settled_bind : {A B : Type 0} (p : Plan A) (f : A → Plan B) → IsSettled p → ((x : A) → IsSettled (f x))
-    → IsSettled (p >>= f)
-settled_bind p f (inl m) k = rw m.1 (k m.0)
-settled_bind p f (inr e) k = rw e.1 (inr (e.0, refl))
 
 settled_parts : (load : Workload) → IsSettled (load_parts load)
 unfolding load_module load_other load_parts

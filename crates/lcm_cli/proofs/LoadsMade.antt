@@ -1,5 +1,5 @@
 -- What the run of a load was given from, and what it wrote.
-use Rattle.std.proofs.Common.{◌≡◌, ℕ, Option, Some, subst, ◌∙◌}
+use Rattle.std.proofs.Common.{◌≡◌, ℕ, List, Option, Some, subst, ◌∙◌}
 use Rattle.std.specs.Prelude.{Result, Ok, Err}
 use Rattle.outside_io.specs.FilesSeen.{FilesSeen}
 use Rattle.command_words.specs.declared.command.Command.{Command}
@@ -12,7 +12,9 @@ use Rattle.file_plans.specs.Plans.{Comes}
 use Rattle.refusal_lines.specs.declared.status.Status.{Status}
 use Rattle.link_tool.specs.Loads.{load_image}
 use Rattle.lcm_cli.specs.Commands.{Task, Totals, for_task, plan_in}
+use Rattle.lcm_cli.specs.Bytes.{ComesOf}
 use Rattle.lcm_cli.specs.Answers.{Answer, Outside, with_files, ran, IsAnswerOf, AnswersWhole, Answers}
+use Rattle.lcm_cli.specs.Answers.{read_in}
 use Rattle.lcm_cli.specs.Causes.{IsRunStatus, LoadGiven}
 use Rattle.lcm_cli.proofs.Loads.{task_of, load_made, comes_stays}
 use Rattle.lcm_cli.proofs.Tasks.{made_of}
@@ -42,19 +44,19 @@ module _ (all : StartLaws) (seed : ℕ) (old : Outside) (ended : Status) (new : 
         files_stay = p ∙ comes_stays (load_of seed) i old.files seen c;
       }
 
-  given_due : (seen : FilesSeen) (due : Result Task Refusal) (a : Answer)
-      → Comes (for_task (load_image (load_of seed)) (task_of seed)) old.files due seen
+  given_due : (read : List (List ℕ)) (seen : FilesSeen) (due : Result Task Refusal) (a : Answer)
+      → ComesOf (for_task (load_image (load_of seed)) (task_of seed)) read old.files due seen
       → IsAnswerOf due a → AnswersWhole (with_files old seen) a ended new → IsRunStatus ended
       → LoadGiven seed old ended new
-  given_due seen (Err why) a c x g r = absurd (refused_none why a ended x g.status_is r)
-  given_due seen (Ok task) a c x g r =
-      let m = made_of (load_image (load_of seed)) (task_of seed) old.files seen task c in
-      given_load seen m.0 a m.1 (subst (λ t. IsAnswerOf (Ok t) a) m.2 x) g
+  given_due read seen (Err why) a c x g r = absurd (refused_none why a ended x g.status_is r)
+  given_due read seen (Ok task) a c x g r =
+      let m = made_of (load_image (load_of seed)) (task_of seed) read old.files seen task c in
+      given_load seen m.0 a m.1.0 (subst (λ t. IsAnswerOf (Ok t) a) m.2 x) g
 
 pub loads : StartLaws → (asked : Option Command) (old : Outside) (ended : Status) (new : Outside)
     → Answers (plan_in asked) old ended new → (seed : ℕ) → asked ≡ Some (Generate seed) → IsRunStatus ended
     → LoadGiven seed old ended new
 loads all asked old ended new a seed e r =
     let w = whole_run (plan_in asked) old ended new a r in
-    given_due all seed old ended new w.seen w.due w.gives
-    (subst (λ q. Comes (plan_in q) old.files w.due w.seen) e w.came) w.is w.given r
+    given_due all seed old ended new (read_in a) w.seen w.due w.gives
+    (subst (λ q. ComesOf (plan_in q) (read_in a) old.files w.due w.seen) e w.came) w.is w.given r

@@ -1,5 +1,5 @@
 -- What comes of a plan is what it makes of the bytes that came.
-use Rattle.std.proofs.Common.{Option, inl, inr}
+use Rattle.std.proofs.Common.{Option, refl, inl, inr}
 use Rattle.std.specs.Prelude.{Result}
 use Rattle.outside_io.specs.FilesSeen.{FilesSeen}
 use Rattle.command_words.specs.declared.command.Command.{Command}
@@ -20,4 +20,4 @@ makes_of (Reads name index next) old due new (unread t e) = inr e
 pub came_of : (asked : Option Command) (old : FilesSeen) (due : Result Task Refusal) (new : FilesSeen)
     (c : Comes (plan_in asked) old due new)
     → CameOf asked (bytes_of (plan_in asked) old due new c) old due new
-came_of asked old due new c = (c, makes_of (plan_in asked) old due new c)
+came_of asked old due new c = ((c, refl), makes_of (plan_in asked) old due new c)

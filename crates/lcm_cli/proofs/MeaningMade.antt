@@ -9,11 +9,11 @@ use Rattle.proc_program.specs.Lower.{part_of}
 use Rattle.proc_semantics.specs.Meaning.{meaning}
 use Rattle.proc_semantics.proofs.Offers.{meanings_leave}
 use Rattle.file_plans.specs.declared.refusal.Refusal.{Refusal}
-use Rattle.file_plans.specs.Plans.{Plan, Comes}
+use Rattle.file_plans.specs.Plans.{Plan}
 use Rattle.meaning_tool.specs.Subjects.{Subject, told_of, subject_in}
 use Rattle.refusal_lines.specs.declared.status.Status.{Status}
 use Rattle.lcm_cli.specs.Commands.{Task, Tell, plan_of, plan_in}
-use Rattle.lcm_cli.specs.Bytes.{Makes}
+use Rattle.lcm_cli.specs.Bytes.{ComesOf, Makes}
 use Rattle.lcm_cli.specs.Answers.{Answer, Outside, with_files, tells, IsAnswerOf, AnswersWhole, Answers}
 use Rattle.lcm_cli.specs.Answers.{read_in}
 use Rattle.lcm_cli.specs.Causes.{IsRunStatus, MeaningGiven}
@@ -26,7 +26,7 @@ module _ (words : List PartWord) (size fuel : ℕ) (feed : List ℕ) (read : Lis
   abbrev reads : Plan Task
   reads = plan_of (Mean words size fuel feed)
 
-  given_told : (seen : FilesSeen) (s : Subject) → SubjectCame words size feed old.files s seen
+  given_told : (seen : FilesSeen) (s : Subject) → SubjectCame words size feed read old.files s seen
       → Makes reads read (Ok (Tell s fuel))
       → AnswersWhole (with_files old seen) (tells (told_of s fuel)) ended new
       → MeaningGiven words size fuel feed read old ended new
@@ -38,10 +38,12 @@ module _ (words : List PartWord) (size fuel : ℕ) (feed : List ℕ) (read : Lis
       ended new = subst (λ t. AnswersWhole (with_files old seen) (tells t) ended new) at g in
       record {
         modules = s.modules;
+        before = c.before;
         mid = c.mid;
         came = c.came;
         keep = c.keep;
         text = c.text;
+        read_is = c.read_is;
         feed_came = rw p c.feed_came;
         items = s.feed;
         is_feed = c.is_feed;
@@ -54,14 +56,14 @@ module _ (words : List PartWord) (size fuel : ℕ) (feed : List ℕ) (read : Lis
       }
 
   given_due : (seen : FilesSeen) (due : Result Task Refusal) (a : Answer)
-      → Comes reads old.files due seen → Makes reads read due → IsAnswerOf due a
+      → ComesOf reads read old.files due seen → Makes reads read due → IsAnswerOf due a
       → AnswersWhole (with_files old seen) a ended new → IsRunStatus ended
       → MeaningGiven words size fuel feed read old ended new
   given_due seen (Err why) a c k x g r = absurd (refused_none why a ended x g.status_is r)
   given_due seen (Ok task) a c k x g r =
-      let m = made_of (subject_in words size feed) (λ s. Tell s fuel) old.files seen task c in
+      let m = made_of (subject_in words size feed) (λ s. Tell s fuel) read old.files seen task c in
       let e : a ≡ tells (told_of m.0 fuel) = subst (λ t. IsAnswerOf (Ok t) a) m.2 x in
-      given_told seen m.0 (subject_came words size feed old.files seen m.0 m.1)
+      given_told seen m.0 (subject_came words size feed read old.files seen m.0 m.1)
       (subst (λ t. Makes reads read (Ok t)) m.2 k)
       (subst (λ b. AnswersWhole (with_files old seen) b ended new) e g)
 
@@ -72,5 +74,5 @@ pub means : (asked : Option Command) (old : Outside) (ended : Status) (new : Out
 means asked old ended new a words size fuel feed e r =
     let w = whole_run (plan_in asked) old ended new a r in
     given_due words size fuel feed (read_in a) old ended new w.seen w.due w.gives
-    (subst (λ q. Comes (plan_in q) old.files w.due w.seen) e w.came)
+    (subst (λ q. ComesOf (plan_in q) (read_in a) old.files w.due w.seen) e w.came)
     (subst (λ q. Makes (plan_in q) (read_in a) w.due) e w.makes) w.is w.given r

@@ -39,7 +39,7 @@ use Rattle.lcm_cli.specs.Answers.{tells, puts, refused, IsAnswerOf, IsPut, whole
 use Rattle.lcm_cli.specs.Answers.{answer, nothing, read_in}
 use Rattle.lcm_cli.specs.Causes.{PutsFile, link_out, component_out, out_name, Stay, OthersStay, StayAt}
 use Rattle.lcm_cli.specs.Causes.{CameOf, PutsWhole}
-use Rattle.lcm_cli.specs.Bytes.{bytes_of}
+use Rattle.lcm_cli.specs.Bytes.{bytes_of, ComesOf}
 use Rattle.lcm_cli.proofs.Debugs.{debug_came}
 use Rattle.lcm_cli.proofs.Making.{came_of}
 use Rattle.lcm_cli.proofs.Tasks.{made_of}
@@ -59,34 +59,35 @@ component_puts : (deed : ComponentDeed) (c : ComponentFields) (name : List ℕ) 
 component_puts (component_deed.Put out) c name d e = let n : out ≡ name = cc in ap (λ m. Some m) n
 component_puts component_deed.Show c name d e = absurd (cc)
 
-put_of_command : (c : Command) (old seen : FilesSeen) (name : List ℕ) (d : Content)
-    → Comes (plan_of c) old (Ok (Put name d)) seen → out_name (Some c) ≡ Some name
-put_of_command (Links l deed) old seen name d h =
-    let m = made_of (linked_in l) (link_task deed) old seen (Put name d) h in link_puts deed m.0 name d m.2
-put_of_command (Takes word deed) old seen name d h =
-    let m = made_of (component_at 0 word) (component_task deed) old seen (Put name d) h in
+put_of_command : (c : Command) (read : List (List ℕ)) (old seen : FilesSeen) (name : List ℕ) (d : Content)
+    → ComesOf (plan_of c) read old (Ok (Put name d)) seen → out_name (Some c) ≡ Some name
+put_of_command (Links l deed) read old seen name d h =
+    let m = made_of (linked_in l) (link_task deed) read old seen (Put name d) h in
+    link_puts deed m.0 name d m.2
+put_of_command (Takes word deed) read old seen name d h =
+    let m = made_of (component_at 0 word) (component_task deed) read old seen (Put name d) h in
     component_puts deed m.0 name d m.2
-put_of_command (Checks word) old seen name d h =
-    absurd (let m = (made_of (part_at 0 word) _ old seen (Put name d) h).2 in cc)
-put_of_command (Mean words size fuel feed) old seen name d h =
-    absurd (let m = (made_of (subject_in words size feed) _ old seen (Put name d) h).2 in cc)
-put_of_command (asked.Debug l script) old seen name d h =
-    absurd (let m = (debug_came l script old (Put name d) seen h).task in cc)
-put_of_command (asked.Audit text) old seen name d h =
-    absurd (let m = (made_of (audit_at text) _ old seen (Put name d) h).2 in cc)
-put_of_command (asked.Erase word out) old seen name d h =
-    let m = made_of (module_at 0 word) (λ m. Put out (OfModule m)) old seen (Put name d) h in
+put_of_command (Checks word) read old seen name d h =
+    absurd (let m = (made_of (part_at 0 word) _ read old seen (Put name d) h).2 in cc)
+put_of_command (Mean words size fuel feed) read old seen name d h =
+    absurd (let m = (made_of (subject_in words size feed) _ read old seen (Put name d) h).2 in cc)
+put_of_command (asked.Debug l script) read old seen name d h =
+    absurd (let m = (debug_came l script read old (Put name d) seen h).task in cc)
+put_of_command (asked.Audit text) read old seen name d h =
+    absurd (let m = (made_of (audit_at text) _ read old seen (Put name d) h).2 in cc)
+put_of_command (asked.Erase word out) read old seen name d h =
+    let m = made_of (module_at 0 word) (λ m. Put out (OfModule m)) read old seen (Put name d) h in
     let n : out ≡ name = let e = m.2 in cc in ap (λ z. Some z) n
-put_of_command (Generate seed) old seen name d h =
-    absurd (let m = (made_of (load_image (load_of seed)) _ old seen (Put name d) h).2 in cc)
+put_of_command (Generate seed) read old seen name d h =
+    absurd (let m = (made_of (load_image (load_of seed)) _ read old seen (Put name d) h).2 in cc)
 
 no_ok : {A : Type 0} (x : A) (why : Refusal) → (let r : Result A Refusal = Ok x in r) ≡ Err why → ⊥
 no_ok x why e = cc
 
-put_in : (asked : Option Command) (old seen : FilesSeen) (name : List ℕ) (d : Content)
-    → Comes (plan_in asked) old (Ok (Put name d)) seen → out_name asked ≡ Some name
-put_in None old seen name d h = absurd (no_ok (Put name d) refusal.Usage h.0)
-put_in (Some c) old seen name d h = put_of_command c old seen name d h
+put_in : (asked : Option Command) (read : List (List ℕ)) (old seen : FilesSeen) (name : List ℕ) (d : Content)
+    → ComesOf (plan_in asked) read old (Ok (Put name d)) seen → out_name asked ≡ Some name
+put_in None read old seen name d h = absurd (no_ok (Put name d) refusal.Usage h.0.0)
+put_in (Some c) read old seen name d h = put_of_command c read old seen name d h
 
 -- ---- an answer with a file
 
@@ -131,7 +132,7 @@ put_of asked read due a f old seen c x e = elim (file_cases due a x)
             p.1,
             subst (λ m. CameOf asked read old (Ok (Put m p.1)) seen) (sym n) came,
             ap (λ (g : NewFile). g.bytes) k,
-            put_in asked old seen p.0 p.1 came.0 ∙ ap (λ m. Some m) (sym n),
+            put_in asked read old seen p.0 p.1 came.0 ∙ ap (λ m. Some m) (sym n),
             p.3,
           )
           )
@@ -162,13 +163,13 @@ put_stays : (asked : Option Command) (read : List (List ℕ)) (due : Result Task
     → Stay old new ⊎ ((out : List ℕ) × (out_name asked ≡ Some out) × KeepsOthers old new out
     × PutsFile asked read old new)
 put_stays asked read due a old seen new None c x e p =
-    inl (ap (λ (s : FilesSeen). s.contents) p ∙ comes_contents (plan_in asked) old seen due c.0)
+    inl (ap (λ (s : FilesSeen). s.contents) p ∙ comes_contents (plan_in asked) old seen due c.0.0)
 put_stays asked read due a old seen new (Some f) c x e p =
     let m = put_of asked read due a f old seen c x e in
     inr (
       f.name,
       m.3,
-      keeps_from old seen new f.name (comes_contents (plan_in asked) old seen due c.0) p.others,
+      keeps_from old seen new f.name (comes_contents (plan_in asked) old seen due c.0.0) p.others,
       (f.name, m.0, seen, m.1, m.4, subst (λ b. Puts seen new f.name b) m.2 p),
     )
 

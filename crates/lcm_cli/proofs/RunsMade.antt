@@ -38,10 +38,10 @@ use Rattle.file_plans.specs.declared.refusal.Refusal.TheVariants as refusal
 use Rattle.refusal_lines.specs.declared.status.Status.{Status}
 use Rattle.refusal_lines.specs.declared.status.Status.TheVariants as status
 use Rattle.refusal_lines.specs.Refusals.{refusal_text, refusal_status, image_status}
-use Rattle.file_plans.specs.Plans.{Plan, Comes}
+use Rattle.file_plans.specs.Plans.{Plan}
 use Rattle.lcm_cli.specs.Commands.{Lines, Task, link_task, plan_of, plan_in}
 use Rattle.link_tool.specs.Linked.{linked_in}
-use Rattle.lcm_cli.specs.Bytes.{Makes}
+use Rattle.lcm_cli.specs.Bytes.{ComesOf, Makes}
 use Rattle.lcm_cli.specs.Answers.{Answer, NewFile, Outside, with_files, end_status, writes, ran, ran_overlay}
 use Rattle.lcm_cli.specs.Answers.{refused, IsPut, IsAnswerOf, AnswersWhole, whole, unput, unwritten, Answers}
 use Rattle.lcm_cli.specs.Answers.{answer, nothing, read_in}
@@ -94,10 +94,11 @@ all_of calls secret confined headline =
     record { calls = calls; secret = secret; confined = confined; headline = headline }
 
 -- what came of the image, and the start of its parts
-abbrev pub started : StartLaws → (l : Linked) (old seen : FilesSeen) (i : ImageSeen) (start : StartSeen)
-    → Comes (linked_in l) old (Ok i) seen → IsStartOf i.parts i.stack start → Started l old seen
-started all l old seen i start c s =
-    let came = in_made l old seen i c in
+abbrev pub started : StartLaws → (l : Linked) (read : List (List ℕ)) (old seen : FilesSeen) (i : ImageSeen)
+    (start : StartSeen)
+    → ComesOf (linked_in l) read old (Ok i) seen → IsStartOf i.parts i.stack start → Started l read old seen
+started all l read old seen i start c s =
+    let came = in_made l read old seen i c in
     record {
       parts = i.parts;
       size = i.stack;
@@ -114,28 +115,28 @@ started all l old seen i start c s =
 -- what was due to a deed: a refusal, or what is done with the image that came
 pub data DeedDue (l : Linked) (deed : LinkDeed) (read : List (List ℕ)) (old seen : FilesSeen) (a : Answer)
     : Type 0 where
-  told : (why : Refusal) → Comes (linked_in l) old (Err why) seen
+  told : (why : Refusal) → ComesOf (linked_in l) read old (Err why) seen
       → Makes (plan_of (Links l deed)) read (Err why) → a ≡ refused why → DeedDue l deed read old seen a
-  made : (i : ImageSeen) → Comes (linked_in l) old (Ok i) seen
+  made : (i : ImageSeen) → ComesOf (linked_in l) read old (Ok i) seen
       → Makes (plan_of (Links l deed)) read (Ok (link_task deed i)) → IsAnswerOf (Ok (link_task deed i)) a
       → DeedDue l deed read old seen a
 
 due_of : (l : Linked) (deed : LinkDeed) (read : List (List ℕ)) (old seen : FilesSeen)
-    (due : Result Task Refusal) (a : Answer) → Comes (plan_of (Links l deed)) old due seen
+    (due : Result Task Refusal) (a : Answer) → ComesOf (plan_of (Links l deed)) read old due seen
     → Makes (plan_of (Links l deed)) read due → IsAnswerOf due a → DeedDue l deed read old seen a
 due_of l deed read old seen (Err why) a c t x =
-    told why (err_of (linked_in l) (link_task deed) old seen why c) t x
+    told why (err_of (linked_in l) (link_task deed) read old seen why c) t x
 due_of l deed read old seen (Ok task) a c t x =
-    let m = made_of (linked_in l) (link_task deed) old seen task c in
+    let m = made_of (linked_in l) (link_task deed) read old seen task c in
     made m.0 m.1 (subst (λ k. Makes (plan_of (Links l deed)) read (Ok k)) m.2 t)
     (subst (λ k. IsAnswerOf (Ok k) a) m.2 x)
 
 pub asked_due : (asked : Option Command) (l : Linked) (deed : LinkDeed) → asked ≡ Some (Links l deed)
     → (read : List (List ℕ)) (old seen : FilesSeen) (due : Result Task Refusal) (a : Answer)
-    → Comes (plan_in asked) old due seen → Makes (plan_in asked) read due → IsAnswerOf due a
+    → ComesOf (plan_in asked) read old due seen → Makes (plan_in asked) read due → IsAnswerOf due a
     → DeedDue l deed read old seen a
 asked_due asked l deed e read old seen due a c t x =
-    due_of l deed read old seen due a (subst (λ q. Comes (plan_in q) old due seen) e c)
+    due_of l deed read old seen due a (subst (λ q. ComesOf (plan_in q) read old due seen) e c)
     (subst (λ q. Makes (plan_in q) read due) e t) x
 
 -- ---- what was written whole
@@ -146,7 +147,7 @@ pub record WholeRun (plan : Plan Task) (read : List (List ℕ)) (old : Outside) 
   pub due : Result Task Refusal
   pub gives : Answer
   pub seen : FilesSeen
-  pub came : Comes plan old.files due seen
+  pub came : ComesOf plan read old.files due seen
   pub makes : Makes plan read due
   pub is : IsAnswerOf due gives
   pub given : AnswersWhole (with_files old seen) gives ended new
@@ -161,7 +162,7 @@ whole_run plan old ended new (answer due a seen c x (whole g)) r =
       due = due;
       gives = a;
       seen = seen;
-      came = c;
+      came = (c, refl);
       makes = makes_of plan old.files due seen c;
       is = x;
       given = g;
@@ -178,8 +179,8 @@ given_run all pass l steps read old seen ended new a small (made i c t x) g r =
     subst (λ b. AnswersWhole (with_files old seen) b ended new) x.2 g in
     let p : new.files ≡ seen = h.put in
     record {
-      from = started all l old.files new.files i x.0
-          (subst (λ z. Comes (linked_in l) old.files (Ok i) z) (sym p) c) x.1;
+      from = started all l read old.files new.files i x.0
+          (subst (λ z. ComesOf (linked_in l) read old.files (Ok i) z) (sym p) c) x.1;
       made = t;
       status_is = h.status_is;
       written = h.written;
@@ -220,8 +221,8 @@ given_trace all one l steps read old seen ended new a (made i c t x) g r =
     let h : AnswersWhole (with_files old seen) (ran_overlay x.1 steps) ended new =
     subst (λ b. AnswersWhole (with_files old seen) b ended new) x.4 g in
     let p : new.files ≡ seen = h.put in
-    let f = started all l old.files new.files i x.0
-    (subst (λ z. Comes (linked_in l) old.files (Ok i) z) (sym p) c) x.2 in
+    let f = started all l read old.files new.files i x.0
+    (subst (λ z. ComesOf (linked_in l) read old.files (Ok i) z) (sym p) c) x.2 in
     record {
       from = f;
       made = t;
@@ -288,7 +289,7 @@ pub record Cut (plan : Plan Task) (read : List (List ℕ)) (old new : Outside) :
   pub due : Result Task Refusal
   pub gives : Answer
   pub seen : FilesSeen
-  pub came : Comes plan old.files due seen
+  pub came : ComesOf plan read old.files due seen
   pub makes : Makes plan read due
   pub is : IsAnswerOf due gives
   pub fails : gives.file ≡ None → gives.status ≢ status.WriteFault
@@ -302,7 +303,7 @@ cut_of plan old ended new (answer due a seen c x (whole g)) e = record {
   due = due;
   gives = a;
   seen = seen;
-  came = c;
+  came = (c, refl);
   makes = makes_of plan old.files due seen c;
   is = x;
   fails = λ n w. absurd (w (sym g.status_is ∙ e));
@@ -311,7 +312,7 @@ cut_of plan old ended new (answer due a seen c x (unput f i w u k s)) e = record
   due = due;
   gives = a;
   seen = seen;
-  came = c;
+  came = (c, refl);
   makes = makes_of plan old.files due seen c;
   is = x;
   fails = λ n w. absurd (let q : (let o : Option NewFile = None in o) ≡ Some f = sym n ∙ i in cc);
@@ -320,7 +321,7 @@ cut_of plan old ended new (answer due a seen c x (unwritten p f k s)) e = record
   due = due;
   gives = a;
   seen = seen;
-  came = c;
+  came = (c, refl);
   makes = makes_of plan old.files due seen c;
   is = x;
   fails = λ n w. (subst (λ o. IsPut seen o new.files) n p, f);
@@ -361,8 +362,8 @@ given_reach all bounds influences l read old seen ended new a (made i c t x) g r
     subst (λ b. AnswersWhole (with_files old seen) b ended new) x.4 g in
     let p : new.files ≡ seen = h.put in
     record {
-      from = started all l old.files new.files i x.0
-          (subst (λ z. Comes (linked_in l) old.files (Ok i) z) (sym p) c) x.2;
+      from = started all l read old.files new.files i x.0
+          (subst (λ z. ComesOf (linked_in l) read old.files (Ok i) z) (sym p) c) x.2;
       made = t;
       text = x.1;
       text_is = x.3;
@@ -384,13 +385,13 @@ reaches all bounds influences asked old ended new a l e r =
 
 refused_cut : {plan : Plan Task} {read : List (List ℕ)} {old new : Outside} (l : Linked) (deed : LinkDeed)
     (k : Cut plan read old new) (why : Refusal)
-    → Comes (linked_in l) old.files (Err why) k.seen → Makes (plan_of (Links l deed)) read (Err why)
+    → ComesOf (linked_in l) read old.files (Err why) k.seen → Makes (plan_of (Links l deed)) read (Err why)
     → k.gives ≡ refused why
-    → (w : Refusal) × Comes (linked_in l) old.files (Err w) new.files
+    → (w : Refusal) × ComesOf (linked_in l) read old.files (Err w) new.files
     × Makes (plan_of (Links l deed)) read (Err w) × FailsToWrite old.sink (refusal_text w) new.sink
-refused_cut {old = old} {new = new} l deed k why c t e =
+refused_cut {read = read} {old = old} {new = new} l deed k why c t e =
     let f = cut_by k (refused why) e refl (λ q. no_cut why (sym q)) in
-    (why, subst (λ z. Comes (linked_in l) old.files (Err why) z) (sym f.0) c, t, f.1)
+    (why, subst (λ z. ComesOf (linked_in l) read old.files (Err why) z) (sym f.0) c, t, f.1)
 
 cut_run : StartLaws → (l : Linked) (steps : ℕ) (plan : Plan Task) (read : List (List ℕ)) (old new : Outside)
     (k : Cut plan read old new)
@@ -401,8 +402,8 @@ cut_run all l steps plan read old new k (made i c t x) =
     let f = cut_by k (ran x.0 steps Lines) x.2 refl
     (never_cut _ (run_never (last_step (plain steps x.0.state)))) in
     inr (
-      started all l old.files new.files i x.0
-          (subst (λ z. Comes (linked_in l) old.files (Ok i) z) (sym f.0) c) x.1,
+      started all l read old.files new.files i x.0
+          (subst (λ z. ComesOf (linked_in l) read old.files (Ok i) z) (sym f.0) c) x.1,
       t,
       text_of_run x.0 steps,
       refl,
@@ -417,8 +418,8 @@ cut_trace all l steps plan read old new k (told why c t e) =
 cut_trace all l steps plan read old new k (made i c t x) =
     let f = cut_by k (ran_overlay x.1 steps) x.4 refl (never_cut _ (writes_none steps x.1)) in
     inr (
-      started all l old.files new.files i x.0
-          (subst (λ z. Comes (linked_in l) old.files (Ok i) z) (sym f.0) c) x.2,
+      started all l read old.files new.files i x.0
+          (subst (λ z. ComesOf (linked_in l) read old.files (Ok i) z) (sym f.0) c) x.2,
       t,
       trace_text steps x.1,
       (x.1, x.3, refl),

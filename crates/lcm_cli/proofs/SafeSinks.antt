@@ -11,7 +11,7 @@ use Rattle.command_words.specs.declared.command.Command.{Command}
 use Rattle.command_words.specs.declared.command.Command.TheVariants.{Links}
 use Rattle.lcm_machine.specs.Run.{answer as last_step, plain}
 use Rattle.refusal_lines.specs.declared.status.Status.TheVariants as status
-use Rattle.file_plans.specs.Plans.{Comes}
+use Rattle.lcm_cli.specs.Bytes.{ComesOf}
 use Rattle.lcm_cli.specs.Commands.{plan_in}
 use Rattle.lcm_cli.specs.Answers.{Answer, outside, read_in}
 use Rattle.lcm_cli.specs.SafeRuns.{SafeSinksHoldRuns}
@@ -50,7 +50,7 @@ safe_sinks_hold room first last e l steps files seen kept left answers =
     let f = k.fails p.0 p.1 in
     record {
       due = k.due;
-      came = subst (λ z. Comes (plan_in asked) files k.due z) (sym f.0) k.came;
+      came = subst (λ z. ComesOf (plan_in asked) (read_in answers) files k.due z) (sym f.0) k.came;
       makes = k.makes;
       gives = k.gives;
       is = k.is;

@@ -24,13 +24,14 @@ use Rattle.lcm_cli.specs.SourceRuns.{TellsOfRun, MeanTellsRuns}
 same_items : (xs ys : List Item) → (let r : Result (List Item) FeedFault = Ok xs in r) ≡ Ok ys → xs ≡ ys
 same_items xs ys e = cc
 
-tells_of : (modules : List ModuleFields) (l : Linked) (steps : ℕ) (old new : FilesSeen)
-    (from : Started l old new) (fuel : ℕ) (before : Outside) (ended : Status) (after : Outside) (told : Told)
+tells_of : (modules : List ModuleFields) (l : Linked) (steps : ℕ) (read : List (List ℕ))
+    (old new : FilesSeen) (from : Started l read old new) (fuel : ℕ) (before : Outside) (ended : Status)
+    (after : Outside) (told : Told)
     → told ≡ meaning (map part_of modules) from.size (came_in from.start steps) fuel
     → ended ≡ meaning_status told.end
     → Adds before.sink (told_text told) after.sink
-    → TellsOfRun modules l steps old new from fuel before ended after
-tells_of modules l steps old new from fuel before ended after told is status_is adds =
+    → TellsOfRun modules l steps read old new from fuel before ended after
+tells_of modules l steps read old new from fuel before ended after told is status_is adds =
     record {
       told = told;
       told_is = is;
@@ -46,19 +47,20 @@ tells_of modules l steps old new from fuel before ended after told is status_is 
     }
 
 pub mean_tells : MeanTellsRuns
-mean_tells m ms l steps old new from so sources stack fuel feed took before ended after mean size same text =
+mean_tells m ms l steps read old new from so sources stack fuel feed took before ended after mean size same
+    text =
     let start = from.start in
     let base : stack_base_of mean.modules ≡ (layout start).stack.base =
     ap stack_base_of same ∙ so.feed.base m ms refl in
-    let read : fed (layout start).stack.base (text_of_run start steps) ≡ Ok mean.items =
+    let fed_so : fed (layout start).stack.base (text_of_run start steps) ≡ Ok mean.items =
     subst (λ b. fed b (text_of_run start steps) ≡ Ok mean.items) base
     (subst (λ t. fed (stack_base_of mean.modules) t ≡ Ok mean.items) text mean.is_feed) in
     let items : mean.items ≡ came_in start steps =
-    same_items mean.items (came_in start steps) (sym read ∙ so.feed.read) in
+    same_items mean.items (came_in start steps) (sym fed_so ∙ so.feed.read) in
     let told : meaning (map part_of mean.modules) stack mean.items fuel
     ≡ meaning (map part_of (m ∷ ms)) from.size (came_in start steps) fuel =
     ap (λ ms. meaning (map part_of ms) stack mean.items fuel) same
     ∙ (ap (λ n. meaning (map part_of (m ∷ ms)) n mean.items fuel) size
     ∙ ap (λ xs. meaning (map part_of (m ∷ ms)) from.size xs fuel) items) in
-    tells_of (m ∷ ms) l steps old new from fuel before ended after
+    tells_of (m ∷ ms) l steps read old new from fuel before ended after
     (meaning (map part_of mean.modules) stack mean.items fuel) told mean.status_is mean.written

@@ -1,5 +1,6 @@
 -- The modules of words of which every trusted one is a source.
-use Rattle.std.proofs.Common.{◌≡◌, ℕ, ◌+◌, List, [], ◌∷◌, refl, sym, ap, subst, ◌∙◌, inl, inr, true, false}
+use Rattle.std.proofs.Common.{◌≡◌, ℕ, ◌+◌, List, [], ◌∷◌, ◌++◌, refl, sym, ap, subst, ◌∙◌, inl, inr, true}
+use Rattle.std.proofs.Common.{false}
 use Rattle.std.specs.Prelude.{Bool, Result, Ok, Err, map, if◌then◌else◌}
 use Rattle.std.specs.Result.{result_and}
 use Rattle.outside_io.specs.FilesSeen.{FilesSeen}
@@ -28,11 +29,13 @@ use Rattle.source_starts.specs.Sources.{trusted_parts, AreSources}
 use Rattle.file_plans.specs.declared.TheConstants.{LONGEST_FILE}
 use Rattle.file_plans.specs.declared.refusal.Refusal.{Refusal}
 use Rattle.file_plans.specs.declared.refusal.Refusal.TheVariants as refusal
-use Rattle.file_plans.specs.Plans.{Plan, Made, each_at, whole, too_long, unread, Comes}
+use Rattle.file_plans.specs.Plans.{Plan, Made, each_at, Comes}
 use Rattle.command_words.specs.Part.{is_trusted_mark}
 use Rattle.link_tool.specs.Parts.{broken_in, form_by, HasForm, component_at, part_at, IsPartOf}
 use Rattle.lcm_cli.specs.SourceRuns.{AllSources, SourcesCame}
-use Rattle.lcm_cli.proofs.Ends.{comes_split}
+use Rattle.lcm_cli.specs.Bytes.{ComesOf}
+use Rattle.lcm_cli.proofs.Came.{split_of, IsSettled, settled_unless, came_first, read_made}
+use Rattle.lcm_cli.proofs.Ends.{part_by, settled_part}
 use Rattle.lcm_cli.proofs.Modules.{unless_came}
 
 -- ---- one part
@@ -50,9 +53,11 @@ accepted_is q p e =
     both_ok (check_from (broken_at C) 1 (rules_of q))
     (if q.trusted then flow_answer q.component else Ok tt) q p e
 
--- its file came whole, and its bytes are the word's part
-pub record PartCame (w : PartWord) (old : FilesSeen) (p : PartSeen) (new : FilesSeen) : Type 0 where
+-- its file came whole, it alone, and its bytes are the word's part
+pub record PartCame (w : PartWord) (read : List (List ℕ)) (old : FilesSeen) (p : PartSeen) (new : FilesSeen)
+    : Type 0 where
   pub text : List ℕ
+  pub read_is : read ≡ text ∷ []
   pub came : GivesWhole old w.name LONGEST_FILE text new
   pub is : IsPartOf w text p
 
@@ -64,6 +69,11 @@ formed (Source d) index text c old new h = unless_came (refusal.Source index) (s
 formed Assembler index text c old new h = unless_came (refusal.Assembly index) (assembled text) c old new h
 formed Component index text c old new h = unless_came (refusal.File index) (decoded text) c old new h
 
+settled_form : (ending : Ending) (index : ℕ) (text : List ℕ) → IsSettled (form_by ending index text)
+settled_form (Source d) index text = settled_unless (refusal.Source index) (sourced d text)
+settled_form Assembler index text = settled_unless (refusal.Assembly index) (assembled text)
+settled_form Component index text = settled_unless (refusal.File index) (decoded text)
+
 -- where it is a source, it is compiled from them
 compiled_by : (ending : Ending) (text : List ℕ) (c : ComponentFields) → HasForm ending text c
     → is_source ending ≡ true → sourced (language_of ending) text ≡ Ok c
@@ -72,35 +82,39 @@ compiled_by Assembler text c h s = absurd (cc)
 compiled_by Component text c h s = absurd (cc)
 
 -- a component's file
-record FileCame (w : PartWord) (old : FilesSeen) (c : ComponentFields) (new : FilesSeen) : Type 0 where
+record FileCame (w : PartWord) (read : List (List ℕ)) (old : FilesSeen) (c : ComponentFields)
+    (new : FilesSeen) : Type 0 where
   pub text : List ℕ
+  pub read_is : read ≡ text ∷ []
   pub came : GivesWhole old w.name LONGEST_FILE text new
   pub form : HasForm w.ending text c
 
-file_came : (index : ℕ) (w : PartWord) (c : ComponentFields) (old new : FilesSeen)
-    → Comes (component_at index w) old (Ok c) new → FileCame w old c new
+file_came : (index : ℕ) (w : PartWord) (c : ComponentFields) (read : List (List ℕ)) (old new : FilesSeen)
+    → ComesOf (component_at index w) read old (Ok c) new → FileCame w read old c new
 unfolding component_at
-file_came index w c old new (whole text mid g h) =
-    let f = formed w.ending index text c mid new h in
-    let q = f.1 in
-    record { text = text; came = rw q g; form = f.0 }
-file_came index w c old new (too_long t e) = absurd (cc)
-file_came index w c old new (unread t e) = absurd (cc)
+file_came index w c read old new h =
+    let s = read_made w.name index (form_by w.ending index) (settled_form w.ending index) read old new c h in
+    record {
+      text = s.0;
+      read_is = s.1;
+      came = s.2;
+      form = (formed w.ending index s.0 c new new s.3).0;
+    }
 
-pub part_came : (index : ℕ) (w : PartWord) (p : PartSeen) (old new : FilesSeen)
-    → Comes (part_at index w) old (Ok p) new → PartCame w old p new
+pub part_came : (index : ℕ) (w : PartWord) (p : PartSeen) (read : List (List ℕ)) (old new : FilesSeen)
+    → ComesOf (part_at index w) read old (Ok p) new → PartCame w read old p new
 unfolding part_at
-part_came index w p old new h =
-    elim (comes_split (component_at index w) _ old new (Ok p) h) as (λ _. PartCame w old p new) [
+part_came index w p read old new h =
+    elim (came_first (component_at index w) (part_by index w) (settled_part index w) read old new (Ok p) h)
+    as (λ _. PartCame w read old p new) [
       | inl s ↦ (
           let a : PartSeen = record { component = s.0; trusted = is_trusted_mark w.mark } in
-          let e = unless_came (broken_in index) (accepted a) p s.1 new s.3 in
-          let q = e.1 in
+          let e = unless_came (broken_in index) (accepted a) p new new s.2 in
           let same : a ≡ p = accepted_is a p e.0 in
-          let c : Comes (component_at index w) old (Ok s.0) new = rw q s.2 in
-          let f = file_came index w s.0 old new c in
+          let f = file_came index w s.0 read old new s.1 in
           record {
             text = f.text;
+            read_is = f.read_is;
             came = f.came;
             is = (
               subst (λ (z : PartSeen). HasForm w.ending f.text z.component) same f.form,
@@ -123,10 +137,10 @@ pub record SourceLaws : Type 0 where
       → (m : ModuleFields) × (module_in d text ≡ Ok m) × (c ≡ compiled m)
 
 -- the modules of words, and that the trusted parts are their components
-pub record Gathered (words : List PartWord) (old : FilesSeen) (parts : List PartSeen) (new : FilesSeen) : Type
-    0 where
+pub record Gathered (words : List PartWord) (read : List (List ℕ)) (old : FilesSeen) (parts : List PartSeen)
+    (new : FilesSeen) : Type 0 where
   pub modules : List ModuleFields
-  pub came : SourcesCame words old parts modules new
+  pub came : SourcesCame words read old parts modules new
   pub are : AreSources modules parts
 
 abbrev component_in : PartSeen → ComponentFields
@@ -151,55 +165,57 @@ module _ (laws : SourceLaws) where
       record { limits = a.limits; resolved = a.resolved; compiled = rw t a.compiled }
 
   with_part : (w : PartWord) (words : List PartWord) (p : PartSeen) (ps : List PartSeen)
-      (old mid new : FilesSeen) (b : Bool) → is_trusted_mark w.mark ≡ b
-      → (is_trusted_mark w.mark ≡ true → is_source w.ending ≡ true) → PartCame w old p mid
-      → Gathered words mid ps new
-      → Gathered (w ∷ words) old (p ∷ ps) new
-  with_part w words p ps old mid new true e s c g =
+      (front back : List (List ℕ)) (old mid new : FilesSeen) (b : Bool) → is_trusted_mark w.mark ≡ b
+      → (is_trusted_mark w.mark ≡ true → is_source w.ending ≡ true) → (c : PartCame w front old p mid)
+      → Gathered words back mid ps new → Gathered (w ∷ words) (c.text ∷ back) old (p ∷ ps) new
+  with_part w words p ps front back old mid new true e s c g =
       let d = language_of w.ending in
       let k = laws.compiled_from d c.text p.component
       (compiled_by w.ending c.text p.component c.is.0 (s e)) in
       record {
         modules = k.0 ∷ g.modules;
-        came = (c.text, mid, c.came, c.is, rw e (k.1, g.came));
+        came = (mid, c.came, c.is, rw e (k.1, g.came));
         are = with_source p k.0 ps g.modules (c.is.1 ∙ e) k.2 (laws.limits d c.text k.0 k.1)
             (laws.resolved d c.text k.0 k.1) g.are;
       }
-  with_part w words p ps old mid new false e s c g = record {
+  with_part w words p ps front back old mid new false e s c g = record {
     modules = g.modules;
-    came = (c.text, mid, c.came, c.is, rw e g.came);
+    came = (mid, c.came, c.is, rw e g.came);
     are = with_other p ps g.modules (c.is.1 ∙ e) g.are;
   }
 
-  none_gathered : (old new : FilesSeen) (parts : List PartSeen)
-      → Comes (let q : Plan (List PartSeen) = Made [] in q) old (Ok parts) new → Gathered [] old parts new
-  none_gathered old new [] h = record {
+  none_gathered : (read : List (List ℕ)) (old new : FilesSeen) (parts : List PartSeen)
+      → ComesOf (let q : Plan (List PartSeen) = Made [] in q) read old (Ok parts) new
+      → Gathered [] read old parts new
+  none_gathered read old new [] h = record {
     modules = [];
-    came = (refl, refl, h.1);
+    came = (sym h.1, refl, refl, h.0.1);
     are = record { limits = tt; resolved = tt; compiled = refl };
   }
-  none_gathered old new (p ∷ ps) h = absurd (let e = h.0 in cc)
+  none_gathered read old new (p ∷ ps) h = absurd (let e = h.0.0 in cc)
 
   same_parts : (xs ys : List PartSeen) → (let r : Result (List PartSeen) Refusal = Ok xs in r) ≡ Ok ys
       → ys ≡ xs
   same_parts xs ys e = cc
 
-  pub gathered : (words : List PartWord) (index : ℕ) (old new : FilesSeen) (parts : List PartSeen)
-      → AllSources words → Comes (each_at part_at index words) old (Ok parts) new
-      → Gathered words old parts new
-  gathered [] index old new parts s h = none_gathered old new parts h
-  gathered (w ∷ words) index old new parts s h =
-      elim (comes_split (part_at index w) _ old new (Ok parts) h)
-      as (λ _. Gathered (w ∷ words) old parts new) [
-        | inl a ↦ elim (comes_split (each_at part_at (index + 1) words) _ a.1 new (Ok parts) a.3)
-            as (λ _. Gathered (w ∷ words) old parts new) [
+  pub gathered : (words : List PartWord) (index : ℕ) (read : List (List ℕ)) (old new : FilesSeen)
+      (parts : List PartSeen) → AllSources words
+      → ComesOf (each_at part_at index words) read old (Ok parts) new → Gathered words read old parts new
+  gathered [] index read old new parts s h = none_gathered read old new parts h
+  gathered (w ∷ words) index read old new parts s h =
+      elim (split_of (part_at index w) _ read old new (Ok parts) h)
+      as (λ _. Gathered (w ∷ words) read old parts new) [
+        | inl a ↦ elim (came_first (each_at part_at (index + 1) words) (λ others. Made (a.0 ∷ others))
+            (λ others. inl (a.0 ∷ others, refl)) a.3 a.1 new (Ok parts) a.5)
+            as (λ _. Gathered (w ∷ words) read old parts new) [
               | inl b ↦ (
-                  let q = b.3.1 in
-                  let c : Comes (each_at part_at (index + 1) words) a.1 (Ok b.0) new = rw q b.2 in
-                  subst (λ ps. Gathered (w ∷ words) old ps new) (same_parts parts (a.0 ∷ b.0) b.3.0)
-                  (with_part w words a.0 b.0 old a.1 new (is_trusted_mark w.mark) refl s.0
-                  (part_came index w a.0 old a.1 a.2)
-                  (gathered words (index + 1) a.1 new b.0 s.1 c))
+                  let c = part_came index w a.0 a.2 old a.1 a.4 in
+                  let all : c.text ∷ a.3 ≡ read = sym (a.6 ∙ ap (λ f. f ++ a.3) c.read_is) in
+                  subst (λ r. Gathered (w ∷ words) r old parts new) all
+                  (subst (λ ps. Gathered (w ∷ words) (c.text ∷ a.3) old ps new)
+                  (same_parts parts (a.0 ∷ b.0) b.2.0)
+                  (with_part w words a.0 b.0 a.2 a.3 old a.1 new (is_trusted_mark w.mark) refl s.0 c
+                  (gathered words (index + 1) a.3 a.1 new b.0 s.1 b.1)))
                   )
               | inr b ↦ absurd (let e = b.2 in cc)
             ]

@@ -27,6 +27,7 @@ use Rattle.refusal_lines.specs.declared.status.Status.{Status}
 use Rattle.lcm_cli.specs.Commands.{plan_in}
 use Rattle.lcm_cli.specs.Answers.{Outside, Answers, read_in}
 use Rattle.lcm_cli.specs.Causes.{Started, RunGiven}
+use Rattle.lcm_cli.specs.SourceRuns.{StartFact}
 use Rattle.lcm_cli.specs.SourceRuns.{AllSources, IsFeed, ModulesMean, SourcesAre, CutOf, RunTold, ModulesTold}
 use Rattle.lcm_cli.specs.SourceRuns.{SourcesTold}
 use Rattle.lcm_cli.proofs.RunsMade.{StartLaws, runs, run_cut}
@@ -57,9 +58,9 @@ pub record RunLaws : Type 0 where
   pub keep : LinkedModulesKeepRules
 
 -- what the modules of a start mean, whatever its parts came in
-modules_mean : RunLaws → (l : Linked) (steps : ℕ) (old new : FilesSeen) (from : Started l old new)
-    → ModulesMean l steps old new from
-modules_mean laws l steps old new from modules are = record {
+modules_mean : RunLaws → (l : Linked) (steps : ℕ) (read : List (List ℕ)) (old new : FilesSeen)
+    (from : Started l read old new) → ModulesMean l steps read old new from
+modules_mean laws l steps read old new from modules are = record {
   means = laws.mean modules from.parts from.size from.start from.linked_start are steps;
   shows = laws.show modules from.parts from.size from.start from.linked_start are;
   feed = feed_of laws.begin laws.tells laws.keep modules from.parts from.size from.start steps
@@ -68,30 +69,29 @@ modules_mean laws l steps old new from modules are = record {
 
 -- of words that are sources these are the modules of their texts
 sources_are : RunLaws → (words : List PartWord) (stack steps : ℕ) → AllSources words
-    → (old new : FilesSeen) (from : Started (what.Parts words stack) old new)
-    → SourcesAre words stack steps old new from
-sources_are laws words stack steps sources old new from =
-    let g = gathered laws.sources words 0 old new from.parts sources from.came.0 in
+    → (read : List (List ℕ)) (old new : FilesSeen) (from : Started (what.Parts words stack) read old new)
+    → SourcesAre words stack steps read old new from
+sources_are laws words stack steps sources read old new from =
+    let g = gathered laws.sources words 0 read old new from.parts sources from.came.0 in
     record {
       modules = g.modules;
       came = g.came;
       sources = g.are;
-      mean = modules_mean laws (what.Parts words stack) steps old new from g.modules g.are;
+      mean = modules_mean laws (what.Parts words stack) steps read old new from g.modules g.are;
     }
 
 -- what holds of every start is so of the one of a run, also where its text couldn't be written whole
 run_told : RunLaws → (asked : Option Command) → ((c : Command) → asked ≡ Some c → Fits c)
     → (old : Outside) (ended : Status) (new : Outside)
     (a : Answers (plan_in asked) old ended new) (l : Linked) (steps : ℕ)
-    (P : (old new : FilesSeen) → Started l old new → Type 0)
-    → asked ≡ Some (Links l (link_deed.Run steps))
-    → ((old new : FilesSeen) (from : Started l old new) → P old new from)
+    (P : StartFact l) → asked ≡ Some (Links l (link_deed.Run steps))
+    → ((read : List (List ℕ)) (old new : FilesSeen) (from : Started l read old new) → P read old new from)
     → RunTold l P steps (read_in a) old ended new
 run_told laws asked fits old ended new a l steps P e so = (
   (λ r.
       let given : RunGiven l steps (read_in a) old ended new =
       runs laws.starts laws.pass asked fits old ended new a l steps e r in
-      (given, so old.files new.files given.from)),
+      (given, so (read_in a) old.files new.files given.from)),
   (λ w.
       elim (run_cut laws.starts asked old ended new a l steps e w)
       as (λ _. CutOf l P steps (read_in a) old new) [
@@ -99,7 +99,7 @@ run_told laws asked fits old ended new a l steps P e so = (
         | inr c ↦ inr (
           c.0,
           c.1,
-          so old.files new.files c.0,
+          so (read_in a) old.files new.files c.0,
           subst (λ t. FailsToWrite old.sink t new.sink) c.3 c.4,
         )
       ]),

@@ -17,6 +17,7 @@ use Rattle.image_loader.specs.declared.fault.ImageFault.{ImageFault}
 use Rattle.file_plans.specs.declared.refusal.Refusal.{Refusal}
 use Rattle.file_plans.specs.declared.refusal.Refusal.TheVariants as refusal
 use Rattle.file_plans.specs.Plans.{Plan, Made, Comes}
+use Rattle.lcm_cli.specs.Bytes.{ComesOf}
 use Rattle.link_tool.specs.Parts.{component_at, part_at}
 use Rattle.meaning_tool.specs.Subjects.{module_at, subject_in}
 use Rattle.lcm_cli.specs.Commands.{Task, for_task, link_task, component_task, plan_of, plan_in, debug_plan}
@@ -38,206 +39,221 @@ use Rattle.lcm_cli.proofs.Tasks.{err_of}
 
 -- ---- why a plan of the words ends
 
-abbrev pub WhyIs : {A : Type 0} → Option Command → Plan A → FilesSeen → Refusal → FilesSeen → Type 0
-WhyIs asked plan old refusal.Usage new = asked ≡ None
-WhyIs asked plan old refusal.ReadFault new = IsUnread plan old new
-WhyIs asked plan old (refusal.TooLong index) new = IsLong plan old index new
-WhyIs asked plan old (refusal.Assembly index f) new = IsUnassembled asked plan old index f new
-WhyIs asked plan old (refusal.Source index f) new =
-    IsUncompiled asked plan old index f new ⊎ IsUnmade asked (refusal.Source index f)
-WhyIs asked plan old (refusal.File index f) new = IsUndecoded asked plan old index f new
-WhyIs asked plan old (refusal.Rule r) new = Breaks asked old r new
-WhyIs asked plan old (refusal.Image f) new = IsUnloaded asked old f new
-WhyIs asked plan old (refusal.Feed line) new = IsUnfed asked old line new
-WhyIs asked plan old (refusal.Script line) new = IsUnscripted asked plan old line new
-WhyIs asked plan old (refusal.Audit f) new = IsUnaudited asked plan old f new
+abbrev pub WhyIs : {A : Type 0} → Option Command → Plan A → List (List ℕ) → FilesSeen → Refusal → FilesSeen
+    → Type 0
+WhyIs asked plan read old refusal.Usage new = asked ≡ None
+WhyIs asked plan read old refusal.ReadFault new = IsUnread plan read old new
+WhyIs asked plan read old (refusal.TooLong index) new = IsLong plan read old index new
+WhyIs asked plan read old (refusal.Assembly index f) new = IsUnassembled asked plan read old index f new
+WhyIs asked plan read old (refusal.Source index f) new =
+    IsUncompiled asked plan read old index f new ⊎ IsUnmade asked (refusal.Source index f)
+WhyIs asked plan read old (refusal.File index f) new = IsUndecoded asked plan read old index f new
+WhyIs asked plan read old (refusal.Rule r) new = Breaks asked read old r new
+WhyIs asked plan read old (refusal.Image f) new = IsUnloaded asked read old f new
+WhyIs asked plan read old (refusal.Feed line) new = IsUnfed asked read old line new
+WhyIs asked plan read old (refusal.Script line) new = IsUnscripted asked plan read old line new
+WhyIs asked plan read old (refusal.Audit f) new = IsUnaudited asked plan read old f new
 
 -- what a plan says of its ends, where it is part of what the words ask for
-record Explains {A : Type 0} (asked : Option Command) (plan : Plan A) (old new : FilesSeen) : Type 0 where
+record Explains {A : Type 0} (asked : Option Command) (plan : Plan A) (read : List (List ℕ))
+    (old new : FilesSeen) : Type 0 where
   reasoned : Reasoned asked plan
   no_usage : Never plan refusal.Usage
-  breaks : (r : RuleAt) → Comes plan old (Err (refusal.Rule r)) new → Breaks asked old r new
-  unloaded : (f : ImageFault) → Comes plan old (Err (refusal.Image f)) new → IsUnloaded asked old f new
-  unfed : (line : ℕ) → Comes plan old (Err (refusal.Feed line)) new → IsUnfed asked old line new
+  breaks : (r : RuleAt) → ComesOf plan read old (Err (refusal.Rule r)) new → Breaks asked read old r new
+  unloaded : (f : ImageFault) → ComesOf plan read old (Err (refusal.Image f)) new
+      → IsUnloaded asked read old f new
+  unfed : (line : ℕ) → ComesOf plan read old (Err (refusal.Feed line)) new → IsUnfed asked read old line new
 
-why_from : {A : Type 0} (asked : Option Command) (plan : Plan A) (old new : FilesSeen) (why : Refusal)
-    → Explains asked plan old new → Comes plan old (Err why) new → WhyIs asked plan old why new
-why_from asked plan old new refusal.Usage t h = absurd (t.no_usage old new h)
-why_from asked plan old new refusal.ReadFault t h = t.reasoned.gives old new refusal.ReadFault h
-why_from asked plan old new (refusal.TooLong index) t h = t.reasoned.gives old new (refusal.TooLong index) h
-why_from asked plan old new (refusal.Assembly index f) t h =
-    t.reasoned.gives old new (refusal.Assembly index f) h
-why_from asked plan old new (refusal.Source index f) t h =
-    inl (t.reasoned.gives old new (refusal.Source index f) h)
-why_from asked plan old new (refusal.File index f) t h = t.reasoned.gives old new (refusal.File index f) h
-why_from asked plan old new (refusal.Rule r) t h = t.breaks r h
-why_from asked plan old new (refusal.Image f) t h = t.unloaded f h
-why_from asked plan old new (refusal.Feed line) t h = t.unfed line h
-why_from asked plan old new (refusal.Script line) t h = t.reasoned.gives old new (refusal.Script line) h
-why_from asked plan old new (refusal.Audit f) t h = t.reasoned.gives old new (refusal.Audit f) h
+why_from : {A : Type 0} (asked : Option Command) (plan : Plan A) (read : List (List ℕ)) (old new : FilesSeen)
+    (why : Refusal) → Explains asked plan read old new → ComesOf plan read old (Err why) new
+    → WhyIs asked plan read old why new
+why_from asked plan read old new refusal.Usage t h = absurd (t.no_usage old new h.0)
+why_from asked plan read old new refusal.ReadFault t h = t.reasoned.gives read old new refusal.ReadFault h
+why_from asked plan read old new (refusal.TooLong index) t h =
+    t.reasoned.gives read old new (refusal.TooLong index) h
+why_from asked plan read old new (refusal.Assembly index f) t h =
+    t.reasoned.gives read old new (refusal.Assembly index f) h
+why_from asked plan read old new (refusal.Source index f) t h =
+    inl (t.reasoned.gives read old new (refusal.Source index f) h)
+why_from asked plan read old new (refusal.File index f) t h =
+    t.reasoned.gives read old new (refusal.File index f) h
+why_from asked plan read old new (refusal.Rule r) t h = t.breaks r h
+why_from asked plan read old new (refusal.Image f) t h = t.unloaded f h
+why_from asked plan read old new (refusal.Feed line) t h = t.unfed line h
+why_from asked plan read old new (refusal.Script line) t h =
+    t.reasoned.gives read old new (refusal.Script line) h
+why_from asked plan read old new (refusal.Audit f) t h = t.reasoned.gives read old new (refusal.Audit f) h
 
 -- what is read says why a task doesn't come
-why_first : {A : Type 0} (asked : Option Command) (p : Plan A) (f : A → Task) (old new : FilesSeen)
-    (why : Refusal) → WhyIs asked p old why new → WhyIs asked (for_task p f) old why new
-why_first asked p f old new refusal.Usage h = h
-why_first asked p f old new refusal.ReadFault h =
-    reason_first asked p (λ x. Made (f x)) old new refusal.ReadFault h
-why_first asked p f old new (refusal.TooLong index) h =
-    reason_first asked p (λ x. Made (f x)) old new (refusal.TooLong index) h
-why_first asked p f old new (refusal.Assembly index y) h =
-    reason_first asked p (λ x. Made (f x)) old new (refusal.Assembly index y) h
-why_first asked p f old new (refusal.Source index y) (inl h) =
-    inl (reason_first asked p (λ x. Made (f x)) old new (refusal.Source index y) h)
-why_first asked p f old new (refusal.Source index y) (inr h) = inr h
-why_first asked p f old new (refusal.File index y) h =
-    reason_first asked p (λ x. Made (f x)) old new (refusal.File index y) h
-why_first asked p f old new (refusal.Rule r) h = h
-why_first asked p f old new (refusal.Image y) h = h
-why_first asked p f old new (refusal.Feed line) h = h
-why_first asked p f old new (refusal.Script line) h =
-    reason_first asked p (λ x. Made (f x)) old new (refusal.Script line) h
-why_first asked p f old new (refusal.Audit y) h =
-    reason_first asked p (λ x. Made (f x)) old new (refusal.Audit y) h
+why_first : {A : Type 0} (asked : Option Command) (p : Plan A) (f : A → Task) (read : List (List ℕ))
+    (old new : FilesSeen) (why : Refusal) → WhyIs asked p read old why new
+    → WhyIs asked (for_task p f) read old why new
+why_first asked p f read old new refusal.Usage h = h
+why_first asked p f read old new refusal.ReadFault h =
+    reason_first asked p (λ x. Made (f x)) read old new refusal.ReadFault h
+why_first asked p f read old new (refusal.TooLong index) h =
+    reason_first asked p (λ x. Made (f x)) read old new (refusal.TooLong index) h
+why_first asked p f read old new (refusal.Assembly index y) h =
+    reason_first asked p (λ x. Made (f x)) read old new (refusal.Assembly index y) h
+why_first asked p f read old new (refusal.Source index y) (inl h) =
+    inl (reason_first asked p (λ x. Made (f x)) read old new (refusal.Source index y) h)
+why_first asked p f read old new (refusal.Source index y) (inr h) = inr h
+why_first asked p f read old new (refusal.File index y) h =
+    reason_first asked p (λ x. Made (f x)) read old new (refusal.File index y) h
+why_first asked p f read old new (refusal.Rule r) h = h
+why_first asked p f read old new (refusal.Image y) h = h
+why_first asked p f read old new (refusal.Feed line) h = h
+why_first asked p f read old new (refusal.Script line) h =
+    reason_first asked p (λ x. Made (f x)) read old new (refusal.Script line) h
+why_first asked p f read old new (refusal.Audit y) h =
+    reason_first asked p (λ x. Made (f x)) read old new (refusal.Audit y) h
 
-why_task : {A : Type 0} (asked : Option Command) (p : Plan A) (f : A → Task) (old new : FilesSeen)
-    (why : Refusal) → Explains asked p old new → Comes (for_task p f) old (Err why) new
-    → WhyIs asked (for_task p f) old why new
-why_task asked p f old new why t h =
-    why_first asked p f old new why (why_from asked p old new why t (err_of p f old new why h))
+why_task : {A : Type 0} (asked : Option Command) (p : Plan A) (f : A → Task) (read : List (List ℕ))
+    (old new : FilesSeen) (why : Refusal) → Explains asked p read old new
+    → ComesOf (for_task p f) read old (Err why) new → WhyIs asked (for_task p f) read old why new
+why_task asked p f read old new why t h =
+    why_first asked p f read old new why
+    (why_from asked p read old new why t (err_of p f read old new why h))
 
 -- ---- what is read: parts that link, or an image; one component; one part; modules and a feed
 
-links_explain : (l : Linked) (deed : LinkDeed) (old new : FilesSeen)
-    → Explains (Some (Links l deed)) (linked_in l) old new
-links_explain (what.Parts words size) deed old new = record {
+links_explain : (l : Linked) (deed : LinkDeed) (read : List (List ℕ)) (old new : FilesSeen)
+    → Explains (Some (Links l deed)) (linked_in l) read old new
+links_explain (what.Parts words size) deed read old new = record {
   reasoned = in_reasoned (Some (Links (what.Parts words size) deed)) (λ d text f e. e)
       (what.Parts words size) refl;
   no_usage = never_linked refusal.Usage tt words size;
-  breaks = linked_break words size old new;
-  unloaded = λ f h. absurd (never_linked (refusal.Image f) tt words size old new h);
-  unfed = λ line h. absurd (never_linked (refusal.Feed line) tt words size old new h);
+  breaks = linked_break words size read old new;
+  unloaded = λ f h. absurd (never_linked (refusal.Image f) tt words size old new h.0);
+  unfed = λ line h. absurd (never_linked (refusal.Feed line) tt words size old new h.0);
 }
-links_explain (what.Image name) deed old new = record {
+links_explain (what.Image name) deed read old new = record {
   reasoned = in_reasoned (Some (Links (what.Image name) deed)) (λ d text f e. e) (what.Image name) refl;
   no_usage = never_image refusal.Usage tt name;
-  breaks = λ r h. never_image (refusal.Rule r) tt name old new h;
-  unloaded = λ f h. (let g = image_fails name old new f h in (name, refl, g.0, g.1, g.2));
-  unfed = λ line h. absurd (never_image (refusal.Feed line) tt name old new h);
+  breaks = λ r h. never_image (refusal.Rule r) tt name old new h.0;
+  unloaded = λ f h. (let g = image_fails name read old new f h in (name, refl, g.0, g.1, g.2, g.3));
+  unfed = λ line h. absurd (never_image (refusal.Feed line) tt name old new h.0);
 }
 
-component_explains : (word : PartWord) (deed : ComponentDeed) (old new : FilesSeen)
-    → Explains (Some (Takes word deed)) (component_at 0 word) old new
-component_explains word deed old new = record {
+component_explains : (word : PartWord) (deed : ComponentDeed) (read : List (List ℕ)) (old new : FilesSeen)
+    → Explains (Some (Takes word deed)) (component_at 0 word) read old new
+component_explains word deed read old new = record {
   reasoned = component_reasoned (Some (Takes word deed)) (λ d text f e. e) 0 word refl;
   no_usage = never_component refusal.Usage tt 0 word;
-  breaks = λ r h. no_rule 0 word r old new h;
-  unloaded = λ f h. absurd (never_component (refusal.Image f) tt 0 word old new h);
-  unfed = λ line h. absurd (never_component (refusal.Feed line) tt 0 word old new h);
+  breaks = λ r h. no_rule 0 word r old new h.0;
+  unloaded = λ f h. absurd (never_component (refusal.Image f) tt 0 word old new h.0);
+  unfed = λ line h. absurd (never_component (refusal.Feed line) tt 0 word old new h.0);
 }
 
-part_explains : (word : PartWord) (old new : FilesSeen)
-    → Explains (Some (Checks word)) (part_at 0 word) old new
-part_explains word old new = record {
+part_explains : (word : PartWord) (read : List (List ℕ)) (old new : FilesSeen)
+    → Explains (Some (Checks word)) (part_at 0 word) read old new
+part_explains word read old new = record {
   reasoned = part_reasoned (Some (Checks word)) (λ d text f e. e) 0 word refl;
   no_usage = never_part refusal.Usage tt 0 word;
-  breaks = part_breaks 0 word old new;
-  unloaded = λ f h. absurd (never_part (refusal.Image f) tt 0 word old new h);
-  unfed = λ line h. absurd (never_part (refusal.Feed line) tt 0 word old new h);
+  breaks = part_breaks 0 word read old new;
+  unloaded = λ f h. absurd (never_part (refusal.Image f) tt 0 word old new h.0);
+  unfed = λ line h. absurd (never_part (refusal.Feed line) tt 0 word old new h.0);
 }
 
 mean_explains : (words : List PartWord) (size fuel : ℕ) (feed : List ℕ) → Fits (Mean words size fuel feed)
-    → (old new : FilesSeen) → Explains (Some (Mean words size fuel feed)) (subject_in words size feed) old new
-mean_explains words size fuel feed fits old new = record {
+    → (read : List (List ℕ)) (old new : FilesSeen)
+    → Explains (Some (Mean words size fuel feed)) (subject_in words size feed) read old new
+mean_explains words size fuel feed fits read old new = record {
   reasoned = subject_reasoned words size fuel feed fits.0.1;
   no_usage = never_subject refusal.Usage tt tt words size feed;
-  breaks = modules_break words size feed old new;
-  unloaded = λ f h. absurd (never_subject (refusal.Image f) tt tt words size feed old new h);
-  unfed = feed_fails words size fuel feed old new;
+  breaks = modules_break words size feed read old new;
+  unloaded = λ f h. absurd (never_subject (refusal.Image f) tt tt words size feed old new h.0);
+  unfed = feed_fails words size fuel feed read old new;
 }
 
-debug_explains : (l : Linked) (script : List ℕ) (old new : FilesSeen)
-    → Explains (Some (asked.Debug l script)) (debug_plan l script) old new
-debug_explains l script old new = record {
+debug_explains : (l : Linked) (script : List ℕ) (read : List (List ℕ)) (old new : FilesSeen)
+    → Explains (Some (asked.Debug l script)) (debug_plan l script) read old new
+debug_explains l script read old new = record {
   reasoned = debug_reasoned l script;
   no_usage = never_debug refusal.Usage tt tt (never_image refusal.Usage tt) l script;
-  breaks = debug_breaks l script old new;
-  unloaded = debug_unloaded l script old new;
+  breaks = debug_breaks l script read old new;
+  unloaded = debug_unloaded l script read old new;
   unfed = λ line h. absurd (never_debug (refusal.Feed line) tt tt (never_image (refusal.Feed line) tt) l
-      script old new h);
+      script old new h.0);
 }
 
-audit_explains : (name : List ℕ) (old new : FilesSeen)
-    → Explains (Some (asked.Audit name)) (audit_at name) old new
-audit_explains name old new = record {
+audit_explains : (name : List ℕ) (read : List (List ℕ)) (old new : FilesSeen)
+    → Explains (Some (asked.Audit name)) (audit_at name) read old new
+audit_explains name read old new = record {
   reasoned = audit_reasoned name;
   no_usage = never_audit refusal.Usage (λ e. cc) (λ e. cc) (λ f e. cc) name;
-  breaks = λ r h. never_audit (refusal.Rule r) (λ e. cc) (λ e. cc) (λ f e. cc) name old new h;
-  unloaded = λ f h. absurd (never_audit (refusal.Image f) (λ e. cc) (λ e. cc) (λ f e. cc) name old new h);
-  unfed = λ line h. absurd (never_audit (refusal.Feed line) (λ e. cc) (λ e. cc) (λ f e. cc) name old new h);
+  breaks = λ r h. never_audit (refusal.Rule r) (λ e. cc) (λ e. cc) (λ f e. cc) name old new h.0;
+  unloaded = λ f h. absurd (never_audit (refusal.Image f) (λ e. cc) (λ e. cc) (λ f e. cc) name old new h.0);
+  unfed = λ line h. absurd (never_audit (refusal.Feed line) (λ e. cc) (λ e. cc) (λ f e. cc) name old new h.0);
 }
 
-module_explains : (word : PartWord) (out : List ℕ) → Fits (asked.Erase word out) → (old new : FilesSeen)
-    → Explains (Some (asked.Erase word out)) (module_at 0 word) old new
-module_explains word out fits old new = record {
+module_explains : (word : PartWord) (out : List ℕ) → Fits (asked.Erase word out)
+    → (read : List (List ℕ)) (old new : FilesSeen)
+    → Explains (Some (asked.Erase word out)) (module_at 0 word) read old new
+module_explains word out fits read old new = record {
   reasoned = erase_reasoned word out fits.1;
   no_usage = never_module refusal.Usage tt 0 word;
-  breaks = λ r h. no_rule_module r 0 word old new h;
-  unloaded = λ f h. absurd (never_module (refusal.Image f) tt 0 word old new h);
-  unfed = λ line h. absurd (never_module (refusal.Feed line) tt 0 word old new h);
+  breaks = λ r h. no_rule_module r 0 word old new h.0;
+  unloaded = λ f h. absurd (never_module (refusal.Image f) tt 0 word old new h.0);
+  unfed = λ line h. absurd (never_module (refusal.Feed line) tt 0 word old new h.0);
 }
 
 -- ---- a load, which reads nothing: it is refused as a source, or breaks a rule
 
-load_why : (seed : ℕ) (old new : FilesSeen) (why : Refusal)
+load_why : (seed : ℕ) (read : List (List ℕ)) (old new : FilesSeen) (why : Refusal)
     → Comes (load_image (load_of seed)) old (Err why) new
-    → WhyIs (Some (Generate seed)) (plan_of (Generate seed)) old why new
-load_why seed old new (refusal.Source index f) h =
+    → WhyIs (Some (Generate seed)) (plan_of (Generate seed)) read old why new
+load_why seed read old new (refusal.Source index f) h =
     inr (load_ended (load_of seed) (refusal.Source index f) old new h)
-load_why seed old new (refusal.Rule r) h = load_ended (load_of seed) (refusal.Rule r) old new h
-load_why seed old new refusal.Usage h = absurd (never_load refusal.Usage tt (load_of seed) old new h)
-load_why seed old new refusal.ReadFault h = absurd (never_load refusal.ReadFault tt (load_of seed) old new h)
-load_why seed old new (refusal.TooLong index) h =
+load_why seed read old new (refusal.Rule r) h = load_ended (load_of seed) (refusal.Rule r) old new h
+load_why seed read old new refusal.Usage h = absurd (never_load refusal.Usage tt (load_of seed) old new h)
+load_why seed read old new refusal.ReadFault h =
+    absurd (never_load refusal.ReadFault tt (load_of seed) old new h)
+load_why seed read old new (refusal.TooLong index) h =
     absurd (never_load (refusal.TooLong index) tt (load_of seed) old new h)
-load_why seed old new (refusal.Assembly index f) h =
+load_why seed read old new (refusal.Assembly index f) h =
     absurd (never_load (refusal.Assembly index f) tt (load_of seed) old new h)
-load_why seed old new (refusal.File index f) h =
+load_why seed read old new (refusal.File index f) h =
     absurd (never_load (refusal.File index f) tt (load_of seed) old new h)
-load_why seed old new (refusal.Image f) h = absurd (never_load (refusal.Image f) tt (load_of seed) old new h)
-load_why seed old new (refusal.Script line) h =
+load_why seed read old new (refusal.Image f) h =
+    absurd (never_load (refusal.Image f) tt (load_of seed) old new h)
+load_why seed read old new (refusal.Script line) h =
     absurd (never_load (refusal.Script line) tt (load_of seed) old new h)
-load_why seed old new (refusal.Audit f) h = absurd (never_load (refusal.Audit f) tt (load_of seed) old new h)
-load_why seed old new (refusal.Feed line) h =
+load_why seed read old new (refusal.Audit f) h =
+    absurd (never_load (refusal.Audit f) tt (load_of seed) old new h)
+load_why seed read old new (refusal.Feed line) h =
     absurd (never_load (refusal.Feed line) tt (load_of seed) old new h)
 
 -- ---- and so of the words' plan
 
-command_why : (c : Command) → Fits c → (old new : FilesSeen) (why : Refusal)
-    → Comes (plan_of c) old (Err why) new → WhyIs (Some c) (plan_of c) old why new
-command_why (Links l deed) fits old new why h =
-    why_task (Some (Links l deed)) (linked_in l) (link_task deed) old new why
-    (links_explain l deed old new) h
-command_why (Takes word deed) fits old new why h =
-    why_task (Some (Takes word deed)) (component_at 0 word) (component_task deed) old new why
-    (component_explains word deed old new) h
-command_why (Checks word) fits old new why h =
-    why_task (Some (Checks word)) (part_at 0 word) _ old new why (part_explains word old new) h
-command_why (Mean words size fuel feed) fits old new why h =
-    why_task (Some (Mean words size fuel feed)) (subject_in words size feed) _ old new why
-    (mean_explains words size fuel feed fits old new) h
-command_why (asked.Debug l script) fits old new why h =
-    why_from (Some (asked.Debug l script)) (debug_plan l script) old new why
-    (debug_explains l script old new) h
-command_why (asked.Audit name) fits old new why h =
-    why_task (Some (asked.Audit name)) (audit_at name) _ old new why (audit_explains name old new) h
-command_why (asked.Erase word out) fits old new why h =
-    why_task (Some (asked.Erase word out)) (module_at 0 word) _ old new why
-    (module_explains word out fits old new) h
-command_why (Generate seed) fits old new why h =
-    load_why seed old new why (err_of (load_image (load_of seed)) _ old new why h)
+command_why : (c : Command) → Fits c → (read : List (List ℕ)) (old new : FilesSeen) (why : Refusal)
+    → ComesOf (plan_of c) read old (Err why) new → WhyIs (Some c) (plan_of c) read old why new
+command_why (Links l deed) fits read old new why h =
+    why_task (Some (Links l deed)) (linked_in l) (link_task deed) read old new why
+    (links_explain l deed read old new) h
+command_why (Takes word deed) fits read old new why h =
+    why_task (Some (Takes word deed)) (component_at 0 word) (component_task deed) read old new why
+    (component_explains word deed read old new) h
+command_why (Checks word) fits read old new why h =
+    why_task (Some (Checks word)) (part_at 0 word) _ read old new why (part_explains word read old new) h
+command_why (Mean words size fuel feed) fits read old new why h =
+    why_task (Some (Mean words size fuel feed)) (subject_in words size feed) _ read old new why
+    (mean_explains words size fuel feed fits read old new) h
+command_why (asked.Debug l script) fits read old new why h =
+    why_from (Some (asked.Debug l script)) (debug_plan l script) read old new why
+    (debug_explains l script read old new) h
+command_why (asked.Audit name) fits read old new why h =
+    why_task (Some (asked.Audit name)) (audit_at name) _ read old new why (audit_explains name read old new) h
+command_why (asked.Erase word out) fits read old new why h =
+    why_task (Some (asked.Erase word out)) (module_at 0 word) _ read old new why
+    (module_explains word out fits read old new) h
+command_why (Generate seed) fits read old new why h =
+    load_why seed read old new why (err_of (load_image (load_of seed)) _ read old new why h).0
 
-pub why_is : (asked : Option Command) → ((c : Command) → asked ≡ Some c → Fits c) → (old new : FilesSeen)
-    (why : Refusal) → Comes (plan_in asked) old (Err why) new → WhyIs asked (plan_in asked) old why new
-why_is None fits old new why h =
-    let e = same_err {A = Task} refusal.Usage why (sym h.0) in
-    subst (λ w. WhyIs None (plan_in None) old w new) (sym e) refl
-why_is (Some c) fits old new why h = command_why c (fits c refl) old new why h
+pub why_is : (asked : Option Command) → ((c : Command) → asked ≡ Some c → Fits c)
+    → (read : List (List ℕ)) (old new : FilesSeen) (why : Refusal)
+    → ComesOf (plan_in asked) read old (Err why) new → WhyIs asked (plan_in asked) read old why new
+why_is None fits read old new why h =
+    let e = same_err {A = Task} refusal.Usage why (sym h.0.0) in
+    subst (λ w. WhyIs None (plan_in None) read old w new) (sym e) refl
+why_is (Some c) fits read old new why h = command_why c (fits c refl) read old new why h

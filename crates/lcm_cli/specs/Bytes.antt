@@ -15,6 +15,10 @@ bytes_of (Reads name index next) old due new (whole bytes mid w h) =
 bytes_of (Reads name index next) old due new (too_long t e) = []
 bytes_of (Reads name index next) old due new (unread t e) = []
 
+-- what comes of a plan, by files of which these came whole, in their order
+abbrev pub ComesOf : {A : Type 0} → Plan A → List (List ℕ) → FilesSeen → Result A Refusal → FilesSeen → Type 0
+ComesOf plan read old due new = (c : Comes plan old due new) × (bytes_of plan old due new c ≡ read)
+
 -- what a plan makes of these bytes, file by file, or why it ends; behind them it ends by a file that doesn't
 -- come
 abbrev pub Makes : {A : Type 0} → Plan A → List (List ℕ) → Result A Refusal → Type 0

@@ -1,5 +1,5 @@
 -- The causes: what holds of a call wherever it ends with a status.
-use Rattle.std.specs.Prelude.{◌≡◌, ◌⊎◌, ℕ, ◌+◌, ℤ, List, [], ◌∷◌, map, slice_get, Option, Some, None}
+use Rattle.std.specs.Prelude.{◌≡◌, ◌⊎◌, ℕ, ◌+◌, ℤ, List, [], ◌∷◌, ◌++◌, map, slice_get, Option, Some, None}
 use Rattle.std.specs.Prelude.{Result, Ok, Err}
 use Rattle.outside_io.specs.Counts.{Rose}
 use Rattle.outside_io.specs.FilesSeen.{FilesSeen, Puts, KeepsOthers}
@@ -84,7 +84,7 @@ use Rattle.refusal_lines.specs.declared.status.Status.TheVariants.{ReadFault, Wr
 use Rattle.refusal_lines.specs.declared.status.Status.TheVariants.{AsmRefused, SourceRefused, FileRefused}
 use Rattle.refusal_lines.specs.declared.status.Status.TheVariants.{RuleBroken, AuditRefused}
 use Rattle.refusal_lines.specs.Refusals.{refusal_text, audit_text, image_status}
-use Rattle.file_plans.specs.Plans.{Plan, Reads, Ends, Made, each_at, Comes}
+use Rattle.file_plans.specs.Plans.{Plan, Reads, Ends, Made, each_at}
 use Rattle.component_linker.specs.Accepted.{accepted}
 use Rattle.command_words.specs.Part.{is_trusted_mark}
 use Rattle.link_tool.specs.Parts.{linked, loaded, component_at, part_at}
@@ -95,30 +95,31 @@ use Rattle.link_tool.specs.Loads.{load_image}
 use Rattle.lcm_cli.specs.Totals.{totals_text}
 use Rattle.lcm_cli.specs.Debugs.{script_line}
 use Rattle.link_tool.specs.Linked.{linked_in}
-use Rattle.lcm_cli.specs.Bytes.{Makes}
+use Rattle.lcm_cli.specs.Bytes.{ComesOf, Makes}
 use Rattle.lcm_cli.specs.Answers.{Outside, Answers, read_in, IsComplete, end_status, meaning_status}
 
 -- ---- files
 
--- the turn of a file came, each before it having come whole; `seen` is what the files tell then
-abbrev pub IsTurn : {A : Type 0} → Plan A → FilesSeen → List ℕ → ℕ → FilesSeen → Type 0
-IsTurn (Made x) old name index seen = ⊥
-IsTurn (Ends why) old name index seen = ⊥
-IsTurn (Reads n p next) old name index seen =
-    ((n ≡ name) × (p ≡ index) × (seen ≡ old))
-    ⊎ ((bytes : List ℕ) × (mid : FilesSeen) × ComesWhole old n LONGEST_FILE bytes mid
-    × IsTurn (next bytes) mid name index seen)
+-- the turn of a file came, each before it having come whole, with these bytes; `seen` is what the files tell
+-- then
+abbrev pub IsTurn : {A : Type 0} → Plan A → List (List ℕ) → FilesSeen → List ℕ → ℕ → FilesSeen → Type 0
+IsTurn (Made x) before old name index seen = ⊥
+IsTurn (Ends why) before old name index seen = ⊥
+IsTurn (Reads n p next) [] old name index seen = (n ≡ name) × (p ≡ index) × (seen ≡ old)
+IsTurn (Reads n p next) (bytes ∷ before) old name index seen =
+    (mid : FilesSeen) × ComesWhole old n LONGEST_FILE bytes mid
+    × IsTurn (next bytes) before mid name index seen
 
--- a read failed of a file whose turn it was, and it is the last failed one
-abbrev pub IsUnread : {A : Type 0} → Plan A → FilesSeen → FilesSeen → Type 0
-IsUnread plan old new =
-    (name : List ℕ) × (index : ℕ) × (seen : FilesSeen) × IsTurn plan old name index seen
+-- a read failed of the file whose turn it was after those that were read, and it is the last failed one
+abbrev pub IsUnread : {A : Type 0} → Plan A → List (List ℕ) → FilesSeen → FilesSeen → Type 0
+IsUnread plan read old new =
+    (name : List ℕ) × (index : ℕ) × (seen : FilesSeen) × IsTurn plan read old name index seen
     × Faults seen name LONGEST_FILE new
 
--- the file of this index, whose turn it was, is too long
-abbrev pub IsLong : {A : Type 0} → Plan A → FilesSeen → ℕ → FilesSeen → Type 0
-IsLong plan old index new =
-    (name : List ℕ) × (seen : FilesSeen) × IsTurn plan old name index seen
+-- the file of this index, whose turn it was after those that were read, is too long
+abbrev pub IsLong : {A : Type 0} → Plan A → List (List ℕ) → FilesSeen → ℕ → FilesSeen → Type 0
+IsLong plan read old index new =
+    (name : List ℕ) × (seen : FilesSeen) × IsTurn plan read old name index seen
     × IsTooLong seen name LONGEST_FILE new
 
 -- the part words of a command
@@ -135,30 +136,35 @@ part_words (Some (Debug l script)) = linked_words l
 part_words (Some (Erase word out)) = word ∷ []
 part_words _ = []
 
+-- these bytes came last of those that were read, after these
+abbrev pub AreLast : List (List ℕ) → List (List ℕ) → List ℕ → Type 0
+AreLast read before bytes = read ≡ before ++ bytes ∷ []
+
 -- the file of this name, whose turn it was, came last, whole, and its bytes are such
-abbrev pub Holds : {A : Type 0} → Plan A → FilesSeen → List ℕ → ℕ → FilesSeen → (List ℕ → Type 0) → Type 0
-Holds plan old name index new P =
-    (seen : FilesSeen) × IsTurn plan old name index seen
-    × (bytes : List ℕ) × ComesWhole seen name LONGEST_FILE bytes new × P bytes
+abbrev pub Holds : {A : Type 0} → Plan A → List (List ℕ) → FilesSeen → List ℕ → ℕ → FilesSeen
+    → (List ℕ → Type 0) → Type 0
+Holds plan read old name index new P =
+    (before : List (List ℕ)) × (seen : FilesSeen) × IsTurn plan before old name index seen
+    × (bytes : List ℕ) × AreLast read before bytes × ComesWhole seen name LONGEST_FILE bytes new × P bytes
 
 -- the same of the file of the command's part word of this index, which has this ending
-abbrev pub HoldsPart : {A : Type 0} → Option Command → Plan A → FilesSeen → ℕ → Ending → FilesSeen
-    → (List ℕ → Type 0) → Type 0
-HoldsPart asked plan old index ending new P =
+abbrev pub HoldsPart : {A : Type 0} → Option Command → Plan A → List (List ℕ) → FilesSeen → ℕ → Ending
+    → FilesSeen → (List ℕ → Type 0) → Type 0
+HoldsPart asked plan read old index ending new P =
     (word : PartWord) × (slice_get (part_words asked) index ≡ Some word) × (word.ending ≡ ending)
-    × Holds plan old word.name index new P
+    × Holds plan read old word.name index new P
 
 -- the bytes of a part's component file spell no component, with this first fault
-abbrev pub IsUndecoded : {A : Type 0} → Option Command → Plan A → FilesSeen → ℕ → FileFault → FilesSeen
-    → Type 0
-IsUndecoded asked plan old index f new =
-    HoldsPart asked plan old index Component new (λ bytes. decoded bytes ≡ Err f)
+abbrev pub IsUndecoded : {A : Type 0} → Option Command → Plan A → List (List ℕ) → FilesSeen → ℕ → FileFault
+    → FilesSeen → Type 0
+IsUndecoded asked plan read old index f new =
+    HoldsPart asked plan read old index Component new (λ bytes. decoded bytes ≡ Err f)
 
 -- a part's assembler text spells no component, with this first fault
-abbrev pub IsUnassembled : {A : Type 0} → Option Command → Plan A → FilesSeen → ℕ → AsmFault → FilesSeen
-    → Type 0
-IsUnassembled asked plan old index f new =
-    HoldsPart asked plan old index Assembler new (λ text. assembled text ≡ Err f)
+abbrev pub IsUnassembled : {A : Type 0} → Option Command → Plan A → List (List ℕ) → FilesSeen → ℕ → AsmFault
+    → FilesSeen → Type 0
+IsUnassembled asked plan read old index f new =
+    HoldsPart asked plan read old index Assembler new (λ text. assembled text ≡ Err f)
 
 -- a text of this language has not what the command asks of a source, with this first fault: by `mean` and
 -- `erase` a module, else a component
@@ -168,22 +174,24 @@ IsUnsourced (Some (Erase word out)) d text f = module_in d text ≡ Err f
 IsUnsourced _ d text f = sourced d text ≡ Err f
 
 -- a part's source has not, in its language, what the command asks of it
-abbrev pub IsUncompiled : {A : Type 0} → Option Command → Plan A → FilesSeen → ℕ → SourceFault → FilesSeen
-    → Type 0
-IsUncompiled asked plan old index f new =
-    (d : Dialect) × HoldsPart asked plan old index (Source d) new (λ text. IsUnsourced asked d text f)
+abbrev pub IsUncompiled : {A : Type 0} → Option Command → Plan A → List (List ℕ) → FilesSeen → ℕ
+    → SourceFault → FilesSeen → Type 0
+IsUncompiled asked plan read old index f new =
+    (d : Dialect) × HoldsPart asked plan read old index (Source d) new (λ text. IsUnsourced asked d text f)
 
 -- the text of the command's script is none, and this is its first bad line
-abbrev pub IsUnscripted : {A : Type 0} → Option Command → Plan A → FilesSeen → ℕ → FilesSeen → Type 0
-IsUnscripted asked plan old line new =
+abbrev pub IsUnscripted : {A : Type 0} → Option Command → Plan A → List (List ℕ) → FilesSeen → ℕ → FilesSeen
+    → Type 0
+IsUnscripted asked plan read old line new =
     (l : Linked) × (script : List ℕ) × (asked ≡ Some (Debug l script)) × (index : ℕ)
-    × Holds plan old script index new
+    × Holds plan read old script index new
     (λ text. (f : ScriptFault) × (scripted text ≡ Err f) × (line ≡ script_line f))
 
 -- the text that the command audits is no trace of a run, and this is what its first line that spoils it does
-abbrev pub IsUnaudited : {A : Type 0} → Option Command → Plan A → FilesSeen → AuditFault → FilesSeen → Type 0
-IsUnaudited asked plan old f new =
-    (name : List ℕ) × (asked ≡ Some (Audit name)) × Holds plan old name 0 new (λ text. HasFault text f)
+abbrev pub IsUnaudited : {A : Type 0} → Option Command → Plan A → List (List ℕ) → FilesSeen → AuditFault
+    → FilesSeen → Type 0
+IsUnaudited asked plan read old f new =
+    (name : List ℕ) × (asked ≡ Some (Audit name)) × Holds plan read old name 0 new (λ text. HasFault text f)
 
 -- the name of an image word
 abbrev pub image_word : Option Command → Option (List ℕ)
@@ -191,51 +199,56 @@ image_word (Some (Links (what.Image name) deed)) = Some name
 image_word (Some (Debug (what.Image name) script)) = Some name
 image_word _ = None
 
--- the file of the image word came whole, and its bytes are no image whose parts link, with this first fault
-abbrev pub IsUnloaded : Option Command → FilesSeen → ImageFault → FilesSeen → Type 0
-IsUnloaded asked old f new =
-    (name : List ℕ) × (image_word asked ≡ Some name) × (bytes : List ℕ)
+-- the file of the image word came whole, it alone, and its bytes are no image whose parts link, with this
+-- first fault
+abbrev pub IsUnloaded : Option Command → List (List ℕ) → FilesSeen → ImageFault → FilesSeen → Type 0
+IsUnloaded asked read old f new =
+    (name : List ℕ) × (image_word asked ≡ Some name) × (bytes : List ℕ) × (read ≡ bytes ∷ [])
     × ComesWhole old name LONGEST_FILE bytes new × (loaded bytes ≡ Err f)
 
 -- the modules of the words came, and then the text of the feed's file, of which this line is the first that
 -- has not the form that it must have
-abbrev pub IsUnfed : Option Command → FilesSeen → ℕ → FilesSeen → Type 0
-IsUnfed (Some (Mean words size fuel feed)) old line new =
-    (modules : List ModuleFields) × (mid : FilesSeen) × Comes (each_at module_at 0 words) old (Ok modules) mid
-    × (text : List ℕ) × ComesWhole mid feed LONGEST_FILE text new
+abbrev pub IsUnfed : Option Command → List (List ℕ) → FilesSeen → ℕ → FilesSeen → Type 0
+IsUnfed (Some (Mean words size fuel feed)) read old line new =
+    (modules : List ModuleFields) × (before : List (List ℕ)) × (mid : FilesSeen)
+    × ComesOf (each_at module_at 0 words) before old (Ok modules) mid
+    × (text : List ℕ) × AreLast read before text × ComesWhole mid feed LONGEST_FILE text new
     × (f : FeedFault) × (fed (stack_base_of modules) text ≡ Err f) × (line ≡ feed_line f)
-IsUnfed _ old line new = ⊥
+IsUnfed _ read old line new = ⊥
 
 -- ---- rules
 
 -- the word's part breaks a rule by itself
-abbrev pub PartBreaks : FilesSeen → ℕ → PartWord → RuleAt → FilesSeen → Type 0
-PartBreaks old index word r new =
-    (c : ComponentFields) × Comes (component_at index word) old (Ok c) new
+abbrev pub PartBreaks : List (List ℕ) → FilesSeen → ℕ → PartWord → RuleAt → FilesSeen → Type 0
+PartBreaks read old index word r new =
+    (c : ComponentFields) × ComesOf (component_at index word) read old (Ok c) new
     × (b : Broken) × (accepted (record { component = c; trusted = is_trusted_mark word.mark }) ≡ Err b)
     × (r ≡ record { rule = b.rule; part = index; place = b.place })
 
 -- the first words made parts, and the next one's part breaks a rule by itself
-abbrev pub SomeBreaks : FilesSeen → ℕ → List PartWord → RuleAt → FilesSeen → Type 0
-SomeBreaks old index [] r new = ⊥
-SomeBreaks old index (word ∷ words) r new =
-    PartBreaks old index word r new
-    ⊎ ((p : PartSeen) × (mid : FilesSeen) × Comes (part_at index word) old (Ok p) mid
-    × SomeBreaks mid (index + 1) words r new)
+abbrev pub SomeBreaks : List (List ℕ) → FilesSeen → ℕ → List PartWord → RuleAt → FilesSeen → Type 0
+SomeBreaks read old index [] r new = ⊥
+SomeBreaks read old index (word ∷ words) r new =
+    PartBreaks read old index word r new
+    ⊎ ((p : PartSeen) × (mid : FilesSeen) × (first : List (List ℕ)) × (others : List (List ℕ))
+    × (read ≡ first ++ others) × ComesOf (part_at index word) first old (Ok p) mid
+    × SomeBreaks others mid (index + 1) words r new)
 
 -- all words made parts, which together break a rule
-abbrev pub AllBreak : FilesSeen → List PartWord → ℕ → RuleAt → FilesSeen → Type 0
-AllBreak old words size r new =
-    (parts : List PartSeen) × Comes (each_at part_at 0 words) old (Ok parts) new × (linked parts size ≡ Err r)
+abbrev pub AllBreak : List (List ℕ) → FilesSeen → List PartWord → ℕ → RuleAt → FilesSeen → Type 0
+AllBreak read old words size r new =
+    (parts : List PartSeen) × ComesOf (each_at part_at 0 words) read old (Ok parts) new
+    × (linked parts size ≡ Err r)
 
 -- a part breaks a rule by itself, or all of them together do
-abbrev pub LinkBreaks : FilesSeen → List PartWord → ℕ → RuleAt → FilesSeen → Type 0
-LinkBreaks old words size r new = SomeBreaks old 0 words r new ⊎ AllBreak old words size r new
+abbrev pub LinkBreaks : List (List ℕ) → FilesSeen → List PartWord → ℕ → RuleAt → FilesSeen → Type 0
+LinkBreaks read old words size r new =
+    SomeBreaks read old 0 words r new ⊎ AllBreak read old words size r new
 
 -- all words made modules, which together break a rule of a meaning
-abbrev pub ModulesBreak : FilesSeen → List PartWord → ℕ → RuleAt → FilesSeen → Type 0
-ModulesBreak old words size r new =
-    (modules : List ModuleFields) × Comes (each_at module_at 0 words) old (Ok modules) new
+abbrev pub ModulesBreak : List (List ℕ) → FilesSeen → List PartWord → ℕ → RuleAt → FilesSeen → Type 0
+ModulesBreak read old words size r new =
+    (modules : List ModuleFields) × ComesOf (each_at module_at 0 words) read old (Ok modules) new
     × (ruled modules size ≡ Err r)
 
 -- the load of the words' seed, which no file holds, is refused so
@@ -244,19 +257,19 @@ IsUnmade (Some (Generate seed)) why = load_image (load_of seed) ≡ Ends why
 IsUnmade _ why = ⊥
 
 -- a rule that the command asks for is broken by the parts of its words, or by those of its load
-abbrev pub Breaks : Option Command → FilesSeen → RuleAt → FilesSeen → Type 0
-Breaks (Some (Links (what.Parts words size) deed)) old r new = LinkBreaks old words size r new
-Breaks (Some (Debug (what.Parts words size) script)) old r new = LinkBreaks old words size r new
-Breaks (Some (Checks word)) old r new = PartBreaks old 0 word r new
-Breaks (Some (Mean words size fuel feed)) old r new = ModulesBreak old words size r new
-Breaks (Some (Generate seed)) old r new = IsUnmade (Some (Generate seed)) (refusal.Rule r)
-Breaks _ old r new = ⊥
+abbrev pub Breaks : Option Command → List (List ℕ) → FilesSeen → RuleAt → FilesSeen → Type 0
+Breaks (Some (Links (what.Parts words size) deed)) read old r new = LinkBreaks read old words size r new
+Breaks (Some (Debug (what.Parts words size) script)) read old r new = LinkBreaks read old words size r new
+Breaks (Some (Checks word)) read old r new = PartBreaks read old 0 word r new
+Breaks (Some (Mean words size fuel feed)) read old r new = ModulesBreak read old words size r new
+Breaks (Some (Generate seed)) read old r new = IsUnmade (Some (Generate seed)) (refusal.Rule r)
+Breaks _ read old r new = ⊥
 
 -- ---- runs
 
 -- what came of the command's plan, of these bytes
 abbrev pub CameOf : Option Command → List (List ℕ) → FilesSeen → Result Task Refusal → FilesSeen → Type 0
-CameOf asked read old due new = Comes (plan_in asked) old due new × Makes (plan_in asked) read due
+CameOf asked read old due new = ComesOf (plan_in asked) read old due new × Makes (plan_in asked) read due
 
 -- the image came, or the load was made, and the plain run of its start came to this
 abbrev pub RanTo : Option Command → List (List ℕ) → FilesSeen → FilesSeen → (Step → Type 0) → Type 0
@@ -341,38 +354,40 @@ pub record Causes (asked : Option Command) (read : List (List ℕ)) (old : Outsi
       ⊎ MeantTo asked read old.files new.files (λ e. e ≡ meaning_end.OutOfFuel))
   pub usage : status ≡ Usage → asked ≡ None
   pub read_fault : status ≡ ReadFault
-      → Rose old.files.failed_reads new.files.failed_reads × IsUnread (plan_in asked) old.files new.files
+      → Rose old.files.failed_reads new.files.failed_reads
+      × IsUnread (plan_in asked) read old.files new.files
   -- a write failed, or the put of the file of `--out`
   pub write_fault : status ≡ WriteFault → Rose old.sink.faults new.sink.faults
       ⊎ (Rose old.files.failed_puts new.files.failed_puts × (out_name asked ≡ Some new.files.last_failed_put))
   pub no_memory : status ≡ NoMemory
       → OnlyGave old.files new.files × (new.sink ≡ old.sink) × (new.kept ≡ old.kept)
   pub too_long : status ≡ TooLong → (index : ℕ) × Wrote asked read (refusal.TooLong index) old new
-      × IsLong (plan_in asked) old.files index new.files
+      × IsLong (plan_in asked) read old.files index new.files
   pub asm_refused : status ≡ AsmRefused → (index : ℕ) × (f : AsmFault)
       × Wrote asked read (refusal.Assembly index f) old new
-      × IsUnassembled asked (plan_in asked) old.files index f new.files
+      × IsUnassembled asked (plan_in asked) read old.files index f new.files
   -- the bytes of a part's file are no component, those of an image's file no image, or the text of a feed's
   -- file no feed
   pub file_refused : status ≡ FileRefused → ((index : ℕ) × (f : FileFault)
       × Wrote asked read (refusal.File index f) old new
-      × IsUndecoded asked (plan_in asked) old.files index f new.files)
+      × IsUndecoded asked (plan_in asked) read old.files index f new.files)
       ⊎ (((f : ImageFault) × (image_status f ≡ FileRefused) × Wrote asked read (refusal.Image f) old new
-      × IsUnloaded asked old.files f new.files)
-      ⊎ (((line : ℕ) × Wrote asked read (refusal.Feed line) old new × IsUnfed asked old.files line new.files)
+      × IsUnloaded asked read old.files f new.files)
+      ⊎ (((line : ℕ) × Wrote asked read (refusal.Feed line) old new
+      × IsUnfed asked read old.files line new.files)
       ⊎ ((line : ℕ) × Wrote asked read (refusal.Script line) old new
-      × IsUnscripted asked (plan_in asked) old.files line new.files)))
+      × IsUnscripted asked (plan_in asked) read old.files line new.files)))
   -- parts of words break a rule, or those of an image do
   pub rule_broken : status ≡ RuleBroken → (r : RuleAt)
-      × ((Wrote asked read (refusal.Rule r) old new × Breaks asked old.files r new.files)
+      × ((Wrote asked read (refusal.Rule r) old new × Breaks asked read old.files r new.files)
       ⊎ (Wrote asked read (refusal.Image (image.Rule r)) old new
-      × IsUnloaded asked old.files (image.Rule r) new.files))
+      × IsUnloaded asked read old.files (image.Rule r) new.files))
   pub source_refused : status ≡ SourceRefused → (index : ℕ) × (f : SourceFault)
       × Wrote asked read (refusal.Source index f) old new
-      × (IsUncompiled asked (plan_in asked) old.files index f new.files
+      × (IsUncompiled asked (plan_in asked) read old.files index f new.files
       ⊎ IsUnmade asked (refusal.Source index f))
   pub audit_refused : status ≡ AuditRefused → (f : AuditFault) × Wrote asked read (refusal.Audit f) old new
-      × IsUnaudited asked (plan_in asked) old.files f new.files
+      × IsUnaudited asked (plan_in asked) read old.files f new.files
 
 -- ---- files that stay
 
@@ -405,25 +420,25 @@ IsRunStatus MachineFailed = Unit {0}
 IsRunStatus StepsUsed = Unit {0}
 IsRunStatus _ = ⊥
 
--- the parts came that are linked, with the size of their stack: those of the words, or those that are read of
--- the image's bytes
-abbrev pub LinkedCame : Linked → FilesSeen → List PartSeen → ℕ → FilesSeen → Type 0
-LinkedCame (what.Parts words stack) old parts size new =
-    Comes (each_at part_at 0 words) old (Ok parts) new × (size ≡ stack)
-LinkedCame (what.Image name) old parts size new =
-    (bytes : List ℕ) × ComesWhole old name LONGEST_FILE bytes new
+-- the parts came that are linked, of these bytes, with the size of their stack: those of the words, or those
+-- that are read of the image's bytes
+abbrev pub LinkedCame : Linked → List (List ℕ) → FilesSeen → List PartSeen → ℕ → FilesSeen → Type 0
+LinkedCame (what.Parts words stack) read old parts size new =
+    ComesOf (each_at part_at 0 words) read old (Ok parts) new × (size ≡ stack)
+LinkedCame (what.Image name) read old parts size new =
+    (bytes : List ℕ) × (read ≡ bytes ∷ []) × ComesWhole old name LONGEST_FILE bytes new
     × (image_of bytes ≡ Ok (record { stack = size; parts = parts }))
 
--- the words or the image made parts that keep the rules, and this is the start that they link to. Code
--- outside is confined: it touches nothing of a trusted part, and enters one at an export or a return point
--- alone. Calls are kept: each ret line closes the newest open call, whose range only its own return uses till
--- then. Their frames are secret: whatever is in them, the machine runs the same till then. And the start has
--- the headline: the plain run agrees with the run of its overlay, its calls and returns are bracketed, and
--- its frames are private.
-pub record Started (l : Linked) (old new : FilesSeen) : Type 0 where
+-- the words or the image made parts of these bytes, which keep the rules, and this is the start that they
+-- link to. Code outside is confined: it touches nothing of a trusted part, and enters one at an export or a
+-- return point alone. Calls are kept: each ret line closes the newest open call, whose range only its own
+-- return uses till then. Their frames are secret: whatever is in them, the machine runs the same till then.
+-- And the start has the headline: the plain run agrees with the run of its overlay, its calls and returns are
+-- bracketed, and its frames are private.
+pub record Started (l : Linked) (read : List (List ℕ)) (old new : FilesSeen) : Type 0 where
   pub parts : List PartSeen
   pub size : ℕ
-  pub came : LinkedCame l old parts size new
+  pub came : LinkedCame l read old parts size new
   pub keep : linked parts size ≡ Ok tt
   pub start : StartSeen
   pub linked_start : IsStartOf parts size start
@@ -432,10 +447,10 @@ pub record Started (l : Linked) (old new : FilesSeen) : Type 0 where
   pub secret : FramesAreSecret start
   pub headline : Headline start
 
--- the parts of the start are what the plan makes of these bytes
-abbrev pub IsMadeOf : {l : Linked} {old new : FilesSeen} → List (List ℕ) → LinkDeed → Started l old new
-    → Type 0
-IsMadeOf {l} read deed from =
+-- and its parts are what the plan makes of these bytes
+abbrev pub IsMadeOf : {l : Linked} {read : List (List ℕ)} {old new : FilesSeen} → LinkDeed
+    → Started l read old new → Type 0
+IsMadeOf {l} {read} deed from =
     Makes (plan_of (Links l deed)) read
     (Ok (link_task deed (record { stack = from.size; parts = from.parts })))
 
@@ -447,8 +462,8 @@ text_of_run start steps = run_text (layout start) start.state steps
 -- trace, in which calls and returns are bracketed
 pub record RunGiven (l : Linked) (steps : ℕ) (read : List (List ℕ)) (old : Outside) (status : Status)
     (new : Outside) : Type 0 where
-  pub from : Started l old.files new.files
-  pub made : IsMadeOf read (link_deed.Run steps) from
+  pub from : Started l read old.files new.files
+  pub made : IsMadeOf (link_deed.Run steps) from
   pub status_is : status ≡ end_status (end_of (last_step (plain steps from.start.state)))
   pub written : Adds old.sink (text_of_run from.start steps) new.sink
   pub audited : IsTrace (text_of_run from.start steps)
@@ -456,7 +471,7 @@ pub record RunGiven (l : Linked) (steps : ℕ) (read : List (List ℕ)) (old : O
 
 -- the load of a seed links, and the plain run of its start gave the status, the text and the machine: its
 -- totals where it halted, and else its end line. Of the start code outside is confined, calls are kept,
--- frames are secret, and it has the headline.
+-- frames are secret, and it has the headline. No file is read.
 pub record LoadGiven (seed : ℕ) (old : Outside) (status : Status) (new : Outside) : Type 0 where
   pub image : ImageSeen
   pub made : load_image (load_of seed) ≡ Made image
@@ -475,8 +490,8 @@ pub record LoadGiven (seed : ℕ) (old : Outside) (status : Status) (new : Outsi
 -- From each of its entries a part runs within its report, and what isn't in the report doesn't influence it.
 pub record ReachGiven (l : Linked) (read : List (List ℕ)) (old : Outside) (status : Status) (new : Outside)
     : Type 0 where
-  pub from : Started l old.files new.files
-  pub made : IsMadeOf read link_deed.Reach from
+  pub from : Started l read old.files new.files
+  pub made : IsMadeOf link_deed.Reach from
   pub text : List ℕ
   pub text_is : IsReachText from.start text
   pub bound : (part : ℕ) (r : Reached) → Reports from.start part r → BoundsRuns from.start part r
@@ -490,9 +505,11 @@ pub record ReachGiven (l : Linked) (read : List (List ℕ)) (old : Outside) (sta
 -- remembers the states before it.
 pub record DebugGiven (l : Linked) (script : List ℕ) (read : List (List ℕ)) (old : Outside) (status : Status)
     (new : Outside) : Type 0 where
+  pub before : List (List ℕ)
   pub mid : FilesSeen
-  pub from : Started l old.files mid
+  pub from : Started l before old.files mid
   pub text : List ℕ
+  pub read_is : AreLast read before text
   pub script_came : ComesWhole mid script LONGEST_FILE text new.files
   pub lines : List Line
   pub is_script : scripted text ≡ Ok lines
@@ -508,8 +525,8 @@ pub record DebugGiven (l : Linked) (script : List ℕ) (read : List (List ℕ)) 
 -- plain run of as many instructions writes.
 pub record TraceGiven (l : Linked) (steps : ℕ) (read : List (List ℕ)) (old : Outside) (status : Status)
     (new : Outside) : Type 0 where
-  pub from : Started l old.files new.files
-  pub made : IsMadeOf read (link_deed.Trace steps) from
+  pub from : Started l read old.files new.files
+  pub made : IsMadeOf (link_deed.Trace steps) from
   pub overlay : OverlaySeen
   pub overlay_is : IsOverlayOf from.start overlay
   pub lines_are : (trace_of steps overlay).lines ≡ written from.start steps
@@ -522,10 +539,12 @@ pub record TraceGiven (l : Linked) (steps : ℕ) (read : List (List ℕ)) (old :
 pub record MeaningGiven (words : List PartWord) (size fuel : ℕ) (feed : List ℕ) (read : List (List ℕ))
     (old : Outside) (status : Status) (new : Outside) : Type 0 where
   pub modules : List ModuleFields
+  pub before : List (List ℕ)
   pub mid : FilesSeen
-  pub came : Comes (each_at module_at 0 words) old.files (Ok modules) mid
+  pub came : ComesOf (each_at module_at 0 words) before old.files (Ok modules) mid
   pub keep : ruled modules size ≡ Ok tt
   pub text : List ℕ
+  pub read_is : AreLast read before text
   pub feed_came : ComesWhole mid feed LONGEST_FILE text new.files
   pub items : List Item
   pub is_feed : fed (stack_base_of modules) text ≡ Ok items
@@ -565,9 +584,9 @@ AuditTold name read old status new =
 abbrev pub IsCut : (l : Linked) → LinkDeed → (StartSeen → List ℕ → Type 0) → List (List ℕ) → Outside → Outside
     → Type 0
 IsCut l deed IsText read old new =
-    ((why : Refusal) × Comes (linked_in l) old.files (Err why) new.files
+    ((why : Refusal) × ComesOf (linked_in l) read old.files (Err why) new.files
     × Makes (plan_of (Links l deed)) read (Err why) × FailsToWrite old.sink (refusal_text why) new.sink)
-    ⊎ ((from : Started l old.files new.files) × IsMadeOf read deed from × (text : List ℕ)
+    ⊎ ((from : Started l read old.files new.files) × IsMadeOf deed from × (text : List ℕ)
     × IsText from.start text × FailsToWrite old.sink text new.sink)
 
 abbrev pub RunCut : Linked → ℕ → List (List ℕ) → Outside → Outside → Type 0

@@ -7,10 +7,10 @@ use Rattle.command_words.specs.declared.command.LinkDeed.TheVariants as link_dee
 use Rattle.command_words.specs.declared.command.Command.TheVariants.{Links}
 use Rattle.lcm_machine.specs.Run.{Run as Machine}
 use Rattle.file_plans.specs.declared.refusal.Refusal.{Refusal}
-use Rattle.file_plans.specs.Plans.{Plan, Comes}
+use Rattle.file_plans.specs.Plans.{Plan}
 use Rattle.refusal_lines.specs.declared.status.Status.TheVariants.{WriteFault}
 use Rattle.lcm_cli.specs.Commands.{Task, plan_in}
-use Rattle.lcm_cli.specs.Bytes.{Makes}
+use Rattle.lcm_cli.specs.Bytes.{ComesOf, Makes}
 use Rattle.lcm_cli.specs.Answers.{Answer, IsAnswerOf, Answers, outside, read_in}
 
 -- the answer to what came of the plan, which left the files so, is of these bytes, and its text has so many
@@ -18,7 +18,7 @@ use Rattle.lcm_cli.specs.Answers.{Answer, IsAnswerOf, Answers, outside, read_in}
 pub record FillsRoom (plan : Plan Task) (read : List (List ℕ)) (files seen : FilesSeen) (room : ℕ)
     : Type 0 where
   pub due : Result Task Refusal
-  pub came : Comes plan files due seen
+  pub came : ComesOf plan read files due seen
   pub makes : Makes plan read due
   pub gives : Answer
   pub is : IsAnswerOf due gives

@@ -28,13 +28,12 @@ use Rattle.source_starts.specs.Shown.{ShowsNothingElse}
 use Rattle.trace_tool.specs.Layout.{layout}
 use Rattle.file_plans.specs.declared.TheConstants.{LONGEST_FILE}
 use Rattle.file_plans.specs.declared.refusal.Refusal.{Refusal}
-use Rattle.file_plans.specs.Plans.{Comes}
 use Rattle.refusal_lines.specs.declared.status.Status.{Status}
 use Rattle.command_words.specs.Part.{is_trusted_mark}
 use Rattle.link_tool.specs.Parts.{IsPartOf}
 use Rattle.lcm_cli.specs.Commands.{plan_of}
 use Rattle.link_tool.specs.Linked.{linked_in}
-use Rattle.lcm_cli.specs.Bytes.{Makes}
+use Rattle.lcm_cli.specs.Bytes.{ComesOf, Makes}
 use Rattle.refusal_lines.specs.Refusals.{refusal_text}
 use Rattle.proc_semantics.specs.Meaning.{meaning}
 use Rattle.proc_semantics.specs.Fuel.{Prefix}
@@ -54,15 +53,16 @@ SpelledBy true d text [] rest = ⊥
 SpelledBy true d text (m ∷ modules) rest = (module_in d text ≡ Ok m) × rest modules
 SpelledBy false d text modules rest = rest modules
 
--- the files of words came whole, one after another; each text is its word's part, and the modules are those
--- that the texts of trusted words spell, the same that their parts are compiled from
-abbrev pub SourcesCame : List PartWord → FilesSeen → List PartSeen → List ModuleFields → FilesSeen → Type 0
-SourcesCame [] old parts modules new = (parts ≡ []) × (modules ≡ []) × (new ≡ old)
-SourcesCame (w ∷ words) old [] modules new = ⊥
-SourcesCame (w ∷ words) old (p ∷ parts) modules new =
-    (text : List ℕ) × (mid : FilesSeen) × ComesWhole old w.name LONGEST_FILE text mid × IsPartOf w text p
+-- the files of words came whole, one after another, with these texts; each text is its word's part, and the
+-- modules are those that the texts of trusted words spell, the same that their parts are compiled from
+abbrev pub SourcesCame : List PartWord → List (List ℕ) → FilesSeen → List PartSeen → List ModuleFields
+    → FilesSeen → Type 0
+SourcesCame [] read old parts modules new = (read ≡ []) × (parts ≡ []) × (modules ≡ []) × (new ≡ old)
+SourcesCame (w ∷ words) (text ∷ read) old (p ∷ parts) modules new =
+    (mid : FilesSeen) × ComesWhole old w.name LONGEST_FILE text mid × IsPartOf w text p
     × SpelledBy (is_trusted_mark w.mark) (language_of w.ending) text modules
-    (λ others. SourcesCame words mid parts others new)
+    (λ others. SourcesCame words read mid parts others new)
+SourcesCame _ read old parts modules new = ⊥
 
 -- the text of the run is a feed of these modules: they keep the rules of a meaning, the feed's reader takes
 -- from the text what came in, and its base is that of the first module's stack
@@ -75,45 +75,47 @@ pub record IsFeed (modules : List ModuleFields) (stack : ℕ) (start : StartSeen
 -- what is so of a run whose trusted parts are the components of these modules, in their order, whatever form
 -- its words have, or in an image: what its lines tell is what the modules mean, by the feed that its text is;
 -- and wherever their code lets go of control, code outside is shown nothing else
-pub record SourcesMean (modules : List ModuleFields) (l : Linked) (steps : ℕ) (old new : FilesSeen)
-    (from : Started l old new) : Type 0 where
+pub record SourcesMean (modules : List ModuleFields) (l : Linked) (steps : ℕ) (read : List (List ℕ))
+    (old new : FilesSeen) (from : Started l read old new) : Type 0 where
   pub means : RunMeans (map part_of modules) from.size from.start steps
   pub shows : ShowsNothingElse modules from.parts from.size from.start
   pub feed : IsFeed modules from.size from.start steps
 
+-- what is said of the start of a run
+abbrev pub StartFact : Linked → Type 1
+StartFact l = (read : List (List ℕ)) (old new : FilesSeen) → Started l read old new → Type 0
+
 -- so it is of whatever modules the trusted parts of the run are
-abbrev pub ModulesMean : (l : Linked) → ℕ → (old new : FilesSeen) → Started l old new → Type 0
-ModulesMean l steps old new from =
-    (modules : List ModuleFields) → AreSources modules from.parts → SourcesMean modules l steps old new from
+abbrev pub ModulesMean : (l : Linked) → ℕ → StartFact l
+ModulesMean l steps read old new from =
+    (modules : List ModuleFields) → AreSources modules from.parts
+    → SourcesMean modules l steps read old new from
 
 -- where every trusted word is a source there are such modules: those that the words' texts spell, in their
 -- order
-pub record SourcesAre (words : List PartWord) (stack steps : ℕ) (old new : FilesSeen)
-    (from : Started (what.Parts words stack) old new) : Type 0 where
+pub record SourcesAre (words : List PartWord) (stack steps : ℕ) (read : List (List ℕ)) (old new : FilesSeen)
+    (from : Started (what.Parts words stack) read old new) : Type 0 where
   pub modules : List ModuleFields
-  pub came : SourcesCame words old from.parts modules new
+  pub came : SourcesCame words read old from.parts modules new
   pub sources : AreSources modules from.parts
-  pub mean : SourcesMean modules (what.Parts words stack) steps old new from
+  pub mean : SourcesMean modules (what.Parts words stack) steps read old new from
 
 -- a run: the plain run gave the status, the text and the machine; and such holds of its start
-abbrev pub RunOf : (l : Linked) → ((old new : FilesSeen) → Started l old new → Type 0) → ℕ → List (List ℕ)
-    → Outside → Status → Outside → Type 0
+abbrev pub RunOf : (l : Linked) → StartFact l → ℕ → List (List ℕ) → Outside → Status → Outside → Type 0
 RunOf l P steps read old status new =
-    (given : RunGiven l steps read old status new) × P old.files new.files given.from
+    (given : RunGiven l steps read old status new) × P read old.files new.files given.from
 
 -- the sink failed at the line of the refusal that was due, or at the text of such a run
-abbrev pub CutOf : (l : Linked) → ((old new : FilesSeen) → Started l old new → Type 0) → ℕ → List (List ℕ)
-    → Outside → Outside → Type 0
+abbrev pub CutOf : (l : Linked) → StartFact l → ℕ → List (List ℕ) → Outside → Outside → Type 0
 CutOf l P steps read old new =
-    ((why : Refusal) × Comes (linked_in l) old.files (Err why) new.files
+    ((why : Refusal) × ComesOf (linked_in l) read old.files (Err why) new.files
     × Makes (plan_of (Links l (link_deed.Run steps))) read (Err why)
     × FailsToWrite old.sink (refusal_text why) new.sink)
-    ⊎ ((from : Started l old.files new.files) × IsMadeOf read (link_deed.Run steps) from
-    × P old.files new.files from × FailsToWrite old.sink (text_of_run from.start steps) new.sink)
+    ⊎ ((from : Started l read old.files new.files) × IsMadeOf (link_deed.Run steps) from
+    × P read old.files new.files from × FailsToWrite old.sink (text_of_run from.start steps) new.sink)
 
 -- what is promised of a run by its status: also of the lines that weren't written
-abbrev pub RunTold : (l : Linked) → ((old new : FilesSeen) → Started l old new → Type 0) → ℕ → List (List ℕ)
-    → Outside → Status → Outside → Type 0
+abbrev pub RunTold : (l : Linked) → StartFact l → ℕ → List (List ℕ) → Outside → Status → Outside → Type 0
 RunTold l P steps read old status new =
     (IsRunStatus status → RunOf l P steps read old status new)
     × (status ≡ WriteFault → CutOf l P steps read old new)
@@ -128,8 +130,9 @@ SourcesTold words stack steps = RunTold (what.Parts words stack) (SourcesAre wor
 -- what `mean` wrote and answered is of the very meaning that the run's lines are told by. With fuel enough it
 -- tells just the events that went out by those lines, wherever they are all of the meaning's; and it begins
 -- with them where they are a front of those
-pub record TellsOfRun (modules : List ModuleFields) (l : Linked) (steps : ℕ) (old new : FilesSeen)
-    (from : Started l old new) (fuel : ℕ) (before : Outside) (ended : Status) (after : Outside) : Type 0 where
+pub record TellsOfRun (modules : List ModuleFields) (l : Linked) (steps : ℕ) (took : List (List ℕ))
+    (old new : FilesSeen) (from : Started l took old new) (fuel : ℕ) (before : Outside) (ended : Status)
+    (after : Outside) : Type 0 where
   pub told : Told
   pub told_is : told ≡ meaning (map part_of modules) from.size (came_in from.start steps) fuel
   pub status_is : ended ≡ meaning_status told.end
@@ -146,9 +149,9 @@ pub record TellsOfRun (modules : List ModuleFields) (l : Linked) (steps : ℕ) (
 -- wherever `mean` is asked of the sources of a run, over the text of that run
 abbrev pub MeanTellsRuns : Type 0
 MeanTellsRuns =
-    (m : ModuleFields) (others : List ModuleFields) (l : Linked) (steps : ℕ) (old new : FilesSeen)
-    (from : Started l old new) → SourcesMean (m ∷ others) l steps old new from
+    (m : ModuleFields) (others : List ModuleFields) (l : Linked) (steps : ℕ) (took : List (List ℕ))
+    (old new : FilesSeen) (from : Started l took old new) → SourcesMean (m ∷ others) l steps took old new from
     → (sources : List PartWord) (stack fuel : ℕ) (feed : List ℕ) (read : List (List ℕ)) (before : Outside)
     (ended : Status) (after : Outside) (mean : MeaningGiven sources stack fuel feed read before ended after)
     → stack ≡ from.size → mean.modules ≡ m ∷ others → mean.text ≡ text_of_run from.start steps
-    → TellsOfRun (m ∷ others) l steps old new from fuel before ended after
+    → TellsOfRun (m ∷ others) l steps took old new from fuel before ended after

@@ -302,7 +302,8 @@ pub fn stk_main<F: Files, S: Sink>(
         result (outside (F.seen files.new) (S.seen out.new) kept.new) }
 
     // Each clause below that speaks of what was read (`OfBytes`) holds of the bytes of whatever answer
-    // explains the call, as `promised` has one. So all of them speak of the same bytes.
+    // explains the call, as `promised` has one: the parts, modules and texts that it names are of these, file
+    // by file. So all of them speak of the same bytes. `generated` has no `OfBytes`: it reads no file.
 
     // What a run writes, answers and hands over, and what holds of its start. Code outside is confined: it
     // touches nothing of a trusted part, and enters one at an export or a return point alone. Calls are kept:
