@@ -487,7 +487,8 @@ pub record LoadGiven (seed : ℕ) (old : Outside) (status : Status) (new : Outsi
   pub files_stay : new.files ≡ old.files
 
 -- what links came and keeps the rules, and the text of what the parts of its start can reach was written.
--- From each of its entries a part runs within its report, and what isn't in the report doesn't influence it.
+-- From each of its entries a part runs within its report, and what the cells hold that it says can't be read
+-- doesn't influence it, up to and with its first jump under a seal that isn't its own.
 pub record ReachGiven (l : Linked) (read : List (List ℕ)) (old : Outside) (status : Status) (new : Outside)
     : Type 0 where
   pub from : Started l read old.files new.files

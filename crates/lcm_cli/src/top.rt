@@ -295,8 +295,8 @@ pub fn stk_main<F: Files, S: Sink>(
     kept: &mut Option<LcmState>,
 ) -> Status
     // The answer that the call is due, with its file put, its text written and its machine handed over;
-    // the cause of its status; and where the files tell what they hold and nothing fails, that answer
-    // alone.
+    // the cause of its status; and if the files tell what they hold and nothing fails, that answer alone,
+    // unless memory is refused.
     ensures promised { Promised (asked_in (texts words.now.items))
         (outside (F.seen files.old) (S.seen out.old) kept.old)
         result (outside (F.seen files.new) (S.seen out.new) kept.new) }
@@ -342,8 +342,9 @@ pub fn stk_main<F: Files, S: Sink>(
         (outside (F.seen files.old) (S.seen out.old) kept.old)
         result (outside (F.seen files.new) (S.seen out.new) kept.new) }
 
-    // What `reach` writes: what each part of such a start can reach. The part's runs stay within that, and
-    // nothing else influences them.
+    // What `reach` writes: what each part of such a start can reach. Up to and with its first jump under a
+    // seal that isn't its own, a part's runs stay within that, and what the cells hold that it says can't be
+    // read doesn't influence them.
     ensures reached { (l : Linked)
         → asked_in (texts words.now.items) ≡ Some (Links l link_deed.Reach)
         → IsRunStatus result → OfBytes (ReachGiven l) (asked_in (texts words.now.items))
@@ -399,8 +400,8 @@ pub fn stk_main<F: Files, S: Sink>(
     ensures files_stay { StayAt (asked_in (texts words.now.items)) (F.seen files.old) result
         (F.seen files.new) }
 
-    // Where no put failed, the file of `--out` is as before or has the bytes of the component, the image or
-    // the module.
+    // If no put failed, the file of `--out` is as before or has the bytes of the component, the image or the
+    // module. Files count no puts that go, so it isn't said that there was one alone.
     ensures put_whole { let asked = asked_in (texts words.now.items) in
         OfBytes (λ read old status new. PutsWhole asked read old.files new.files) asked
         (outside (F.seen files.old) (S.seen out.old) kept.old)
