@@ -55,10 +55,10 @@ pub fn mean_tells_runs()
 /// or, of a source with tokens, the text of its module without them; and in place of all of the parts the
 /// image that `link` puts of them. Any of them may be exchanged at once, over other files, and one after
 /// another, and back. Then whatever `run`, `trace`, `link`, `reach`, `debug`, `check`, `dis` and, of sources
-/// alone, `mean` are asked, the answer that is due over files that tell is the same: the text, the status, the
-/// file and the machine. Of what was put or written it is asked that it isn't too long to be read; of a text
-/// without its tokens also that it is parsed, and that the text with them isn't too long; and of a component
-/// file whose text `dis` wrote, that it holds bytes.
+/// alone, `mean` are asked, the answer that is due over files that tell is the same: the text, the status,
+/// the file and the machine. Of what was put or written it is asked that it isn't too long to be read; of a
+/// text without its tokens also that it is parsed, and that the text with them isn't too long; and of a
+/// component file whose text `dis` wrote, that it holds bytes.
 pub fn roads_are_one()
     ensures { RoadsAreOne }
 {

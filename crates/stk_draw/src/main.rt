@@ -29,8 +29,8 @@ fn answered<F: Files, S: Sink>(alloc: Global, words: &[String], files: &mut F, o
     draw_main(alloc, words, files, out).number()
 }
 
-// The status of the process, whose arguments are these: the number of the call's answer to the words behind the
-// first. A word that is no text makes the words no command, as no words do; if memory was refused for the
+// The status of the process, whose arguments are these: the number of the call's answer to the words behind
+// the first. A word that is no text makes the words no command, as no words do; if memory was refused for the
 // arguments, nothing is called.
 fn status<F: Files, S: Sink>(
     alloc: Global,
