@@ -87,9 +87,8 @@ pub fn whole_runs_go_in_step()
 /// Sources that mean the same can't be told apart, whatever untrusted parts are linked beside them.
 ///
 /// Take two lists of modules, linked with the same untrusted parts at the same addresses, and one-to-one
-/// names
-/// for the calls of both. Let the refined meanings of both tell the same on each feed: of each call its name,
-/// where its frame begins, the lowest wiped cell, and by names the pair by which it goes and what each
+/// names for the calls of both. Let the refined meanings of both tell the same on each feed: of each call its
+/// name, where its frame begins, the lowest wiped cell, and by names the pair by which it goes and what each
 /// argument register holds; of each procedure that leaves its part, its value, the lowest wiped cell, and the
 /// item that entered it. Then whatever code outside does beside the one, it does beside the other, and the
 /// other way round: it makes as many steps, comes in and is let go as often, the same items come in, and it
