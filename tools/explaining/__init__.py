@@ -1,0 +1,1 @@
+"""What tools/explain is made of: what it says of a call of the program that refused or failed."""
