@@ -41,8 +41,7 @@ use Rattle.context_laws.specs.Sources.{IsFirst}
 use Rattle.context_laws.specs.Meanings.{by_number, SameMeaningsAreNotToldApart}
 use Rattle.context_laws.proofs.Offers.{numbers_apart}
 use Rattle.known_steps.specs.Known.{Known, Partly, blank, knows, case_by, by_fetched, at_pc, known_run}
-use Rattle.known_steps.specs.Known.{words_since}
-use Rattle.known_steps.specs.Known.{gone, at_xjmp}
+use Rattle.known_steps.specs.Known.{words_since, gone, at_xjmp}
 use Rattle.known_steps.proofs.Offers.{known_from, known_at_start, whole, CrossesTo, call_known, RunsTo}
 use Rattle.known_steps.proofs.Offers.{runs_known}
 use Rattle.context_instance.proofs.Offers.{outsider, parts_with, is_linked, other_there}
@@ -51,10 +50,9 @@ use Rattle.callback_instance.proofs.Run.{its_code, its_data, stack, number, its,
 use Rattle.callback_instance.proofs.Round.{stays_until, callback}
 use Rattle.callback_instance.proofs.Calling.{callers_mean_the_same}
 use Rattle.callback_instance.proofs.CallersLinks.{says_limits, adds_limits, says_resolved, adds_resolved}
-use Rattle.callback_instance.proofs.CallersLinks.{answerer}
-use Rattle.callback_instance.proofs.CallersLinks.{main_in, says_sites, says_links, says_start, adds_start}
-use Rattle.callback_instance.proofs.CallersLinks.{says_starts, adds_starts, says_sources, adds_sources}
-use Rattle.callback_instance.proofs.CallersLinks.{callers_beside, callers_differ}
+use Rattle.callback_instance.proofs.CallersLinks.{answerer, main_in, says_sites, says_links, says_start}
+use Rattle.callback_instance.proofs.CallersLinks.{adds_start, says_starts, adds_starts, says_sources}
+use Rattle.callback_instance.proofs.CallersLinks.{adds_sources, callers_beside, callers_differ}
 
 abbrev P : List PartSeen
 P = parts_with answerer (compiled says)

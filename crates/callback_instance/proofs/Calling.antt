@@ -11,17 +11,14 @@ use Rattle.proc_semantics.specs.Values.{Store, found, linked, main_target}
 use Rattle.proc_semantics.specs.Rules.{Then, Level, level, enough, call, given_from, body_of, proc_of, start}
 use Rattle.proc_semantics.specs.Marked.{Whence, ImportWord, CodeHalf, DataHalf, Regs, Way}
 use Rattle.same_meanings.specs.Same.{tracing, Continuation, Waiter, wait_at, Sides, SameBehaviour, SameCall}
-use Rattle.same_meanings.specs.Same.{SameWaits}
-use Rattle.same_meanings.specs.Same.{SameRefined, first_store}
+use Rattle.same_meanings.specs.Same.{SameWaits, SameRefined, first_store}
 use Rattle.same_meanings.proofs.Offers.{any_feed, both_deeper, ticks, both_wipe, both_call, both_halt}
-use Rattle.same_meanings.proofs.Offers.{both_place}
-use Rattle.same_meanings.proofs.Offers.{same_as}
-use Rattle.same_meanings.proofs.Offers.{tick}
+use Rattle.same_meanings.proofs.Offers.{both_place, same_as, tick, head_of, it, IsSingle, both_found}
+use Rattle.same_meanings.proofs.Offers.{single_decides}
 use Rattle.context_laws.specs.Meanings.{name_of, by_number, MeanTheSame}
 use Rattle.context_laws.specs.Meanings as observing
 use Rattle.context_laws.proofs.Offers.{settled_mean}
 use Rattle.callback_instance.specs.Callers.{says, adds}
-use Rattle.same_meanings.proofs.Offers.{head_of, it, IsSingle, both_found, single_decides}
 
 abbrev U : Program
 U = part_of says

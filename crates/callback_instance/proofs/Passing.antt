@@ -1,6 +1,6 @@
 -- Both modules mean the same: they tell the same of each feed, also while a call of the callback waits.
-use Rattle.std.proofs.Common.{◌≡◌, ℕ, suc, ◌+◌, ◌-◌, ℤ, pos, List, [], ◌∷◌, Option, Some, None}
-use Rattle.std.proofs.Common.{true, false, refl, ap, ◌∙◌, subst}
+use Rattle.std.proofs.Common.{◌≡◌, ℕ, suc, ◌+◌, ◌-◌, ℤ, pos, List, [], ◌∷◌, Option, Some, None, true, false}
+use Rattle.std.proofs.Common.{refl, ap, ◌∙◌, subst}
 use Rattle.std.specs.Prelude.{slice_index_or}
 use Rattle.source_events.specs.declared.FeedPair.{FeedPair}
 use Rattle.source_events.specs.declared.FeedPair.TheVariants as fed
@@ -16,21 +16,17 @@ use Rattle.proc_semantics.specs.declared.value.Pair.{Pair}
 use Rattle.proc_semantics.specs.declared.value.Pair.TheVariants.{Bad, Outside, Runs}
 use Rattle.proc_semantics.specs.declared.value.Value.TheVariants.{Num, Closure, Other}
 use Rattle.proc_semantics.specs.Told.{repeated}
-use Rattle.proc_semantics.specs.Values.{Store, found, main_target, register_of, pair_fed}
-use Rattle.proc_semantics.specs.Values.{pair_found, if_there}
-use Rattle.proc_semantics.specs.Rules.{Then, Level, level, with_number, result_of, enough, call}
-use Rattle.proc_semantics.specs.Rules.{given_from, call_by, body_of, proc_of, finish}
+use Rattle.proc_semantics.specs.Values.{Store, found, main_target, register_of, pair_fed, pair_found}
+use Rattle.proc_semantics.specs.Values.{if_there}
+use Rattle.proc_semantics.specs.Rules.{Then, Level, level, with_number, result_of, enough, call, given_from}
+use Rattle.proc_semantics.specs.Rules.{call_by, body_of, proc_of, finish}
 use Rattle.proc_semantics.specs.Marked.{Whence, CameWord, Frame, Way}
 use Rattle.same_meanings.specs.Same.{tracing, Continuation, Waiter, wait_at, Sides, SameBehaviour}
-use Rattle.same_meanings.specs.Same.{SameContinuation}
-use Rattle.same_meanings.specs.Same.{SameCall, SameWaits, BothFound, SameRefined}
-use Rattle.same_meanings.specs.Same.{numbered}
+use Rattle.same_meanings.specs.Same.{SameContinuation, SameCall, SameWaits, BothFound, SameRefined, numbered}
 use Rattle.same_meanings.proofs.Offers.{both_deeper, both_higher, ticks, both_fail, both_wipe, both_call}
-use Rattle.same_meanings.proofs.Offers.{same_as}
-use Rattle.same_meanings.proofs.Offers.{both_number, both_place, starts_without}
-use Rattle.same_meanings.proofs.Offers.{tick}
+use Rattle.same_meanings.proofs.Offers.{same_as, both_number, both_place, starts_without, tick, head_of, it}
+use Rattle.same_meanings.proofs.Offers.{Both, IsSingle, both_found, single_decides}
 use Rattle.callback_instance.specs.Passes.{passes, stores}
-use Rattle.same_meanings.proofs.Offers.{head_of, it, Both, IsSingle, both_found, single_decides}
 
 abbrev U : Program
 U = part_of passes

@@ -1,7 +1,6 @@
 -- The run's rounds, and that the run of the other link goes in step.
 use Rattle.std.proofs.Common.{◌≡◌, ℕ, suc, ◌+◌, pos, true, false, List, [], ◌∷◌, ◌++◌, Some, None, refl, ap}
-use Rattle.std.proofs.Common.{◌∙◌}
-use Rattle.std.proofs.Common.{Bool, sym}
+use Rattle.std.proofs.Common.{◌∙◌, Bool, sym}
 use Rattle.cap_words.specs.declared.Word.TheVariants.{Int, Mem}
 use Rattle.cap_words.specs.declared.Sealable.TheVariants.{Mem as MemIn}
 use Rattle.lcm_isa.specs.declared.Reg.TheVariants.{Rcode, Rdata}
@@ -48,10 +47,9 @@ use Rattle.context_laws.specs.Lockstep as path
 use Rattle.context_laws.specs.Meanings.{by_number, SameMeaningsAreNotToldApart, item_by, items_in}
 use Rattle.context_laws.proofs.Offers.{numbers_apart, one_feed}
 use Rattle.known_steps.specs.Known.{Partly, Stays, here, on}
-use Rattle.known_steps.proofs.Offers.{StepsTo, whole, step_known, CrossesTo, call_known, return_known}
-use Rattle.known_steps.proofs.Offers.{RunsTo}
-use Rattle.known_steps.proofs.Offers.{runs_known, jump_note}
-use Rattle.known_steps.proofs.Offers.{halts_known, event_by, jump_event, known_at_start}
+use Rattle.known_steps.proofs.Offers.{StepsTo, whole, step_known, CrossesTo, call_known, return_known, RunsTo}
+use Rattle.known_steps.proofs.Offers.{runs_known, jump_note, halts_known, event_by, jump_event}
+use Rattle.known_steps.proofs.Offers.{known_at_start}
 use Rattle.context_instance.proofs.Offers.{adversary, outsider, main, is_linked, other_there}
 use Rattle.callback_instance.specs.Passes.{passes, stores, asked}
 use Rattle.callback_instance.specs.CalledBack.{RunCallsBack, PassersCallBack}
@@ -59,10 +57,8 @@ use Rattle.callback_instance.proofs.Links.{passes_start, passes_sites, one_links
 use Rattle.callback_instance.proofs.Means.{mean_the_same}
 use Rattle.callback_instance.proofs.Apart.{links_there}
 use Rattle.callback_instance.proofs.Run.{P, L, K, its_code, its_data, stack, beginning, entering, entered}
-use Rattle.callback_instance.proofs.Run.{calling}
-use Rattle.callback_instance.proofs.Run.{pushed, frame, called, answering, site, answered, leaving, left}
-use Rattle.callback_instance.proofs.Run.{computed}
-use Rattle.callback_instance.proofs.Run.{crossed}
+use Rattle.callback_instance.proofs.Run.{calling, pushed, frame, called, answering, site, answered, leaving}
+use Rattle.callback_instance.proofs.Run.{left, computed, crossed}
 
 -- ---- stretches of a run in a path
 

@@ -34,8 +34,7 @@ use Rattle.proc_templates.specs.Templates.{before_epilogue}
 use Rattle.proc_templates.specs.Compiled.{frame_of, laid_of, lay_proc, first_data, exports_of, imports_of}
 use Rattle.proc_templates.specs.Compiled.{component_of, compiled}
 use Rattle.known_steps.specs.Known.{Known, Partly, blank, knows, fetched, case_by, by_fetched, at_pc}
-use Rattle.known_steps.specs.Known.{known_step}
-use Rattle.known_steps.specs.Known.{known_run, words_since, gone, at_xjmp, behind_return}
+use Rattle.known_steps.specs.Known.{known_step, known_run, words_since, gone, at_xjmp, behind_return}
 use Rattle.known_steps.proofs.Offers.{known_from}
 use Rattle.context_instance.proofs.Offers.{main, parts_of}
 use Rattle.callback_instance.specs.Passes.{passes}

@@ -23,8 +23,8 @@ use Rattle.lcm_machine.specs.Runs.{run_of, code_cap}
 use Rattle.lcm_machine.specs.Refusals.{HasFailed}
 use Rattle.lcm_machine.specs.Closed.{AllAre, OpensTo}
 use Rattle.lcm_machine.specs.Acts.{Fetches}
-use Rattle.lcm_machine.proofs.Offers.{after_went, fetch_mapped, fetched_row, row_keeps, run_one}
-use Rattle.lcm_machine.proofs.Offers.{fetch_normal, run_then, used_target}
+use Rattle.lcm_machine.proofs.Offers.{after_went, fetch_mapped, fetched_row, row_keeps, run_one, fetch_normal}
+use Rattle.lcm_machine.proofs.Offers.{run_then, used_target}
 use Rattle.call_sequence.specs.declared.TheConstants.{CALL_WORDS, RETURN_WORDS}
 use Rattle.flow_check.specs.Holds.{code_at}
 use Rattle.flow_check.specs.Places.{begins_entry}

@@ -1,6 +1,6 @@
 -- The starts of both modules beside the adversary, and that they are beside each other.
-use Rattle.std.proofs.Common.{◌≡◌, inl, inr, ℕ, zero, suc, ◌+◌, ◌-◌, true, false, List}
-use Rattle.std.proofs.Common.{[], ◌∷◌, map, length, Some, None, Ok, refl, sym, ap, ◌∙◌, arith, subst, rules}
+use Rattle.std.proofs.Common.{◌≡◌, inl, inr, ℕ, zero, suc, ◌+◌, ◌-◌, true, false, List, [], ◌∷◌, map, length}
+use Rattle.std.proofs.Common.{Some, None, Ok, refl, sym, ap, ◌∙◌, arith, subst, rules}
 use Rattle.std.specs.Prelude.{slice_get}
 use Rattle.std.specs.List.{Contains}
 use Rattle.std.proofs.lemmas.List.Sorted.{IsPermutation-refl}
@@ -39,8 +39,8 @@ use Rattle.context_laws.specs.Sources.{AreBeside}
 use Rattle.context_instance.specs.Doubles.{sums, keeps}
 use Rattle.context_instance.proofs.Modules.{limits, limits_too, resolved, resolved_too}
 use Rattle.context_instance.proofs.Links.{adversary, adversary_is, outsider, parts_with, parts_of, each_with}
-use Rattle.context_instance.proofs.Links.{one_limits, two_limits, one_flow}
-use Rattle.context_instance.proofs.Links.{two_flow, one_checked, two_checked, one_linked, two_linked}
+use Rattle.context_instance.proofs.Links.{one_limits, two_limits, one_flow, two_flow, one_checked}
+use Rattle.context_instance.proofs.Links.{two_checked, one_linked, two_linked}
 
 abbrev pub main : Exported
 main = record {

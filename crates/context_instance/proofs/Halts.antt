@@ -17,9 +17,8 @@ use Rattle.proc_program.specs.Lower.{part_of}
 use Rattle.proc_semantics.specs.declared.value.Target.{Target}
 use Rattle.proc_semantics.specs.Told.{repeated}
 use Rattle.proc_semantics.specs.Values.{World, Store, target, found, proc_at, main_target, taken}
-use Rattle.proc_semantics.specs.Rules.{Then, Level, start, enough, with_place, body_of, begin}
-use Rattle.proc_semantics.specs.Rules.{proc_of, entered}
-use Rattle.proc_semantics.specs.Rules.{by_item, level}
+use Rattle.proc_semantics.specs.Rules.{Then, Level, start, enough, with_place, body_of, begin, proc_of}
+use Rattle.proc_semantics.specs.Rules.{entered, by_item, level}
 use Rattle.proc_semantics.specs.Marked.{Thing, Event, Whence, Regs, event_to, numbered_items, refined}
 use Rattle.proc_semantics.specs.Marked as tagged
 use Rattle.same_meanings.specs.Same.{tracing}

@@ -1,6 +1,6 @@
 -- Both modules link with an adversary, in whose main the run begins.
-use Rattle.std.proofs.Common.{◌≡◌, ℕ, zero, suc, pos, true, false, List, [], ◌∷◌, map, Some, None, Ok}
-use Rattle.std.proofs.Common.{refl, arith, subst, rules}
+use Rattle.std.proofs.Common.{◌≡◌, ℕ, zero, suc, pos, true, false, List, [], ◌∷◌, map, Some, None, Ok, refl}
+use Rattle.std.proofs.Common.{arith, subst, rules}
 use Rattle.std.specs.Prelude.{slice_get}
 use Rattle.cap_words.specs.Names.{is_name}
 use Rattle.cap_words.specs.declared.Word.TheVariants.{Int}

@@ -1,6 +1,6 @@
 -- Both modules mean the same, and end the same way: their code is straight, and comes to the same.
-use Rattle.std.proofs.Common.{◌≡◌, ℕ, zero, suc, ◌+◌, ◌-◌, ℤ, pos, negsuc, List, [], ◌∷◌, ◌++◌, map}
-use Rattle.std.proofs.Common.{Option, Some, None, true, false, refl, sym, ap, ◌∙◌, arith, subst}
+use Rattle.std.proofs.Common.{◌≡◌, ℕ, zero, suc, ◌+◌, ◌-◌, ℤ, pos, negsuc, List, [], ◌∷◌, ◌++◌, map, Option}
+use Rattle.std.proofs.Common.{Some, None, true, false, refl, sym, ap, ◌∙◌, arith, subst}
 use Rattle.std.specs.Prelude.{slice_index_or, ◌^◌}
 use Rattle.std.proofs.lemmas.Bool.Decides.{Decides-int_eq}
 use Rattle.source_events.specs.declared.MeaningEnd.TheVariants.{OutOfFuel}
@@ -14,19 +14,16 @@ use Rattle.proc_semantics.specs.declared.value.Value.TheVariants.{Num, Other}
 use Rattle.proc_semantics.specs.Told.{repeated}
 use Rattle.proc_semantics.specs.Values.{Store, found, main_target, number_in}
 use Rattle.proc_semantics.specs.Rules.{Then, Level, Wait, result_of, with_number, with_place, enough, body_of}
-use Rattle.proc_semantics.specs.Rules.{finish}
-use Rattle.proc_semantics.specs.Rules.{level}
+use Rattle.proc_semantics.specs.Rules.{finish, level}
 use Rattle.proc_semantics.specs.Marked.{Whence, Frame, Thing}
 use Rattle.proc_semantics.specs.Marked as tagged
 use Rattle.same_meanings.specs.Same.{wait_at, tracing, Behaviour, behaviour, Sides, SameBehaviour}
 use Rattle.same_meanings.specs.Same.{SameRefined}
 use Rattle.same_meanings.specs.Straight.{Outcome, Gives, GoesOn, with_some, followed, body_outcome}
-use Rattle.same_meanings.specs.Straight.{SameOutcome}
-use Rattle.same_meanings.specs.Straight.{both_break, both_give, SameValue, SameValues, a_number, a_closure}
-use Rattle.same_meanings.specs.Straight.{an_other, no_values, and_value, SameStraight}
+use Rattle.same_meanings.specs.Straight.{SameOutcome, both_break, both_give, SameValue, SameValues, a_number}
+use Rattle.same_meanings.specs.Straight.{a_closure, an_other, no_values, and_value, SameStraight}
 use Rattle.same_meanings.proofs.Offers.{any_feed, tick, both_deeper, ticks, both_place, both_wipe}
-use Rattle.same_meanings.proofs.Offers.{both_number}
-use Rattle.same_meanings.proofs.Offers.{same_as, starts_without, straight_decide, behind_same}
+use Rattle.same_meanings.proofs.Offers.{both_number, same_as, starts_without, straight_decide, behind_same}
 use Rattle.same_meanings.proofs.Offers.{head_of, it, Both, of_both, HopSame, IsSingle, both_found}
 use Rattle.context_laws.specs.Meanings.{name_of, by_number, MeanTheSame}
 use Rattle.context_laws.specs.Meanings as observing

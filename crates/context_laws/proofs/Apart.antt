@@ -14,8 +14,8 @@ use Rattle.source_starts.specs.Wiped.{WipedCellsAreTold}
 use Rattle.context_laws.specs.Lockstep.{Round}
 use Rattle.context_laws.specs.Sources.{AreBeside, IsFirst}
 use Rattle.context_laws.specs.Meanings.{CallNames, AreOneToOne, swapped, MeanTheSame, DoesTheSame}
-use Rattle.context_laws.specs.Meanings.{SameMeaningsGoInStep}
-use Rattle.context_laws.specs.Meanings.{SameMeaningsAreNotToldApart}
+use Rattle.context_laws.specs.Meanings.{SameMeaningsGoInStep, SameMeaningsAreNotToldApart, DoesTheSameBy}
+use Rattle.context_laws.specs.Meanings.{TellsAsMuch, GoByNames}
 use Rattle.context_laws.proofs.Sources.{StartsAgree}
 use Rattle.context_laws.proofs.Starts.{placed_alike}
 use Rattle.context_laws.proofs.Mains.{beside_back, outside_main, same_first}
@@ -24,7 +24,6 @@ use Rattle.context_laws.proofs.Beside.{beside_by_names, import_by_names}
 use Rattle.context_laws.proofs.Meanings.{first_inside, first_point, go_in_step}
 use Rattle.context_laws.proofs.Arrivals.{lets_go_too}
 use Rattle.context_laws.proofs.Both.{SourcesMeanAll, TwoLinks, turned, two_links, one_link, other_link}
-use Rattle.context_laws.specs.Meanings.{DoesTheSameBy, TellsAsMuch, GoByNames}
 use Rattle.context_laws.specs.Related.{SameNames}
 
 pub mean_back : (calls : CallNames) (w v : World) (size : ℕ) → MeanTheSame calls w v size

@@ -1,8 +1,7 @@
 -- Links beside each other have one stack, and an address that code outside may use in the one is free in
 -- both.
 use Rattle.std.proofs.Common.{◌≡◌, inl, inr, ℕ, zero, suc, ◌≤◌, Bool, true, false, List, [], ◌∷◌, ◌++◌}
-use Rattle.std.proofs.Common.{length}
-use Rattle.std.proofs.Common.{refl, sym, ap, ◌∙◌, subst, arith, leb-true, lt-ltb}
+use Rattle.std.proofs.Common.{length, refl, sym, ap, ◌∙◌, subst, arith, leb-true, lt-ltb}
 use Rattle.std.specs.Prelude.{nat_le}
 use Rattle.std.specs.List.{Contains}
 use Rattle.std.proofs.lemmas.Bool.{and_parts}
@@ -14,8 +13,8 @@ use Rattle.component_check.specs.Verdict.{rule}
 use Rattle.call_sequence.specs.SequenceRuns.{IsOutsideRange}
 use Rattle.component_linker.specs.Parts.{PartSeen, IsPart}
 use Rattle.component_linker.specs.Regions.{region, code_span, data_span, linear_span, stack_span}
-use Rattle.component_linker.specs.Regions.{part_regions}
-use Rattle.component_linker.specs.Regions.{in_region, in_regions, region_span, is_stack_size, addresses}
+use Rattle.component_linker.specs.Regions.{part_regions, in_region, in_regions, region_span, is_stack_size}
+use Rattle.component_linker.specs.Regions.{addresses}
 use Rattle.component_linker.specs.Standing.{placed}
 use Rattle.component_linker.specs.Start.{stack_base_of}
 use Rattle.component_linker.specs.Started.{StartSeen}

@@ -36,8 +36,7 @@ use Rattle.context_laws.proofs.Crossing.{crossed}
 use Rattle.context_laws.proofs.Rounds.{RoundTold, round_told}
 use Rattle.context_laws.proofs.Behind.{wiped_same, same_ends, all_behind, calls_behind}
 use Rattle.context_laws.proofs.Meanings.{observed_at, told_too, Point, go_in_step}
-use Rattle.context_laws.proofs.Both.{TwoLinks, one_link, other_link, lg, lh, hg, hh}
-use Rattle.context_laws.proofs.Both.{tg, th}
+use Rattle.context_laws.proofs.Both.{TwoLinks, one_link, other_link, lg, lh, hg, hh, tg, th}
 
 module _ (it : TwoLinks) (names : SameNames (one_link it) (other_link it)) {calls : CallNames}
     (by_names : GoByNames calls names)

@@ -1,7 +1,7 @@
 -- What holds after a round, of two runs of linked parts: which cells are wiped, what came in, and which calls
 -- are open.
-use Rattle.std.proofs.Common.{◌≡◌, inl, inr, ◌↔◌, ℕ, ◌-◌, ◌<◌, List}
-use Rattle.std.proofs.Common.{Option, Some, None, true, refl, sym, ap, ◌∙◌, subst, arith}
+use Rattle.std.proofs.Common.{◌≡◌, inl, inr, ◌↔◌, ℕ, ◌-◌, ◌<◌, List, Option, Some, None, true, refl, sym, ap}
+use Rattle.std.proofs.Common.{◌∙◌, subst, arith}
 use Rattle.std.proofs.lemmas.Bool.{cases_lt}
 use Rattle.std.specs.Prelude.{is_some}
 use Rattle.cap_words.specs.declared.Word.TheVariants.{Mem}
@@ -27,12 +27,10 @@ use Rattle.source_laws.specs.Secrets as secrets
 use Rattle.source_starts.specs.Sources.{AreSources, SourcesLeaveNothing}
 use Rattle.context_laws.specs.Related.{SameNames, Calls, SameWord, ours, code_halves, data_halves, ret_codes}
 use Rattle.context_laws.specs.Related.{ret_datas, CellPair}
-use Rattle.context_laws.specs.Lockstep.{Round, IsRound, SameCrossing, by_call, by_leave, SameWiped}
-use Rattle.context_laws.specs.Lockstep.{Holds}
+use Rattle.context_laws.specs.Lockstep.{Round, IsRound, SameCrossing, by_call, by_leave, SameWiped, Holds}
 use Rattle.context_laws.proofs.Counts.{step_rises, until_reached}
 use Rattle.context_laws.proofs.Arrive.{in_region_of}
-use Rattle.context_laws.proofs.Open.{CallsAlike, step_kept, until_kept}
-use Rattle.context_laws.proofs.Open.{calls_more}
+use Rattle.context_laws.proofs.Open.{CallsAlike, step_kept, until_kept, calls_more}
 use Rattle.context_laws.proofs.History.{AllAlike, all_more}
 use Rattle.context_laws.proofs.Crossing.{ends_same}
 

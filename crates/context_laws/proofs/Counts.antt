@@ -1,6 +1,6 @@
 -- The numbers of calls along a run, and that of a call that goes out.
-use Rattle.std.proofs.Common.{◌≡◌, ℕ, ◌≤◌, List, [], ◌∷◌, Option, Some, None, Bool, true, false}
-use Rattle.std.proofs.Common.{refl, sym, ap, ◌∙◌, subst, arith}
+use Rattle.std.proofs.Common.{◌≡◌, ℕ, ◌≤◌, List, [], ◌∷◌, Option, Some, None, Bool, true, false, refl, sym}
+use Rattle.std.proofs.Common.{ap, ◌∙◌, subst, arith}
 use Rattle.std.specs.Prelude.{is_some, if◌then◌else◌, option_and_then}
 use Rattle.cap_words.specs.Faces.{address}
 use Rattle.lcm_isa.specs.declared.Reg.TheVariants.{Pc}

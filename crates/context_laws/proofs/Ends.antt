@@ -1,6 +1,6 @@
 -- Sources that mean the same and end the same way: the plain runs of their links end alike.
-use Rattle.std.proofs.Common.{◌≡◌, inl, inr, ℕ, ◌+◌, ℤ, map, Bool, true, false, Option, Some}
-use Rattle.std.proofs.Common.{None, refl, sym, ap, ◌∙◌, subst, arith}
+use Rattle.std.proofs.Common.{◌≡◌, inl, inr, ℕ, ◌+◌, ℤ, map, Bool, true, false, Option, Some, None, refl, sym}
+use Rattle.std.proofs.Common.{ap, ◌∙◌, subst, arith}
 use Rattle.cap_words.specs.declared.Word.{Word}
 use Rattle.cap_words.specs.declared.Word.TheVariants.{Int}
 use Rattle.lcm_isa.specs.declared.Reg.TheVariants.{A0}
@@ -32,8 +32,8 @@ use Rattle.source_starts.proofs.Offers.{halts_there, fails_there}
 use Rattle.context_laws.specs.Related.{SameNames}
 use Rattle.context_laws.specs.Sources.{AreBeside, ImportTheSame}
 use Rattle.context_laws.specs.Meanings.{CallNames, AreOneToOne, swapped, MeanTheSame, GoByNames}
-use Rattle.context_laws.specs.Ends.{EndTheSame, PlainHalts, PlainFails, RunsForever, SameResult}
-use Rattle.context_laws.specs.Ends.{EndsToo, RunsEndAlike, SameMeaningsEndAlike}
+use Rattle.context_laws.specs.Ends.{EndTheSame, PlainHalts, PlainFails, RunsForever, SameResult, EndsToo}
+use Rattle.context_laws.specs.Ends.{RunsEndAlike, SameMeaningsEndAlike}
 use Rattle.context_laws.proofs.Sources.{StartsAgree}
 use Rattle.context_laws.proofs.Starts.{placed_alike}
 use Rattle.context_laws.proofs.Around.{one_stack}

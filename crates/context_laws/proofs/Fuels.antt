@@ -1,7 +1,6 @@
 -- Under more fuel the refined meaning tells the same, or more where the fuel had run out.
 use Rattle.std.proofs.Common.{◌≡◌, ◌⊎◌, inl, inr, ℕ, zero, suc, ◌+◌, ◌<◌, ◌≤◌, List, [], ◌∷◌, ◌++◌, length}
-use Rattle.std.proofs.Common.{map}
-use Rattle.std.proofs.Common.{Option, Some, None, refl, sym, ap, ◌∙◌, subst, arith}
+use Rattle.std.proofs.Common.{map, Option, Some, None, refl, sym, ap, ◌∙◌, subst, arith}
 use Rattle.std.specs.Prelude.{slice_get, ◌-◌}
 use Rattle.std.proofs.lemmas.List.{append-nil}
 use Rattle.source_events.specs.declared.Item.{Item}
@@ -11,8 +10,7 @@ use Rattle.proc_semantics.specs.declared.value.Target.{Target}
 use Rattle.proc_semantics.specs.Values.{World, Store, main_target}
 use Rattle.proc_semantics.specs.Rules.{start, level}
 use Rattle.proc_semantics.specs.Marked.{Marks, Thing, Event, Leaves, Report, Comp, Whence, counted, said}
-use Rattle.proc_semantics.specs.Marked.{tick}
-use Rattle.proc_semantics.specs.Marked.{take_item, lower, call_event, marked, marked_meaning, whences}
+use Rattle.proc_semantics.specs.Marked.{tick, take_item, lower, call_event, marked, marked_meaning, whences}
 use Rattle.proc_semantics.specs.Marked.{numbered_items, refined}
 use Rattle.proc_semantics.proofs.Offers.{Kin, levels_kept}
 

@@ -1,6 +1,6 @@
 -- What came in to two runs alike: words that stand for each other.
-use Rattle.std.proofs.Common.{◌≡◌, ℕ, zero, suc, pos, List, [], ◌∷◌, ◌++◌, map}
-use Rattle.std.proofs.Common.{refl, sym, ap, ◌∙◌, subst, inl, inr}
+use Rattle.std.proofs.Common.{◌≡◌, ℕ, zero, suc, pos, List, [], ◌∷◌, ◌++◌, map, refl, sym, ap, ◌∙◌, subst}
+use Rattle.std.proofs.Common.{inl, inr}
 use Rattle.std.specs.Prelude.{option_map, slice_index_or}
 use Rattle.cap_words.specs.declared.CapFields.{CapFields}
 use Rattle.cap_words.specs.declared.Word.TheVariants.{Int, Mem}
@@ -25,8 +25,8 @@ use Rattle.source_laws.specs.Seen.{Back, thing_of, back_here, nothing_back}
 use Rattle.source_laws.specs.Seen as seen
 use Rattle.source_laws.specs.Trace as lines
 use Rattle.source_laws.specs.Words.{words_at, back_at}
-use Rattle.context_laws.specs.Related.{SameNames, Calls, SameWord, ours}
-use Rattle.context_laws.specs.Related.{Newest, ComesAlike, EnterAlike, ReturnAlike}
+use Rattle.context_laws.specs.Related.{SameNames, Calls, SameWord, ours, Newest, ComesAlike, EnterAlike}
+use Rattle.context_laws.specs.Related.{ReturnAlike}
 use Rattle.context_laws.proofs.Step.{face_is, own_of}
 use Rattle.context_laws.proofs.Arrive.{more}
 use Rattle.context_laws.proofs.Told.{enter_item}

@@ -1,7 +1,7 @@
 -- Where trusted code has control in both links since the same items came in, and ends in the one, it ends in
 -- the other; and where every part is trusted, that is always so.
-use Rattle.std.proofs.Common.{◌≡◌, inl, ℕ, ◌+◌, ◌-◌, ℤ, List, [], map, Bool, true, false, refl, sym}
-use Rattle.std.proofs.Common.{ap, ◌∙◌, arith}
+use Rattle.std.proofs.Common.{◌≡◌, inl, ℕ, ◌+◌, ◌-◌, ℤ, List, [], map, Bool, true, false, refl, sym, ap, ◌∙◌}
+use Rattle.std.proofs.Common.{arith}
 use Rattle.cap_words.specs.declared.Word.TheVariants.{Int}
 use Rattle.lcm_isa.specs.declared.Reg.TheVariants.{A0, C1, Rcode}
 use Rattle.component_linker.specs.Parts.{PartSeen}

@@ -25,8 +25,8 @@ use Rattle.overlay_machine.specs.Invariant.{FramesLie, FrameFits}
 use Rattle.overlay_machine.proofs.Offers.{contains_first, contains_rest, frame_of-cons, frame_none}
 use Rattle.template_runs.specs.Public.{IsFreeAt}
 use Rattle.context_laws.specs.Related.{RunsOutside, SameNames, Calls, AreCalls, IsExport, SameWord, ours}
-use Rattle.context_laws.specs.Related.{code_halves}
-use Rattle.context_laws.specs.Related.{data_halves, ret_codes, ret_datas, CellPair, Newest, Alike}
+use Rattle.context_laws.specs.Related.{code_halves, data_halves, ret_codes, ret_datas, CellPair, Newest}
+use Rattle.context_laws.specs.Related.{Alike}
 use Rattle.context_laws.specs.Lockstep.{AreBelow}
 use Rattle.context_laws.specs.Itself.{AlikeToItself}
 use Rattle.context_laws.proofs.Outer.{safe}

@@ -13,8 +13,8 @@ use Rattle.flow_check.specs.Holds.{code_at}
 use Rattle.component_linker.specs.Parts.{PartSeen}
 use Rattle.component_linker.specs.Standing.{placed}
 use Rattle.component_linker.specs.Links.{has_main}
-use Rattle.component_linker.specs.Start.{Exported, main_of, is_main, export_that, exported_by}
-use Rattle.component_linker.specs.Start.{start_regs, code_of}
+use Rattle.component_linker.specs.Start.{Exported, main_of, is_main, export_that, exported_by, start_regs}
+use Rattle.component_linker.specs.Start.{code_of}
 use Rattle.component_linker.specs.declared.owners.Owner.{Owner}
 use Rattle.component_linker.specs.Started.{StartSeen}
 use Rattle.component_linker.specs.LinkedStarts.{IsStartOf}
@@ -25,8 +25,7 @@ use Rattle.overlay_machine.specs.Words.{look}
 use Rattle.overlay_machine.specs.Link.{Link, IsUntrusted, ranges_of}
 use Rattle.overlay_machine.specs.Linked.{any_pc}
 use Rattle.overlay_machine.specs.Starting.{overlay_at, StartsBegin}
-use Rattle.overlay_machine.proofs.Offers.{any_is, found_is, index_of, listed_at}
-use Rattle.overlay_machine.proofs.Offers.{crossing_code_is as code_is}
+use Rattle.overlay_machine.proofs.Offers.{any_is, found_is, index_of, listed_at, crossing_code_is as code_is}
 use Rattle.trace_tool.specs.Layout.{layout}
 use Rattle.template_runs.specs.Runs.{is_inside}
 use Rattle.source_starts.specs.Sources.{linked_at, SourcesLeaveNothing}

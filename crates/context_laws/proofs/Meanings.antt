@@ -1,7 +1,7 @@
 -- Where code outside has all alike at two points of two runs, so it has at those to which it comes from
 -- there, by steps of its own and by rounds, if the second sources tell as much as the first.
-use Rattle.std.proofs.Common.{◌≡◌, inl, inr, ℕ, suc, ◌+◌, ◌-◌, ◌≤◌, List, [], ◌∷◌, ◌++◌, map}
-use Rattle.std.proofs.Common.{length, Option, Some, None, true, false, refl, sym, ap, ◌∙◌, subst, arith}
+use Rattle.std.proofs.Common.{◌≡◌, inl, inr, ℕ, suc, ◌+◌, ◌-◌, ◌≤◌, List, [], ◌∷◌, ◌++◌, map, length, Option}
+use Rattle.std.proofs.Common.{Some, None, true, false, refl, sym, ap, ◌∙◌, subst, arith}
 use Rattle.std.specs.Prelude.{slice_get, option_map, if◌then◌else◌}
 use Rattle.std.proofs.lemmas.Option.{slice_get-map, slice_get_within}
 use Rattle.std.proofs.lemmas.List.{append-nil, length-append, length-map, map-append}
@@ -35,16 +35,14 @@ use Rattle.source_laws.specs.Wiped.{TellsSince, and_then, low_of, last_outside}
 use Rattle.source_laws.specs.Secrets.{Until}
 use Rattle.source_laws.specs.Secrets as secrets
 use Rattle.source_starts.specs.Words.{slots}
-use Rattle.context_laws.specs.Related.{SameNames, Calls}
-use Rattle.context_laws.specs.Related.{Alike, ComesAlike, StepsAlike, both_halt}
-use Rattle.context_laws.specs.Related.{both_fail, both_stay, both_come}
-use Rattle.context_laws.specs.Lockstep.{Round, IsRound, Path, SameCrossing, SameWiped}
-use Rattle.context_laws.specs.Lockstep.{InStep, at_end, round, AreBelow}
+use Rattle.context_laws.specs.Related.{SameNames, Calls, Alike, ComesAlike, StepsAlike, both_halt, both_fail}
+use Rattle.context_laws.specs.Related.{both_stay, both_come}
+use Rattle.context_laws.specs.Lockstep.{Round, IsRound, Path, SameCrossing, SameWiped, InStep, at_end, round}
+use Rattle.context_laws.specs.Lockstep.{AreBelow}
 use Rattle.context_laws.specs.Lockstep as spec
-use Rattle.context_laws.specs.Meanings.{name_of, observed, FeedFits, TellsAsMuch, GoByNames, item_by}
-use Rattle.context_laws.specs.Meanings.{Naming, CallNames, item_named, feed_named, event_named, events_named}
-use Rattle.context_laws.specs.Meanings.{SameFeed}
-use Rattle.context_laws.specs.Meanings.{items_in}
+use Rattle.context_laws.specs.Meanings.{name_of, observed, FeedFits, TellsAsMuch, GoByNames, item_by, Naming}
+use Rattle.context_laws.specs.Meanings.{CallNames, item_named, feed_named, event_named, events_named}
+use Rattle.context_laws.specs.Meanings.{SameFeed, items_in}
 use Rattle.context_laws.proofs.Counts.{step_rises}
 use Rattle.context_laws.proofs.Arrive.{arrive_alike}
 use Rattle.context_laws.proofs.Whole.{alike_step, runs_outside, below_later, below_after, after_a, after_b}
@@ -59,8 +57,7 @@ use Rattle.context_laws.proofs.Crossing.{crossed}
 use Rattle.context_laws.proofs.Behind.{wiped_same, same_ends, all_behind, calls_behind, open_since}
 use Rattle.context_laws.proofs.Behind.{round_shows}
 use Rattle.context_laws.proofs.Rounds.{RoundTold, round_told, entry_silent}
-use Rattle.context_laws.proofs.Both.{TwoLinks, one_link, other_link, lg, lh, hg, hh}
-use Rattle.context_laws.proofs.Both.{tg, th, ng, nh}
+use Rattle.context_laws.proofs.Both.{TwoLinks, one_link, other_link, lg, lh, hg, hh, tg, th, ng, nh}
 
 pub first_inside : (l : Layout) (p q : OState) → Until l p q → is_inside l p ≡ true
 first_inside l p _ (secrets.still_there i) = i

@@ -1,6 +1,6 @@
 -- Steps of code outside, of one run.
-use Rattle.std.proofs.Common.{◌≡◌, inl, inr, ℕ, ◌+◌, ◌≤◌, pos, ◌+ℤ◌, List}
-use Rattle.std.proofs.Common.{Some, true, false, refl, sym, ap, ◌∙◌, subst, arith}
+use Rattle.std.proofs.Common.{◌≡◌, inl, inr, ℕ, ◌+◌, ◌≤◌, pos, ◌+ℤ◌, List, Some, true, false, refl, sym, ap}
+use Rattle.std.proofs.Common.{◌∙◌, subst, arith}
 use Rattle.std.specs.Prelude.{◌==◌, ◌&&◌, not, is_some}
 use Rattle.std.proofs.lemmas.Bool.{cases_lt}
 use Rattle.cap_words.specs.declared.Word.{Word}
@@ -36,8 +36,8 @@ use Rattle.overlay_machine.specs.declared.words.OWord.TheVariants.{Plain}
 use Rattle.overlay_machine.specs.declared.cases.Case.TheVariants.{Back, Other}
 use Rattle.overlay_machine.specs.Words.{look}
 use Rattle.overlay_machine.specs.State.{OpenFrame, OState}
-use Rattle.overlay_machine.specs.Step.{case_of, case_fetched, step_by, other_step, overlay_step}
-use Rattle.overlay_machine.specs.Step.{with_frames, return_step}
+use Rattle.overlay_machine.specs.Step.{case_of, case_fetched, step_by, other_step, overlay_step, with_frames}
+use Rattle.overlay_machine.specs.Step.{return_step}
 use Rattle.component_linker.specs.Regions.{in_regions}
 use Rattle.component_linker.proofs.Offers.{in_regions_is}
 use Rattle.lcm_machine.specs.Cells.{cell}

@@ -9,8 +9,7 @@ use Rattle.lcm_machine.specs.Maps.{Regs}
 use Rattle.lcm_machine.specs.Places.{reg}
 use Rattle.component_linker.specs.Parts.{PartSeen}
 use Rattle.component_linker.specs.Standing.{placed}
-use Rattle.component_linker.specs.Start.{Exported, stack_base_of, start_regs, code_of, data_of}
-use Rattle.component_linker.specs.Start.{stack_of}
+use Rattle.component_linker.specs.Start.{Exported, stack_base_of, start_regs, code_of, data_of, stack_of}
 use Rattle.component_linker.proofs.Offers.{stack_begins}
 use Rattle.lcm_machine.specs.Spans.{zero_regs}
 use Rattle.component_linker.specs.Started.{StartSeen}

@@ -1,6 +1,5 @@
 -- As the run of the one link stands, so does that of the other; and where the one ends, so does the other.
-use Rattle.std.proofs.Common.{◌≡◌, inl, inr, ℕ, List, [], map, Bool, true, false, refl, sym}
-use Rattle.std.proofs.Common.{◌∙◌}
+use Rattle.std.proofs.Common.{◌≡◌, inl, inr, ℕ, List, [], map, Bool, true, false, refl, sym, ◌∙◌}
 use Rattle.cap_words.specs.declared.Word.{Word}
 use Rattle.lcm_isa.specs.declared.Reg.TheVariants.{A0}
 use Rattle.overlay_machine.specs.declared.words.OWord.{OWord}
@@ -29,9 +28,9 @@ use Rattle.context_laws.specs.Meanings.{CallNames, TellsAsMuch, GoByNames}
 use Rattle.context_laws.specs.Ends.{EndsAsWell, SameResult}
 use Rattle.context_laws.proofs.Open.{has_sites, met, flat_same}
 use Rattle.context_laws.proofs.Jumps.{Flat, f_ours, f_code, f_data, f_ret, f_frame}
-use Rattle.context_laws.proofs.Meanings.{Point, steps_alike, stays, comes_too}
+use Rattle.context_laws.proofs.Meanings.{Point, steps_alike, stays, comes_too, one_feed, came, came_too}
+use Rattle.context_laws.proofs.Meanings.{other, met_again}
 use Rattle.context_laws.proofs.Behind.{round_shows}
-use Rattle.context_laws.proofs.Meanings.{one_feed, came, came_too, other, met_again}
 use Rattle.context_laws.proofs.Arrivals.{first_met}
 use Rattle.context_laws.proofs.Inside.{HaltsToo, FailsToo, halts_inside, fails_inside, first_shows}
 use Rattle.template_runs.proofs.Offers.{halts_not, fails_not}

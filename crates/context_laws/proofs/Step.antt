@@ -41,9 +41,9 @@ use Rattle.overlay_machine.specs.declared.words.OWord.TheVariants.{Plain, RetCod
 use Rattle.overlay_machine.specs.declared.cases.Case.TheVariants.{Back, Other}
 use Rattle.overlay_machine.specs.Words.{look, is_plain}
 use Rattle.overlay_machine.specs.State.{OpenFrame, OState}
-use Rattle.overlay_machine.specs.Step.{goes, fails, with_frames, overlay_step, case_fetched}
+use Rattle.overlay_machine.specs.Step.{goes, fails, with_frames, overlay_step, case_fetched, return_step}
+use Rattle.overlay_machine.specs.Step.{return_by, own_stack, if_own, ask, need, state_resumed}
 use Rattle.overlay_machine.specs.Events.{step_event}
-use Rattle.overlay_machine.specs.Step.{return_step, return_by, own_stack, if_own, ask, need, state_resumed}
 use Rattle.overlay_machine.specs.Link.{Link, IsTrusted, ranges_of}
 use Rattle.overlay_machine.specs.Linked.{Linked}
 use Rattle.overlay_machine.specs.Safe.{IsOpenSeal, IsSafe}

@@ -44,8 +44,8 @@ use Rattle.source_events.specs.declared.Item.TheVariants.{Enter}
 use Rattle.source_laws.specs.Trace.{event_items}
 use Rattle.template_runs.proofs.Offers.{open_no_owner, if_bad}
 use Rattle.source_starts.proofs.Offers.{open_foreign, closure_foreign}
-use Rattle.context_laws.specs.Related.{SameNames, IsExport, Calls, SameWord}
-use Rattle.context_laws.specs.Related.{EnterAlike, ReturnAlike, ComesAlike, entered_at}
+use Rattle.context_laws.specs.Related.{SameNames, IsExport, Calls, SameWord, EnterAlike, ReturnAlike}
+use Rattle.context_laws.specs.Related.{ComesAlike, entered_at}
 use Rattle.context_laws.specs.Meanings.{CallNames, back_named, feed_named, SameFeed, GoByNames, told_name}
 use Rattle.context_laws.specs.Meanings.{export_name}
 use Rattle.context_laws.proofs.Jumps.{Flat, f_ours, f_code, f_data, f_ret, f_frame, Jump, fails, outside}

@@ -1,6 +1,6 @@
 -- Sources that mean the same, and that no code outside can tell them apart.
-use Rattle.std.specs.Prelude.{◌≡◌, ℕ, ◌==◌, true, false, List, [], ◌∷◌, ◌++◌, map, find}
-use Rattle.std.specs.Prelude.{Option, Some, None, ℤ, if◌then◌else◌}
+use Rattle.std.specs.Prelude.{◌≡◌, ℕ, ◌==◌, true, false, List, [], ◌∷◌, ◌++◌, map, find, Option, Some, None}
+use Rattle.std.specs.Prelude.{ℤ, if◌then◌else◌}
 use Rattle.std.specs.List.{Contains}
 use Rattle.component_file.specs.declared.component.Import.{Import}
 use Rattle.component_file.specs.declared.component.Export.{Export}
@@ -30,8 +30,7 @@ use Rattle.source_events.specs.declared.FeedBack.TheVariants as way
 use Rattle.proc_semantics.specs.Values.{World, fits_64, home_part, proc_in, import_in}
 use Rattle.proc_semantics.specs.Rules.{part_name_of}
 use Rattle.proc_semantics.specs.Marked.{PairHalf, Whence, OwnWord, ImportWord, CameWord, Event, refined}
-use Rattle.proc_semantics.specs.Marked.{Calls as CallsOut, Leaves}
-use Rattle.proc_semantics.specs.Marked.{report_to}
+use Rattle.proc_semantics.specs.Marked.{Calls as CallsOut, Leaves, report_to}
 use Rattle.source_laws.specs.Trace.{event_items}
 use Rattle.source_starts.specs.Sources.{AreSources, linked_at}
 use Rattle.context_laws.specs.Related.{SameNames, Calls}

@@ -7,8 +7,8 @@ use Rattle.component_linker.specs.Standing.{placed}
 use Rattle.trace_tool.specs.Cuts.{StopsAreCuts}
 use Rattle.trace_tool.specs.Headline.{HeadlineHolds}
 use Rattle.full_abstraction.specs.Contexts.{Context, plugged, LinksTo, Observation, OnPlain, OnOverlay}
-use Rattle.full_abstraction.specs.Abstraction.{Shows, RunsShowTheSame}
-use Rattle.full_abstraction.specs.Abstraction.{IsFullyAbstractForAny, IsFullyAbstractInAll}
+use Rattle.full_abstraction.specs.Abstraction.{Shows, RunsShowTheSame, IsFullyAbstractForAny}
+use Rattle.full_abstraction.specs.Abstraction.{IsFullyAbstractInAll}
 use Rattle.full_abstraction.proofs.Observed.{on_overlay, on_plain}
 
 pub show_the_same : HeadlineHolds → StopsAreCuts → RunsShowTheSame

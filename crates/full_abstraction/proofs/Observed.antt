@@ -1,6 +1,6 @@
 -- What is observed of the plain run is observed of the overlay's, and the other way round.
-use Rattle.std.proofs.Common.{◌≡◌, inl, inr, ℕ, ◌+◌, ◌<◌, ◌≤◌, Option, Some, None, refl, sym, ap, ◌∙◌}
-use Rattle.std.proofs.Common.{subst, arith}
+use Rattle.std.proofs.Common.{◌≡◌, inl, inr, ℕ, ◌+◌, ◌<◌, ◌≤◌, Option, Some, None, refl, sym, ap, ◌∙◌, subst}
+use Rattle.std.proofs.Common.{arith}
 use Rattle.lcm_machine.specs.declared.End.{End}
 use Rattle.lcm_machine.specs.declared.End.TheVariants.{Halted, Failed}
 use Rattle.lcm_machine.specs.Run.{Run, plain}
@@ -12,8 +12,8 @@ use Rattle.overlay_machine.specs.Runs.{Reached}
 use Rattle.trace_tool.specs.Layout.{layout}
 use Rattle.trace_tool.specs.Cuts.{cut, cut_overlay, StopsAreCuts}
 use Rattle.trace_tool.specs.Headline.{Matched, OverlayHalts, PlainEnds, Agrees}
-use Rattle.full_abstraction.specs.Contexts.{Observation, halting, halting_with, failing, running}
-use Rattle.full_abstraction.specs.Contexts.{OnPlain, OnOverlay}
+use Rattle.full_abstraction.specs.Contexts.{Observation, halting, halting_with, failing, running, OnPlain}
+use Rattle.full_abstraction.specs.Contexts.{OnOverlay}
 
 -- a run that hasn't ended hasn't ended before
 earlier : (r : Run) (n j : ℕ) → n ≤ j → (plain j r).end ≡ None → (plain n r).end ≡ None

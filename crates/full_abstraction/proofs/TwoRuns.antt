@@ -21,9 +21,8 @@ use Rattle.overlay_machine.specs.declared.words.OWord.TheVariants.{Plain}
 use Rattle.overlay_machine.specs.declared.cases.Case.TheVariants.{Other}
 use Rattle.overlay_machine.specs.State.{OState, Cells}
 use Rattle.overlay_machine.specs.Words.{look}
-use Rattle.overlay_machine.specs.Step.{goes, need, own_stack, with_frames, case_fetched}
-use Rattle.overlay_machine.specs.Step.{case_trusted, case_of, entry_step, other_step, step_by, overlay_step}
-use Rattle.overlay_machine.specs.Step.{weight_of}
+use Rattle.overlay_machine.specs.Step.{goes, need, own_stack, with_frames, case_fetched, case_trusted}
+use Rattle.overlay_machine.specs.Step.{case_of, entry_step, other_step, step_by, overlay_step, weight_of}
 use Rattle.overlay_machine.specs.Runs.{Reached}
 use Rattle.overlay_machine.specs.Seen.{IsOverlayOf}
 use Rattle.overlay_machine.specs.Starting.{overlay_at}

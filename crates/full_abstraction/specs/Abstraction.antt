@@ -5,8 +5,8 @@ use Rattle.std.specs.List.{list_all}
 use Rattle.component_linker.specs.Parts.{PartSeen}
 use Rattle.component_linker.specs.Started.{StartSeen}
 use Rattle.component_linker.specs.LinkedStarts.{IsStartOf}
-use Rattle.full_abstraction.specs.Contexts.{Context, LinksTo, Observation, halting, failing}
-use Rattle.full_abstraction.specs.Contexts.{OnPlain, OnOverlay}
+use Rattle.full_abstraction.specs.Contexts.{Context, LinksTo, Observation, halting, failing, OnPlain}
+use Rattle.full_abstraction.specs.Contexts.{OnOverlay}
 
 -- ---- contextual equivalence
 

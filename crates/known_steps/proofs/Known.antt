@@ -1,6 +1,6 @@
 -- The overlay goes on as a state of which so much is known.
-use Rattle.std.proofs.Common.{◌≡◌, ℕ, true, false, List, ◌∷◌, Option, Some, None, Bool, refl}
-use Rattle.std.proofs.Common.{sym, ap, ◌∙◌, inl, inr, is_some, subst, eqb-true, eq-eqb}
+use Rattle.std.proofs.Common.{◌≡◌, ℕ, true, false, List, ◌∷◌, Option, Some, None, Bool, refl, sym, ap, ◌∙◌}
+use Rattle.std.proofs.Common.{inl, inr, is_some, subst, eqb-true, eq-eqb}
 use Rattle.std.specs.Prelude.{◌==◌, if◌then◌else◌, option_map, unwrap_or}
 use Rattle.std.specs.FinMap as maps
 use Rattle.std.proofs.lemmas.Bool.{cases_Bool}
@@ -24,9 +24,8 @@ use Rattle.lcm_machine.specs.Places.{reg}
 use Rattle.lcm_machine.specs.Cells.{cell, set_cell}
 use Rattle.lcm_machine.specs.Table.{plan}
 use Rattle.lcm_machine.specs.Row.{faces, opens, cell_faces, look_face, face_there, fetch, Fetched, none, some}
-use Rattle.lcm_machine.specs.Row.{put}
-use Rattle.lcm_machine.specs.Row.{clear, move_on, spend, make, go_on, perform, word_in, plan_in, outcome, row}
-use Rattle.lcm_machine.specs.Row.{step_fetched, step_of, went, Outcome}
+use Rattle.lcm_machine.specs.Row.{put, clear, move_on, spend, make, go_on, perform, word_in, plan_in, outcome}
+use Rattle.lcm_machine.specs.Row.{row, step_fetched, step_of, went, Outcome}
 use Rattle.lcm_machine.proofs.Offers.{cell-set_same, cell-set_other, fetch_by}
 use Rattle.trusted_border.specs.declared.layout.Layout.{Layout}
 use Rattle.trusted_border.specs.Layout.{trusted_at}
@@ -41,10 +40,8 @@ use Rattle.overlay_machine.specs.Step.{entry_step, own_stack, need, step_by, oth
 use Rattle.overlay_machine.specs.Step.{overlay_step}
 use Rattle.known_steps.specs.Known.{Known, Changes, word_since, AreIn, Partly, blank, known_word, set_place}
 use Rattle.known_steps.specs.Known.{taken_from, moved, others, with_others, face_since, knows, by_plan}
-use Rattle.known_steps.specs.Known.{target_in}
-use Rattle.known_steps.specs.Known.{known_plan, by_fetched, by_ending, fetched, at_blank, by_case, case_by}
-use Rattle.known_steps.specs.Known.{at_pc}
-use Rattle.known_steps.specs.Known.{known_step}
+use Rattle.known_steps.specs.Known.{target_in, known_plan, by_fetched, by_ending, fetched, at_blank, by_case}
+use Rattle.known_steps.specs.Known.{case_by, at_pc, known_step}
 
 -- ---- memory holds what is known
 

@@ -1,14 +1,12 @@
 -- Stretches of a run, computed.
 use Rattle.std.proofs.Common.{◌≡◌, ℕ, zero, suc, true, false, List, Option, Some, None, Bool, refl, sym, ap}
-use Rattle.std.proofs.Common.{◌∙◌}
-use Rattle.std.proofs.Common.{subst}
+use Rattle.std.proofs.Common.{◌∙◌, subst}
 use Rattle.std.specs.Prelude.{if◌then◌else◌, option_and_then, option_map, not}
 use Rattle.lcm_isa.specs.declared.Instr.TheVariants.{Halt, Xjmp}
 use Rattle.lcm_isa.specs.declared.Reg.TheVariants.{Pc}
 use Rattle.cap_words.specs.declared.Word.{Word}
 use Rattle.lcm_machine.specs.declared.cells.Span.{Span}
-use Rattle.lcm_machine.specs.Row.{faces, opens, Fetched, some, none, step_fetched, step_of, row}
-use Rattle.lcm_machine.specs.Row.{plan_in}
+use Rattle.lcm_machine.specs.Row.{faces, opens, Fetched, some, none, step_fetched, step_of, row, plan_in}
 use Rattle.trusted_border.specs.declared.layout.Layout.{Layout}
 use Rattle.trusted_border.specs.Layout.{trusted_owner}
 use Rattle.overlay_machine.specs.declared.words.OWord.TheVariants.{Plain}
@@ -21,8 +19,7 @@ use Rattle.overlay_machine.specs.State.{OpenFrame, OState, Cells}
 use Rattle.overlay_machine.specs.Step.{goes, halts, overlay_step, step_by, other_step, with_frames}
 use Rattle.trace_tool.specs.Cuts.{is_inside}
 use Rattle.known_steps.specs.Known.{Known, AreIn, Partly, blank, knows, fetched, at_blank, case_by, at_pc}
-use Rattle.known_steps.specs.Known.{known_step}
-use Rattle.known_steps.specs.Known.{is_or_not, known_run, Stays, here, on}
+use Rattle.known_steps.specs.Known.{known_step, is_or_not, known_run, Stays, here, on}
 use Rattle.known_steps.proofs.Known.{with_cells, whole, case_known, fetch_known, step_known}
 
 is_so : (b c : Bool) → (if b then c else not c) ≡ true → c ≡ b

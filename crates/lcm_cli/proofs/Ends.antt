@@ -14,7 +14,7 @@ use Rattle.component_linker.specs.Parts.{PartSeen}
 use Rattle.image_loader.specs.Image.{ImageSeen}
 use Rattle.file_plans.specs.declared.refusal.Refusal.{Refusal}
 use Rattle.file_plans.specs.declared.refusal.Refusal.TheVariants as refusal
-use Rattle.file_plans.specs.Plans.{Plan, Reads, Ends, Made, ◌>>=◌, unless, each_at, whole, too_long, unread}
+use Rattle.file_plans.specs.Plans.{Plan, Reads, Made, ◌>>=◌, unless, each_at, whole, too_long, unread}
 use Rattle.file_plans.specs.Plans.{Comes}
 use Rattle.command_words.specs.Part.{is_trusted_mark}
 use Rattle.link_tool.specs.Parts.{broken_in, linked, loaded, form_by, component_at, part_at}

@@ -1,5 +1,5 @@
 -- Plans that read nothing, and the loads that they make.
-use Rattle.std.proofs.Common.{◌≡◌, ◌⊎◌, ℕ, [], ◌∷◌, refl, sym, ap, subst, ◌∙◌, inl, inr, true, false}
+use Rattle.std.proofs.Common.{◌≡◌, ℕ, [], ◌∷◌, refl, sym, ap, subst, ◌∙◌, inl, inr, true, false}
 use Rattle.std.specs.Prelude.{Result, Ok, Err}
 use Rattle.outside_io.specs.FilesSeen.{FilesSeen}
 use Rattle.component_linker.specs.Accepted.{accepted}

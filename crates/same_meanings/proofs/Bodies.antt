@@ -1,6 +1,6 @@
 -- Procedures without calls and loops that come to the same tell the same, whatever enters them.
-use Rattle.std.proofs.Common.{◌≡◌, ℕ, suc, ◌+◌, ◌-◌, ℤ, pos, List, [], ◌∷◌, ◌++◌, Option, Some, None}
-use Rattle.std.proofs.Common.{Bool, true, false, refl, ap, subst}
+use Rattle.std.proofs.Common.{◌≡◌, ℕ, suc, ◌+◌, ◌-◌, ℤ, pos, List, [], ◌∷◌, ◌++◌, Option, Some, None, Bool}
+use Rattle.std.proofs.Common.{true, false, refl, ap, subst}
 use Rattle.std.specs.Prelude.{slice_index_or}
 use Rattle.source_events.specs.declared.FeedPair.{FeedPair}
 use Rattle.source_events.specs.declared.FeedPair.TheVariants as fed
@@ -18,12 +18,11 @@ use Rattle.proc_semantics.specs.Rules.{Level, level, with_place, enough, body_of
 use Rattle.proc_semantics.specs.Marked.{Whence, Frame, Regs}
 use Rattle.same_meanings.specs.Same.{tracing, Levelled, Continuation, Sides, numbered, SameBehaviour}
 use Rattle.same_meanings.specs.Same.{SameContinuation}
-use Rattle.same_meanings.specs.Straight.{AllStraight, Outcome, body_outcome, a_number, a_closure}
-use Rattle.same_meanings.specs.Straight.{an_other, SameValues, no_values, and_value, SameOutcome, both_break}
-use Rattle.same_meanings.specs.Straight.{both_stop, both_give, SameStraight, StraightDecide}
+use Rattle.same_meanings.specs.Straight.{AllStraight, Outcome, body_outcome, a_number, a_closure, an_other}
+use Rattle.same_meanings.specs.Straight.{SameValues, no_values, and_value, SameOutcome, both_break, both_stop}
+use Rattle.same_meanings.specs.Straight.{both_give, SameStraight, StraightDecide}
 use Rattle.same_meanings.proofs.Steps.{same_as, both_deeper, both_higher, ticked, ticked_too, ticks}
-use Rattle.same_meanings.proofs.Steps.{both_fail}
-use Rattle.same_meanings.proofs.Steps.{both_halt, both_wipe, both_place}
+use Rattle.same_meanings.proofs.Steps.{both_fail, both_halt, both_wipe, both_place}
 use Rattle.same_meanings.proofs.Waits.{procedures_decide}
 use Rattle.same_meanings.proofs.Straight.{LevelledNext, went, body_tells}
 

@@ -1,8 +1,8 @@
 -- What one computation comes to, step by step.
-use Rattle.std.proofs.Common.{◌≡◌, ℕ, zero, suc, ◌+◌, ◌≤◌, ℤ, List, [], ◌∷◌, Option, None, refl}
-use Rattle.std.proofs.Common.{sym, ap, ◌∙◌, arith}
+use Rattle.std.proofs.Common.{◌≡◌, ℕ, zero, suc, ◌+◌, ◌≤◌, ℤ, List, [], ◌∷◌, Option, None, refl, sym, ap, ◌∙◌}
+use Rattle.std.proofs.Common.{arith}
 use Rattle.source_events.specs.declared.MeaningEnd.{MeaningEnd}
-use Rattle.proc_semantics.specs.Marked.{Event, Report, Thing, Whence, Comp, Way, event_to, lower}
+use Rattle.proc_semantics.specs.Marked.{Event, Thing, Whence, Comp, Way, event_to}
 use Rattle.proc_semantics.specs.Marked as tagged
 use Rattle.same_meanings.specs.Same.{tracing, Levelled, Behaviour, behaviour, Behaves}
 

@@ -13,8 +13,8 @@ use Rattle.proc_semantics.specs.declared.value.Target.{Target}
 use Rattle.proc_semantics.specs.Values.{Store, target, found, main_target}
 use Rattle.proc_semantics.specs.Rules.{level, start, part_name_of}
 use Rattle.same_meanings.specs.Same.{tracing, Continuation, Waiter, wait_at, Sides, SameBehaviour}
-use Rattle.same_meanings.specs.Same.{SameContinuation}
-use Rattle.same_meanings.specs.Same.{SameWaits, BothFound, SameRefined, first_store, numbered}
+use Rattle.same_meanings.specs.Same.{SameContinuation, SameWaits, BothFound, SameRefined, first_store}
+use Rattle.same_meanings.specs.Same.{numbered}
 use Rattle.same_meanings.proofs.Waits.{procedures_decide}
 
 abbrev pub head_of : List Procedure → Procedure

@@ -1,15 +1,13 @@
 -- Code without calls and loops tells what its outcome tells.
-use Rattle.std.proofs.Common.{ℕ, ℤ, pos, List, ◌++◌, replicate, Option, Some}
-use Rattle.std.proofs.Common.{None, Bool, true, false}
+use Rattle.std.proofs.Common.{ℕ, ℤ, pos, List, ◌++◌, replicate, Option, Some, None, Bool, true, false}
 use Rattle.std.specs.Prelude.{if◌then◌else◌}
 use Rattle.proc_program.specs.declared.program.Location.{Location}
 use Rattle.proc_program.specs.declared.program.Location.TheVariants.{Local, Global}
 use Rattle.proc_program.specs.declared.program.Array.{Array}
 use Rattle.proc_program.specs.declared.program.Procedure.{Procedure}
 use Rattle.proc_language.specs.declared.tree.Op.{Op}
-use Rattle.proc_program.specs.Program.{Exp, Number, Load, Element, Call, Binary}
-use Rattle.proc_program.specs.Program.{Statement, Set, SetAt, Do, If, While, Return, Halt}
-use Rattle.proc_program.specs.Program.{Block, no_steps, step}
+use Rattle.proc_program.specs.Program.{Exp, Number, Load, Element, Call, Binary, Statement, Set, SetAt, Do}
+use Rattle.proc_program.specs.Program.{If, While, Return, Halt, Block, no_steps, step}
 use Rattle.proc_program.specs.StepView.{block_of}
 use Rattle.proc_semantics.specs.declared.value.Value.{Value}
 use Rattle.proc_semantics.specs.declared.value.Value.TheVariants.{Num}
@@ -19,9 +17,8 @@ use Rattle.proc_semantics.specs.Rules.{element, operated, assigned, stmt, block,
 use Rattle.proc_semantics.specs.Marked.{Whence, Frame}
 use Rattle.same_meanings.specs.Same.{tracing, Levelled, Continuation}
 use Rattle.same_meanings.specs.Straight.{IsPure, IsStraight, AllStraight, Outcome, Breaks, Stops, Gives}
-use Rattle.same_meanings.specs.Straight.{GoesOn}
-use Rattle.same_meanings.specs.Straight.{with_some, followed, value_by, set_to, step_outcome, block_outcome}
-use Rattle.same_meanings.specs.Straight.{body_outcome}
+use Rattle.same_meanings.specs.Straight.{GoesOn, with_some, followed, value_by, set_to, step_outcome}
+use Rattle.same_meanings.specs.Straight.{block_outcome, body_outcome}
 use Rattle.same_meanings.proofs.Comes.{tick}
 
 abbrev pub LevelledNext : Type 0

@@ -1,6 +1,6 @@
 -- Where the feed is asked, two meanings tell the same if their procedures do.
-use Rattle.std.proofs.Common.{◌≡◌, ℕ, zero, suc, ◌+◌, ℤ, List, [], ◌∷◌, length, Option, Some, None}
-use Rattle.std.proofs.Common.{sym, ap, ◌∙◌, subst, arith}
+use Rattle.std.proofs.Common.{◌≡◌, ℕ, zero, suc, ◌+◌, ℤ, List, [], ◌∷◌, length, Option, Some, None, sym, ap}
+use Rattle.std.proofs.Common.{◌∙◌, subst, arith}
 use Rattle.source_events.specs.declared.Item.{Item}
 use Rattle.source_events.specs.declared.Item.TheVariants.{Enter, Ret}
 use Rattle.source_events.specs.declared.FeedPair.{FeedPair}
@@ -8,13 +8,11 @@ use Rattle.source_events.specs.declared.FeedBack.{FeedBack}
 use Rattle.source_events.specs.declared.FeedBack.TheVariants as way
 use Rattle.proc_semantics.specs.declared.value.Target.{Target}
 use Rattle.proc_semantics.specs.Values.{Store, found, main_target}
-use Rattle.proc_semantics.specs.Rules.{Level, level, start, part_name_of, hopped, left_by, entered}
-use Rattle.proc_semantics.specs.Rules.{on_item}
+use Rattle.proc_semantics.specs.Rules.{Level, level, start, part_name_of, hopped, left_by, entered, on_item}
 use Rattle.proc_semantics.specs.Marked.{numbered_items}
-use Rattle.same_meanings.specs.Same.{tracing, Waiter, wait_at, FeedOf}
-use Rattle.same_meanings.specs.Same.{Sides, numbered, first_store, SameBehaviour, SameContinuation}
-use Rattle.same_meanings.specs.Same.{SameWaiting}
-use Rattle.same_meanings.specs.Same.{SameWaits, BothFound, SameProcedures, SameRefined, ProceduresDecide}
+use Rattle.same_meanings.specs.Same.{tracing, Waiter, wait_at, FeedOf, Sides, numbered, first_store}
+use Rattle.same_meanings.specs.Same.{SameBehaviour, SameContinuation, SameWaiting, SameWaits, BothFound}
+use Rattle.same_meanings.specs.Same.{SameProcedures, SameRefined, ProceduresDecide}
 use Rattle.same_meanings.proofs.Steps.{of_none, same_as, both_deeper, both_fail, both_leave, both_take, later}
 use Rattle.same_meanings.proofs.Steps.{later_at, later_same, fewer_wait, both_resume, both_return}
 

@@ -4,16 +4,15 @@ use Rattle.std.specs.Prelude.{if◌then◌else◌}
 use Rattle.proc_program.specs.declared.program.Location.{Location}
 use Rattle.proc_program.specs.declared.program.Location.TheVariants.{Local, Global}
 use Rattle.proc_program.specs.declared.program.Procedure.{Procedure}
-use Rattle.proc_program.specs.Program.{Exp, Number, Load, Element, Call, Binary}
-use Rattle.proc_program.specs.Program.{Statement, Set, SetAt, Do, If, While, Return, Halt}
-use Rattle.proc_program.specs.Program.{Block, no_steps, step}
+use Rattle.proc_program.specs.Program.{Exp, Number, Load, Element, Call, Binary, Statement, Set, SetAt, Do}
+use Rattle.proc_program.specs.Program.{If, While, Return, Halt, Block, no_steps, step}
 use Rattle.proc_program.specs.StepView.{block_of}
 use Rattle.proc_semantics.specs.declared.value.Target.{Target}
 use Rattle.proc_semantics.specs.declared.value.Pair.{Pair}
 use Rattle.proc_semantics.specs.declared.value.Value.{Value}
 use Rattle.proc_semantics.specs.declared.value.Value.TheVariants.{Num, Closure, Other}
-use Rattle.proc_semantics.specs.Values.{Store, proc_at, found, main_target, is_zero, global_word}
-use Rattle.proc_semantics.specs.Values.{set_word, variable, if_there}
+use Rattle.proc_semantics.specs.Values.{Store, proc_at, found, main_target, is_zero, global_word, set_word}
+use Rattle.proc_semantics.specs.Values.{variable, if_there}
 use Rattle.proc_semantics.specs.Rules.{result_of, element_at, level, start, part_name_of}
 use Rattle.same_meanings.specs.Same.{tracing, Waiter, wait_at, Sides, first_store, SameBehaviour, SameWaiting}
 use Rattle.same_meanings.specs.Same.{SameWaits, BothFound, SameRefined}
