@@ -42,10 +42,11 @@ def why_unreadable(path):
 def is_in_pieces(path):
     """Whether a file can be read piece by piece, and again: a pipe can't."""
     try:
-        mode = os.stat(path).st_mode
+        found = os.stat(path)
     except OSError:
         return True
-    return stat.S_ISREG(mode) or stat.S_ISDIR(mode)
+    is_plain = stat.S_ISREG(found.st_mode) or stat.S_ISDIR(found.st_mode)
+    return is_plain or os.path.samestat(found, os.stat(os.devnull))
 
 
 def read(path):

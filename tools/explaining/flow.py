@@ -189,7 +189,7 @@ class Walk:
 
     def __post_init__(self):
         self.declared = {at: dict(zip(REGISTERS, kinds)) for at, kinds in self.listing.rows.items()}
-        self.entries = self.listing.entries()
+        self.entries, self.sites = self.listing.entries(), set(self.listing.sites)
 
     def first_break(self) -> Optional[Break]:
         row, at, code = None, 0, self.listing.code
@@ -211,7 +211,7 @@ class Walk:
             if broken:
                 return row, at, broken
             row = self.declared[at]
-        if at in self.listing.sites:
+        if at in self.sites:
             broken = row and wants(row, SITE_ROW, "K10", at)
             return dict(CLEAN_ROW) if row else None, at + site_length(), broken
         if row is None:
