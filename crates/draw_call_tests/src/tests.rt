@@ -1,3 +1,4 @@
+//! Calls of `draw_main` over files and sinks in memory, each with its status and what it leaves.
 use draw_call::{DrawStatus, draw_main};
 use outside_io::{MemFiles, MemSink, read_whole};
 use std::alloc::{AllocError, Global};

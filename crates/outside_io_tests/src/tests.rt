@@ -1,3 +1,4 @@
+//! Files in memory and of the system, sinks, and both over reserved memory.
 ghost use Rattle.outside_io.specs.FilesSeen.{IsFileName};
 
 use arrayvec::ArrayVec;
