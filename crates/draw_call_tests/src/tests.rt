@@ -151,7 +151,8 @@ fn is_put(rt: &impl Abort, alloc: Global, files: &mut MemFiles) -> Result<bool, 
     Ok(put)
 }
 
-// A call over these files, of which the call of this number fails, and a sink whose write of this number does.
+// A call over these files, of which the call of this number fails, and a sink whose write of this number
+// fails.
 fn is_told(
     rt: &impl Abort,
     alloc: Global,

@@ -96,7 +96,8 @@ fn a_write_that_fails_keeps_no_machine(rt: HostRuntime) -> Result<(), Fail> {
     Ok(())
 }
 
-// Of a text of ten bytes, `asm 0 7 0` and a newline, over sinks with room for a byte more and for a byte less.
+// Of a text of ten bytes, `asm 0 7 0` and a newline, over sinks with room for a byte more and for a byte
+// less.
 #[test]
 fn a_reserved_sink_takes_a_text_that_fits(rt: HostRuntime) -> Result<(), Fail> {
     let mut files = MemFiles::new(rt.alloc())?;

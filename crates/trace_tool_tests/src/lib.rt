@@ -1,5 +1,5 @@
-//! Tests of runs and traces that take no step or whose write fails: what a built program doesn't show. What it
-//! does show are `rows/traces.rows` and the tables of adversaries.
+//! Tests of runs and traces that take no step or whose write fails: what a built program doesn't show. What
+//! it does show are `rows/traces.rows` and the tables of adversaries.
 #![tactic(auto)]
 
 #[cfg(test)]
