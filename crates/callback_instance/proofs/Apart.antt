@@ -4,7 +4,7 @@ use Rattle.proc_templates.specs.Compiled.{compiled}
 use Rattle.context_laws.specs.Meanings.{by_number, SameMeaningsAreNotToldApart}
 use Rattle.context_laws.specs.Ends.{SameMeaningsEndAlike}
 use Rattle.context_laws.proofs.Offers.{numbers_apart}
-use Rattle.context_instance.specs.Doubles.{LinksBeside}
+use Rattle.context_instance.specs.Doubles.{LinksBeside, MainIsUntrusted}
 use Rattle.callback_instance.specs.Passes.{passes, stores, TwoPassers}
 use Rattle.callback_instance.proofs.Modules.{limits, limits_too, resolved, resolved_too, differ}
 use Rattle.context_instance.proofs.Offers.{parts_of, main}
@@ -24,6 +24,10 @@ links_there = record {
   sources = passes_sources;
   sources_too = stores_sources;
   beside = beside;
+}
+
+abbrev pub main_there : MainIsUntrusted links_there
+main_there = record {
   main = main;
   main_is = passes_main;
   main_too = stores_main;
@@ -45,4 +49,5 @@ two_passers law alike = record {
       alike by_number numbers_apart (passes ∷ []) (stores ∷ []) parts parts' size s s' is is' src src' b
       (mean_the_same size) (end_the_same size);
   there = links_there;
+  main = main_there;
 }

@@ -55,7 +55,7 @@ use Rattle.callback_instance.specs.Passes.{passes, stores, asked}
 use Rattle.callback_instance.specs.CalledBack.{RunCallsBack, PassersCallBack}
 use Rattle.callback_instance.proofs.Links.{passes_start, passes_sites, one_links}
 use Rattle.callback_instance.proofs.Means.{mean_the_same}
-use Rattle.callback_instance.proofs.Apart.{links_there}
+use Rattle.callback_instance.proofs.Apart.{links_there, main_there}
 use Rattle.callback_instance.proofs.Run.{P, L, K, its_code, its_data, stack, beginning, entering, entered}
 use Rattle.callback_instance.proofs.Run.{calling, pushed, frame, called, answering, site, answered, leaving}
 use Rattle.callback_instance.proofs.Run.{left, computed, crossed}
@@ -352,6 +352,7 @@ passers_call_back law =
     let r = both.0.2.begins sides.begins run.steps run.last (run.first ∷ run.second ∷ []) run.path in
     record {
       there = t;
+      main = main_there;
       one = run;
       names = both.0.0;
       by_names = both.0.1;

@@ -13,7 +13,7 @@ use Rattle.source_starts.specs.Sources.{linked_at}
 use Rattle.context_laws.specs.Related.{SameNames}
 use Rattle.context_laws.specs.Lockstep.{Round, Path, InStep}
 use Rattle.context_laws.specs.Meanings.{by_number, GoByNames, items_in}
-use Rattle.context_instance.specs.Doubles.{LinksBeside}
+use Rattle.context_instance.specs.Doubles.{LinksBeside, MainIsUntrusted}
 use Rattle.callback_instance.specs.Passes.{asked, passes, stores}
 
 -- by a round trusted code calls out by a pair, with a number
@@ -52,6 +52,7 @@ pub record RunCallsBack (s : StartSeen) : Type 0 where
 -- with it, in which the same items come in, and which halts too.
 pub record PassersCallBack : Type 0 where
   pub there : LinksBeside passes stores
+  pub main : MainIsUntrusted there
   pub one : RunCallsBack there.start
   pub names : SameNames (linked_at there.parts there.size there.start)
       (linked_at there.parts_too there.size there.start_too)

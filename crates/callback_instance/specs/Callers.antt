@@ -1,8 +1,5 @@
 -- Two modules that have main themselves: it calls out, and halts with what is answered.
-use Rattle.std.specs.Prelude.{◌≡◌, ◌≢◌, ℕ, pos, false, true, [], ◌∷◌, List, map}
-use Rattle.component_linker.specs.Parts.{PartSeen}
-use Rattle.component_linker.specs.Started.{StartSeen}
-use Rattle.component_linker.specs.LinkedStarts.{IsStartOf}
+use Rattle.std.specs.Prelude.{◌≡◌, ◌≢◌, ℕ, pos, false, true, [], ◌∷◌, map}
 use Rattle.overlay_machine.specs.Starting.{overlay_at}
 use Rattle.trace_tool.specs.Cuts.{is_inside}
 use Rattle.trace_tool.specs.Layout.{layout}
@@ -14,11 +11,12 @@ use Rattle.proc_names.specs.NameFaults.{name_faults}
 use Rattle.proc_program.specs.Lower.{part_of}
 use Rattle.proc_templates.specs.Compiled.{compiled}
 use Rattle.template_runs.specs.Border.{Opened}
-use Rattle.source_starts.specs.Sources.{AreSources, linked_at}
+use Rattle.source_starts.specs.Sources.{linked_at}
 use Rattle.context_laws.specs.Related.{SameNames, Calls}
 use Rattle.context_laws.specs.Lockstep.{Round, SameCrossing}
-use Rattle.context_laws.specs.Sources.{AreBeside, IsFirst}
+use Rattle.context_laws.specs.Sources.{IsFirst}
 use Rattle.context_laws.specs.Meanings.{by_number, MeanTheSame, GoByNames, GoesInStep}
+use Rattle.context_instance.specs.Doubles.{LinksBeside}
 use Rattle.callback_instance.specs.Passes.{lettered}
 use Rattle.callback_instance.specs.CalledBack.{CallsWith}
 
@@ -62,29 +60,20 @@ pub record CallersLetGo : Type 0 where
   pub resolved : (name_faults says ≡ []) × (name_faults adds ≡ [])
   pub differ : compiled says ≢ compiled adds
   pub same : (size : ℕ) → MeanTheSame by_number (map part_of (says ∷ [])) (map part_of (adds ∷ [])) size
-  pub parts : List PartSeen
-  pub parts_too : List PartSeen
-  pub size : ℕ
-  pub start : StartSeen
-  pub start_too : StartSeen
-  pub is : IsStartOf parts size start
-  pub is_too : IsStartOf parts_too size start_too
-  pub sources : AreSources (says ∷ []) parts
-  pub sources_too : AreSources (adds ∷ []) parts_too
-  pub beside : AreBeside (linked_at parts size start) (linked_at parts_too size start_too)
-  pub inside : is_inside (layout start) (overlay_at start).state ≡ true
-  pub inside_too : is_inside (layout start_too) (overlay_at start_too).state ≡ true
+  pub there : LinksBeside says adds
+  pub inside : is_inside (layout there.start) (overlay_at there.start).state ≡ true
+  pub inside_too : is_inside (layout there.start_too) (overlay_at there.start_too).state ≡ true
   pub first : Round
-  pub lets_go : IsFirst start first
+  pub lets_go : IsFirst there.start first
   pub pair : Opened
-  pub calls : CallsWith (layout start) pair (pos 6) first
-  pub names : SameNames (linked_at parts size start) (linked_at parts_too size start_too)
+  pub calls : CallsWith (layout there.start) pair (pos 6) first
+  pub names : SameNames (linked_at there.parts there.size there.start)
+      (linked_at there.parts_too there.size there.start_too)
   pub by_names : GoByNames by_number names
   pub first_too : Round
-  pub lets_go_too : IsFirst start_too first_too
+  pub lets_go_too : IsFirst there.start_too first_too
   pub in_both : Calls
-  pub shows : SameCrossing (linked_at parts size start) (linked_at parts_too size start_too) names [] first
-      first_too in_both
-  pub on : GoesInStep by_number (linked_at parts size start) (linked_at parts_too size start_too) names
-      in_both
-      first.after first_too.after
+  pub shows : SameCrossing (linked_at there.parts there.size there.start)
+      (linked_at there.parts_too there.size there.start_too) names [] first first_too in_both
+  pub on : GoesInStep by_number (linked_at there.parts there.size there.start)
+      (linked_at there.parts_too there.size there.start_too) names in_both first.after first_too.after

@@ -23,7 +23,7 @@ use Rattle.context_laws.specs.Sources.{AreBeside}
 use Rattle.context_laws.specs.Meanings.{Came, observed, by_number, MeanTheSame, DoesTheSame}
 use Rattle.context_laws.specs.Meanings as observing
 use Rattle.context_laws.specs.Ends.{EndTheSame, RunsEndAlike}
-use Rattle.context_instance.specs.Doubles.{LinksBeside}
+use Rattle.context_instance.specs.Doubles.{LinksBeside, MainIsUntrusted}
 
 abbrev pub lettered : ℕ → Name
 lettered letter = record { text = letter ∷ []; at = 0 }
@@ -123,3 +123,4 @@ pub record TwoPassers : Type 0 where
       → IsStartOf parts' size s' → AreSources (passes ∷ []) parts → AreSources (stores ∷ []) parts'
       → AreBeside (linked_at parts size s) (linked_at parts' size s') → RunsEndAlike s s'
   pub there : LinksBeside passes stores
+  pub main : MainIsUntrusted there

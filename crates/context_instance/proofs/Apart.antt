@@ -35,6 +35,8 @@ two_ways law alike = record {
     sources = sums_sources;
     sources_too = keeps_sources;
     beside = beside;
+  };
+  main = record {
     main = main;
     main_is = sums_main;
     main_too = keeps_main;

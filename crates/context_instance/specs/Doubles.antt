@@ -88,7 +88,7 @@ keeps = record {
   } ∷ [];
 }
 
--- links of both, beside each other, with the same main, which is untrusted
+-- links of both, beside each other
 pub record LinksBeside (one other : ModuleFields) : Type 0 where
   pub parts : List PartSeen
   pub parts_too : List PartSeen
@@ -100,9 +100,12 @@ pub record LinksBeside (one other : ModuleFields) : Type 0 where
   pub sources : AreSources (one ∷ []) parts
   pub sources_too : AreSources (other ∷ []) parts_too
   pub beside : AreBeside (linked_at parts size start) (linked_at parts_too size start_too)
+
+-- main is in both the same untrusted part's
+pub record MainIsUntrusted {one other : ModuleFields} (there : LinksBeside one other) : Type 0 where
   pub main : Exported
-  pub main_is : main_of (placed parts size) ≡ Some main
-  pub main_too : main_of (placed parts_too size) ≡ Some main
+  pub main_is : main_of (placed there.parts there.size) ≡ Some main
+  pub main_too : main_of (placed there.parts_too there.size) ≡ Some main
   pub untrusted : main.part.trusted ≡ false
 
 -- Both are modules whose names are resolved, and their components differ; but they mean the same and end the
@@ -124,3 +127,4 @@ pub record TwoWays : Type 0 where
       → IsStartOf parts' size s' → AreSources (sums ∷ []) parts → AreSources (keeps ∷ []) parts'
       → AreBeside (linked_at parts size s) (linked_at parts' size s') → RunsEndAlike s s'
   pub there : LinksBeside sums keeps
+  pub main : MainIsUntrusted there
