@@ -1,13 +1,12 @@
 -- The law: two ways to call a callback are one to code outside.
-use Rattle.std.proofs.Common.{[], ◌∷◌, refl}
+use Rattle.std.proofs.Common.{refl}
 use Rattle.proc_templates.specs.Compiled.{compiled}
-use Rattle.context_laws.specs.Meanings.{by_number, SameMeaningsAreNotToldApart}
+use Rattle.context_laws.specs.Meanings.{SameMeaningsAreNotToldApart}
 use Rattle.context_laws.specs.Ends.{SameMeaningsEndAlike}
-use Rattle.context_laws.proofs.Offers.{numbers_apart}
 use Rattle.context_instance.specs.Doubles.{LinksBeside, MainIsUntrusted}
 use Rattle.callback_instance.specs.Passes.{passes, stores, TwoPassers}
 use Rattle.callback_instance.proofs.Modules.{limits, limits_too, resolved, resolved_too, differ}
-use Rattle.context_instance.proofs.Offers.{parts_of, main}
+use Rattle.context_instance.proofs.Offers.{parts_of, main, are_one}
 use Rattle.callback_instance.proofs.Links.{passes_start, stores_start, passes_starts, stores_starts, beside}
 use Rattle.callback_instance.proofs.Links.{passes_sources, stores_sources, passes_main, stores_main}
 use Rattle.callback_instance.proofs.Means.{mean_the_same, end_the_same, calls}
@@ -36,18 +35,8 @@ main_there = record {
 
 pub two_passers : SameMeaningsAreNotToldApart → SameMeaningsEndAlike → TwoPassers
 two_passers law alike = record {
-  limits = (limits, limits_too);
-  resolved = (resolved, resolved_too);
-  differ = differ;
+  are_one =
+      are_one law alike (limits, limits_too) (resolved, resolved_too) differ mean_the_same end_the_same
+      links_there main_there;
   calls = calls;
-  same = mean_the_same;
-  ends = end_the_same;
-  apart = λ parts parts' size s s' is is' src src' b p u.
-      law by_number numbers_apart (passes ∷ []) (stores ∷ []) parts parts' size s s' is is' src src' b p u
-      (mean_the_same size);
-  alike = λ parts parts' size s s' is is' src src' b.
-      alike by_number numbers_apart (passes ∷ []) (stores ∷ []) parts parts' size s s' is is' src src' b
-      (mean_the_same size) (end_the_same size);
-  there = links_there;
-  main = main_there;
 }

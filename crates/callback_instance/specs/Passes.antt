@@ -1,29 +1,19 @@
 -- Two modules that pass a number to a callback, in two ways.
-use Rattle.std.specs.Prelude.{◌≡◌, ◌≢◌, ℕ, pos, false, true, [], ◌∷◌, List, map, Some, None}
-use Rattle.component_linker.specs.Parts.{PartSeen}
-use Rattle.component_linker.specs.Started.{StartSeen}
-use Rattle.component_linker.specs.LinkedStarts.{IsStartOf}
-use Rattle.overlay_machine.specs.Link.{IsUntrusted}
+use Rattle.std.specs.Prelude.{◌≡◌, ℕ, pos, false, true, [], ◌∷◌, List, map, Some, None}
 use Rattle.proc_language.specs.declared.tree.Name.{Name}
 use Rattle.proc_language.specs.declared.tree.Op.TheVariants.{Plus}
 use Rattle.proc_language.specs.declared.module.ModuleFields.{ModuleFields}
 use Rattle.proc_language.specs.declared.module.Proc.{Proc}
 use Rattle.proc_language.specs.Tree.{Stmt, var, op, call, value, no_args, set, return}
-use Rattle.proc_language.specs.Limits.{IsModule}
-use Rattle.proc_names.specs.NameFaults.{name_faults}
 use Rattle.proc_program.specs.Lower.{part_of}
-use Rattle.proc_templates.specs.Compiled.{compiled}
 use Rattle.source_events.specs.declared.Item.{Item}
 use Rattle.source_events.specs.declared.Item.TheVariants.{Enter, Ret}
 use Rattle.source_events.specs.declared.FeedPair.TheVariants as fed
 use Rattle.source_events.specs.declared.FeedBack.TheVariants as way
 use Rattle.proc_semantics.specs.Marked.{Event, Calls, Leaves, Number}
-use Rattle.source_starts.specs.Sources.{AreSources, linked_at}
-use Rattle.context_laws.specs.Sources.{AreBeside}
-use Rattle.context_laws.specs.Meanings.{Came, observed, by_number, MeanTheSame, DoesTheSame}
+use Rattle.context_laws.specs.Meanings.{Came, observed}
 use Rattle.context_laws.specs.Meanings as observing
-use Rattle.context_laws.specs.Ends.{EndTheSame, RunsEndAlike}
-use Rattle.context_instance.specs.Doubles.{LinksBeside, MainIsUntrusted}
+use Rattle.context_instance.specs.Doubles.{AreOne}
 
 abbrev pub lettered : ℕ → Name
 lettered letter = record { text = letter ∷ []; at = 0 }
@@ -103,24 +93,7 @@ called_and_left =
     (Number (pos 6) ∷ Number (pos 0) ∷ Number (pos 0) ∷ Number (pos 0) ∷ [])
     ∷ Leaves (116 ∷ []) (pos 9) (Some 1) 0 ∷ []
 
--- Both are modules whose names are resolved, and their components differ; the first calls out, on some feed;
--- but they mean the same and end the same way, so that they can't be told apart, and whole plain runs end
--- alike, whatever untrusted parts are linked beside them; and there are links of both.
+-- They are one to code outside; and the first calls out, on some feed.
 pub record TwoPassers : Type 0 where
-  pub limits : IsModule passes × IsModule stores
-  pub resolved : (name_faults passes ≡ []) × (name_faults stores ≡ [])
-  pub differ : compiled passes ≢ compiled stores
+  pub are_one : AreOne passes stores
   pub calls : (size : ℕ) → observed (map part_of (passes ∷ [])) size asked 40 ≡ called_and_left
-  pub same : (size : ℕ) → MeanTheSame by_number (map part_of (passes ∷ [])) (map part_of (stores ∷ [])) size
-  pub ends : (size : ℕ) → EndTheSame by_number (map part_of (passes ∷ [])) (map part_of (stores ∷ [])) size
-  pub apart : (parts parts' : List PartSeen) (size : ℕ) (s s' : StartSeen) → IsStartOf parts size s
-      → IsStartOf parts' size s' → AreSources (passes ∷ []) parts → AreSources (stores ∷ []) parts'
-      → AreBeside (linked_at parts size s) (linked_at parts' size s')
-      → (p : PartSeen) → IsUntrusted (linked_at parts size s) p
-      → DoesTheSame by_number (linked_at parts size s) (linked_at parts' size s') s s'
-      × DoesTheSame by_number (linked_at parts' size s') (linked_at parts size s) s' s
-  pub alike : (parts parts' : List PartSeen) (size : ℕ) (s s' : StartSeen) → IsStartOf parts size s
-      → IsStartOf parts' size s' → AreSources (passes ∷ []) parts → AreSources (stores ∷ []) parts'
-      → AreBeside (linked_at parts size s) (linked_at parts' size s') → RunsEndAlike s s'
-  pub there : LinksBeside passes stores
-  pub main : MainIsUntrusted there

@@ -5,3 +5,5 @@ pub use Rattle.context_instance.proofs.Links.{adversary, adversary_fits, adversa
 pub use Rattle.context_instance.proofs.Links.{parts_of, each_with}
 pub use Rattle.context_instance.proofs.Beginnings.{main, regions_are, stack, Links, start, is_linked}
 pub use Rattle.context_instance.proofs.Beginnings.{is_start_of, other_there, main_there, beside_of}
+-- modules that are one to code outside
+pub use Rattle.context_instance.proofs.Apart.{are_one}

@@ -108,23 +108,27 @@ pub record MainIsUntrusted {one other : ModuleFields} (there : LinksBeside one o
   pub main_too : main_of (placed there.parts_too there.size) ≡ Some main
   pub untrusted : main.part.trusted ≡ false
 
--- Both are modules whose names are resolved, and their components differ; but they mean the same and end the
--- same way, so that they can't be told apart and whole runs end alike, whatever untrusted parts are linked
--- beside them; and there are links of both.
-pub record TwoWays : Type 0 where
-  pub limits : IsModule sums × IsModule keeps
-  pub resolved : (name_faults sums ≡ []) × (name_faults keeps ≡ [])
-  pub differ : compiled sums ≢ compiled keeps
-  pub same : (size : ℕ) → MeanTheSame by_number (map part_of (sums ∷ [])) (map part_of (keeps ∷ [])) size
-  pub ends : (size : ℕ) → EndTheSame by_number (map part_of (sums ∷ [])) (map part_of (keeps ∷ [])) size
+-- Two modules whose names are resolved, and of which the components differ; but they mean the same and end the
+-- same way, so that they can't be told apart and whole plain runs end alike, whatever untrusted parts are
+-- linked beside them; and there are links of both, in which main is untrusted.
+pub record AreOne (one other : ModuleFields) : Type 0 where
+  pub limits : IsModule one × IsModule other
+  pub resolved : (name_faults one ≡ []) × (name_faults other ≡ [])
+  pub differ : compiled one ≢ compiled other
+  pub same : (size : ℕ) → MeanTheSame by_number (map part_of (one ∷ [])) (map part_of (other ∷ [])) size
+  pub ends : (size : ℕ) → EndTheSame by_number (map part_of (one ∷ [])) (map part_of (other ∷ [])) size
   pub apart : (parts parts' : List PartSeen) (size : ℕ) (s s' : StartSeen) → IsStartOf parts size s
-      → IsStartOf parts' size s' → AreSources (sums ∷ []) parts → AreSources (keeps ∷ []) parts'
+      → IsStartOf parts' size s' → AreSources (one ∷ []) parts → AreSources (other ∷ []) parts'
       → AreBeside (linked_at parts size s) (linked_at parts' size s')
       → (p : PartSeen) → IsUntrusted (linked_at parts size s) p
       → DoesTheSame by_number (linked_at parts size s) (linked_at parts' size s') s s'
       × DoesTheSame by_number (linked_at parts' size s') (linked_at parts size s) s' s
   pub alike : (parts parts' : List PartSeen) (size : ℕ) (s s' : StartSeen) → IsStartOf parts size s
-      → IsStartOf parts' size s' → AreSources (sums ∷ []) parts → AreSources (keeps ∷ []) parts'
+      → IsStartOf parts' size s' → AreSources (one ∷ []) parts → AreSources (other ∷ []) parts'
       → AreBeside (linked_at parts size s) (linked_at parts' size s') → RunsEndAlike s s'
-  pub there : LinksBeside sums keeps
+  pub there : LinksBeside one other
   pub main : MainIsUntrusted there
+
+-- so it is of these two
+abbrev pub TwoWays : Type 0
+TwoWays = AreOne sums keeps
