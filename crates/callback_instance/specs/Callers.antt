@@ -1,5 +1,5 @@
 -- Two modules that have main themselves: it calls out, and halts with what is answered.
-use Rattle.std.specs.Prelude.{◌≡◌, ◌≢◌, ℕ, pos, false, true, [], ◌∷◌, map}
+use Rattle.std.specs.Prelude.{◌≡◌, ◌≢◌, ℕ, pos, true, [], ◌∷◌, map}
 use Rattle.overlay_machine.specs.Starting.{overlay_at}
 use Rattle.trace_tool.specs.Cuts.{is_inside}
 use Rattle.trace_tool.specs.Layout.{layout}
@@ -16,33 +16,15 @@ use Rattle.context_laws.specs.Related.{SameNames, Calls}
 use Rattle.context_laws.specs.Lockstep.{Round, SameCrossing}
 use Rattle.context_laws.specs.Sources.{IsFirst}
 use Rattle.context_laws.specs.Meanings.{by_number, MeanTheSame, GoByNames, GoesInStep}
-use Rattle.context_instance.specs.Doubles.{LinksBeside}
-use Rattle.callback_instance.specs.Passes.{lettered}
+use Rattle.context_instance.specs.Doubles.{named, g, exporting, module_t, LinksBeside}
 use Rattle.callback_instance.specs.CalledBack.{CallsWith}
 
 -- module t; import u.g/1; export proc main() { halt g(e); }
 abbrev pub caller : Expr → ModuleFields
-caller e = record {
-  at = 0;
-  name = lettered 116;
-  code = 1;
-  data_base = 200;
-  closure = 10;
-  returns = 12;
-  return_count = 1;
-  stack = 300;
-  movable = false;
-  imports = record { at = 0; part = lettered 117; name = lettered 103; arity = 1 } ∷ [];
-  globals = [];
-  procs = record {
-    at = 0;
-    shared = true;
-    name = record { text = 109 ∷ 97 ∷ 105 ∷ 110 ∷ []; at = 0 };
-    params = [];
-    locals = [];
-    body = halt 0 (call 0 (lettered 103) (value e no_args)) ∷ [];
-  } ∷ [];
-}
+caller e =
+    module_t 1 (record { at = 0; part = named 117; name = g; arity = 1 } ∷ []) []
+    (exporting (record { text = 109 ∷ 97 ∷ 105 ∷ 110 ∷ []; at = 0 }) []
+    (halt 0 (call 0 g (value e no_args)) ∷ []))
 
 -- with 6, and with 3 + 3
 abbrev pub says : ModuleFields

@@ -1,10 +1,10 @@
 -- Two modules that pass a number to a callback, in two ways.
-use Rattle.std.specs.Prelude.{◌≡◌, ℕ, pos, false, true, [], ◌∷◌, List, map, Some, None}
+use Rattle.std.specs.Prelude.{◌≡◌, ℕ, pos, [], ◌∷◌, List, map, Some, None}
 use Rattle.proc_language.specs.declared.tree.Name.{Name}
 use Rattle.proc_language.specs.declared.tree.Op.TheVariants.{Plus}
 use Rattle.proc_language.specs.declared.module.ModuleFields.{ModuleFields}
 use Rattle.proc_language.specs.declared.module.Proc.{Proc}
-use Rattle.proc_language.specs.Tree.{Stmt, var, op, call, value, no_args, set, return}
+use Rattle.proc_language.specs.Tree.{Expr, Stmt, var, op, call, value, no_args, set, return}
 use Rattle.proc_program.specs.Lower.{part_of}
 use Rattle.source_events.specs.declared.Item.{Item}
 use Rattle.source_events.specs.declared.Item.TheVariants.{Enter, Ret}
@@ -13,70 +13,31 @@ use Rattle.source_events.specs.declared.FeedBack.TheVariants as way
 use Rattle.proc_semantics.specs.Marked.{Event, Calls, Leaves, Number}
 use Rattle.context_laws.specs.Meanings.{Came, observed}
 use Rattle.context_laws.specs.Meanings as observing
-use Rattle.context_instance.specs.Doubles.{AreOne}
+use Rattle.context_instance.specs.Doubles.{named, x, g, exporting, module_t, global_g, AreOne}
 
-abbrev pub lettered : ℕ → Name
-lettered letter = record { text = letter ∷ []; at = 0 }
-
--- x, p and g
-abbrev pub the_number : Name
-the_number = lettered 120
-
-abbrev pub the_callback : Name
-the_callback = lettered 112
-
-abbrev pub the_global : Name
-the_global = lettered 103
+-- the parameter p
+abbrev pub p : Name
+p = named 112
 
 -- export proc f(x, p/1) with a body
 abbrev pub passer : List Stmt → Proc
-passer body = record {
-  at = 0;
-  shared = true;
-  name = lettered 102;
-  params = record { name = the_number; arity = None } ∷ record { name = the_callback; arity = Some 1 } ∷ [];
-  locals = [];
-  body = body;
-}
+passer body =
+    exporting (named 102)
+    (record { name = x; arity = None } ∷ record { name = p; arity = Some 1 } ∷ []) body
+
+-- return p(e);
+abbrev pub passing : Expr → Stmt
+passing e = return 0 (call 0 p (value e no_args))
 
 -- module t; export proc f(x, p/1) { return p(x + x); }
 abbrev pub passes : ModuleFields
-passes = record {
-  at = 0;
-  name = lettered 116;
-  code = 1;
-  data_base = 200;
-  closure = 10;
-  returns = 12;
-  return_count = 1;
-  stack = 300;
-  movable = false;
-  imports = [];
-  globals = [];
-  procs = passer
-      (return 0 (call 0 the_callback (value (op 0 Plus (var 0 the_number) (var 0 the_number)) no_args)) ∷ [])
-      ∷ [];
-}
+passes = module_t 1 [] [] (passer (passing (op 0 Plus (var 0 x) (var 0 x)) ∷ []))
 
 -- module t; global g; export proc f(x, p/1) { g = x; return p(g + x); }
 abbrev pub stores : ModuleFields
-stores = record {
-  at = 0;
-  name = lettered 116;
-  code = 1;
-  data_base = 200;
-  closure = 10;
-  returns = 12;
-  return_count = 1;
-  stack = 300;
-  movable = false;
-  imports = [];
-  globals = record { at = 0; name = the_global; length = None; initial = None } ∷ [];
-  procs = passer
-      (set 0 the_global (var 0 the_number)
-      ∷ return 0 (call 0 the_callback (value (op 0 Plus (var 0 the_global) (var 0 the_number)) no_args)) ∷ [])
-      ∷ [];
-}
+stores =
+    module_t 1 [] global_g
+    (passer (set 0 g (var 0 x) ∷ passing (op 0 Plus (var 0 g) (var 0 x)) ∷ []))
 
 -- code outside enters f with 3, a pair of its own and 8 words of the stack, to which it will leave; then the
 -- call of the callback is answered with 9

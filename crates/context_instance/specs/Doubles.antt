@@ -9,6 +9,10 @@ use Rattle.overlay_machine.specs.Link.{IsUntrusted}
 use Rattle.proc_language.specs.declared.tree.Name.{Name}
 use Rattle.proc_language.specs.declared.tree.Op.TheVariants.{Plus, Equal}
 use Rattle.proc_language.specs.declared.module.ModuleFields.{ModuleFields}
+use Rattle.proc_language.specs.declared.module.ModuleImport.{ModuleImport}
+use Rattle.proc_language.specs.declared.module.Global.{Global}
+use Rattle.proc_language.specs.declared.module.Param.{Param}
+use Rattle.proc_language.specs.declared.module.Proc.{Proc}
 use Rattle.proc_language.specs.Tree.{Stmt, number, var, op, set, if_then, return, stmt, no_stmts}
 use Rattle.proc_language.specs.Limits.{IsModule}
 use Rattle.proc_names.specs.NameFaults.{name_faults}
@@ -40,55 +44,45 @@ by_global =
     ∷ if_then 0 (op 0 Equal (var 0 g) (var 0 x)) (stmt (return 0 (op 0 Plus (var 0 g) (var 0 x))) no_stmts)
     ∷ return 0 (number 0 0) ∷ []
 
--- module t; export proc f(x) { return x + x; }
-abbrev pub sums : ModuleFields
-sums = record {
+-- export proc of a name, with parameters and a body
+abbrev pub exporting : Name → List Param → List Stmt → Proc
+exporting name params body =
+    record { at = 0; shared = true; name = name; params = params; locals = []; body = body }
+
+-- module t code 1 data 200 closure 10 returns 12 n stack 300; with imports, globals and one procedure
+abbrev pub module_t : ℕ → List ModuleImport → List Global → Proc → ModuleFields
+module_t returns imports globals p = record {
   at = 0;
   name = named 116;
   code = 1;
   data_base = 200;
   closure = 10;
   returns = 12;
-  return_count = 0;
+  return_count = returns;
   stack = 300;
   movable = false;
-  imports = [];
-  globals = [];
-  procs = record {
-    at = 0;
-    shared = true;
-    name = named 102;
-    params = record { name = x; arity = None } ∷ [];
-    locals = [];
-    body = by_sum;
-  } ∷ [];
+  imports = imports;
+  globals = globals;
+  procs = p ∷ [];
 }
+
+-- global g;
+abbrev pub global_g : List Global
+global_g = record { at = 0; name = g; length = None; initial = None } ∷ []
+
+-- export proc f(x) with a body
+abbrev pub doubling : List Stmt → Proc
+doubling body = exporting (named 102) (record { name = x; arity = None } ∷ []) body
+
+-- module t; export proc f(x) { return x + x; }
+abbrev pub sums : ModuleFields
+sums = module_t 0 [] [] (doubling by_sum)
 
 -- module t; global g; export proc f(x) { g = x; if (g == x) { return g + x; } return 0; }
 abbrev pub keeps : ModuleFields
-keeps = record {
-  at = 0;
-  name = named 116;
-  code = 1;
-  data_base = 200;
-  closure = 10;
-  returns = 12;
-  return_count = 0;
-  stack = 300;
-  movable = false;
-  imports = [];
-  globals = record { at = 0; name = g; length = None; initial = None } ∷ [];
-  procs = record {
-    at = 0;
-    shared = true;
-    name = named 102;
-    params = record { name = x; arity = None } ∷ [];
-    locals = [];
-    body = by_global;
-  } ∷ [];
-}
+keeps = module_t 0 [] global_g (doubling by_global)
 
--- links of both, beside each other
+-- links of two modules, beside each other
 pub record LinksBeside (one other : ModuleFields) : Type 0 where
   pub parts : List PartSeen
   pub parts_too : List PartSeen

@@ -1,5 +1,5 @@
 -- Modules that mean the same and don't end the same way.
-use Rattle.std.specs.Prelude.{◌≡◌, ℕ, false, true, [], ◌∷◌, map}
+use Rattle.std.specs.Prelude.{◌≡◌, ℕ, [], ◌∷◌, map}
 use Rattle.proc_language.specs.declared.module.ModuleFields.{ModuleFields}
 use Rattle.proc_language.specs.Tree.{number, halt}
 use Rattle.proc_language.specs.Limits.{IsModule}
@@ -7,31 +7,11 @@ use Rattle.proc_names.specs.NameFaults.{name_faults}
 use Rattle.proc_program.specs.Lower.{part_of}
 use Rattle.context_laws.specs.Meanings.{by_number, MeanTheSame}
 use Rattle.context_laws.specs.Ends.{EndTheSame}
-use Rattle.context_instance.specs.Doubles.{named}
+use Rattle.context_instance.specs.Doubles.{named, exporting, module_t}
 
 -- module t; export proc f() { halt n; }
 abbrev pub halts : ℕ → ModuleFields
-halts n = record {
-  at = 0;
-  name = named 116;
-  code = 1;
-  data_base = 200;
-  closure = 10;
-  returns = 12;
-  return_count = 0;
-  stack = 300;
-  movable = false;
-  imports = [];
-  globals = [];
-  procs = record {
-    at = 0;
-    shared = true;
-    name = named 102;
-    params = [];
-    locals = [];
-    body = halt 0 (number 0 n) ∷ [];
-  } ∷ [];
-}
+halts n = module_t 0 [] [] (exporting (named 102) [] (halt 0 (number 0 n) ∷ []))
 
 -- two of them are modules whose names are resolved; nothing is observed of either on any feed, so they mean
 -- the same; and they don't end the same way
