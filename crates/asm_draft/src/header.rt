@@ -8,7 +8,7 @@ use std::alloc::Global;
 
 /// What the single items of a text say, but for those among the tables. Before its item came, a number is
 /// 0 and the name has no bytes.
-#[derive(Debug, Drop)]
+#[derive(Drop)]
 pub struct TextHeader {
     /// The part's name.
     pub name: Items<u8>,

@@ -11,7 +11,7 @@ use std::alloc::{AllocError, Global};
 
 /// The items behind the data of a text, in their order. An offset that was written as a label is that of
 /// the label, and 0 where there is none.
-#[derive(Debug, Drop)]
+#[derive(Drop)]
 pub struct Tables {
     /// What the part wants to call.
     pub imports: Vec<Import>,

@@ -37,7 +37,7 @@ fn with_sign(negative: bool, number: u64) -> Option<i64>
 /// place of the line's end.
 ///
 /// A call that answers a fault may have taken fields before.
-#[derive(Debug, Drop)]
+#[derive(Drop)]
 pub struct Fields<'a, 'b> {
     text: &'a [u8],
     rest: &'b [Token],

@@ -12,7 +12,7 @@ use crate::names;
 use lcm_isa::{Instr, Operand, Reg};
 
 /// The last operand of some instructions. A place is that of a label's sign.
-#[derive(Clone, Copy, Debug)]
+#[derive(Clone, Copy)]
 pub enum Last<'a> {
     /// A register or an immediate.
     Plain(Operand),
@@ -23,7 +23,7 @@ pub enum Last<'a> {
 }
 
 /// What operands an instruction has.
-#[derive(Clone, Copy, Debug)]
+#[derive(Clone, Copy)]
 pub struct Shape {
     /// How many registers come before the last operand.
     pub regs: u32,

@@ -14,7 +14,7 @@ use cap_words::{LAST_PLACE, LONGEST_STRETCH};
 use component_file::{Area, Kind, LAST_OFFSET};
 
 /// An offset in code or data.
-#[derive(Clone, Copy, Debug)]
+#[derive(Clone, Copy)]
 pub enum Offset<'a> {
     /// A number.
     Number(u32),
@@ -23,7 +23,7 @@ pub enum Offset<'a> {
 }
 
 /// What a register holds, in a row.
-#[derive(Clone, Copy, Debug)]
+#[derive(Clone, Copy)]
 pub enum KindField<'a> {
     /// A kind other than that of code.
     Plain(Kind),

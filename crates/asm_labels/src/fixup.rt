@@ -7,7 +7,6 @@ use lcm_isa::{Instr, Operand, decode, encode};
 
 /// A word of code that waits for a label: an instruction whose immediate is to be replaced. It must be
 /// spent, by `patch` or by `give_up`.
-#[derive(Debug)]
 pub struct Fixup {
     /// The word's offset in the code.
     pub word: u32,

@@ -465,7 +465,7 @@ impl Word {
 /// What most instructions read of a word. It may be copied; it gives no authority.
 ///
 /// Of a sealed word it has no more than the linearity: an instruction cannot see under the seal.
-#[derive(Clone, Copy, Debug, PartialEq, Eq)]
+#[derive(Clone, Copy, PartialEq, Eq)]
 pub enum Face {
     /// An integer.
     Number(i64),
@@ -599,7 +599,7 @@ impl Face {
 }
 
 /// What is said of a sealed word's content. It may be copied; it gives no authority.
-#[derive(Clone, Copy, Debug, PartialEq, Eq)]
+#[derive(Clone, Copy, PartialEq, Eq)]
 pub enum Content {
     /// The description of a memory capability.
     Mem(CapFields),
@@ -608,7 +608,7 @@ pub enum Content {
 }
 
 /// A sealed word, opened to read. It may be copied; it gives no authority.
-#[derive(Clone, Copy, Debug, PartialEq, Eq)]
+#[derive(Clone, Copy, PartialEq, Eq)]
 pub struct Opened {
     /// The seal that it is under.
     pub seal: u32,
@@ -696,7 +696,6 @@ impl MachineWord for Word {
 ///
 /// It is neither `Clone` nor `Drop`: a path that doesn't spend it, by [`Held::put_into`],
 /// [`Held::into_word`] or [`Held::give_up`], is a compile error.
-#[derive(Debug)]
 pub struct Held<W = Word> {
     word: W,
 }

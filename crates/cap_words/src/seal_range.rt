@@ -9,7 +9,7 @@ use std::marker::Model;
 ///
 /// The first is at most [`LAST_PLACE`], and there are at most [`LONGEST_STRETCH`]. Each value keeps
 /// this. That the range ends within the seals is no part of it.
-#[derive(Debug, Drop)]
+#[derive(Drop)]
 pub struct SealRange {
     base: u32,
     count: u32,

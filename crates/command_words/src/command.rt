@@ -5,7 +5,7 @@ use crate::number::{Seed, Steps};
 use crate::part::{PartWord, PartWords};
 
 /// What is run.
-#[derive(Debug, Drop)]
+#[derive(Drop)]
 pub enum Linked<'a> {
     /// Parts that are linked, with the size of their stack in words.
     Parts(PartWords<'a>, u32),
@@ -14,7 +14,7 @@ pub enum Linked<'a> {
 }
 
 /// What is done with what links.
-#[derive(Debug, Drop)]
+#[derive(Drop)]
 pub enum LinkDeed<'a> {
     /// `run`: the plain machine runs, for so many steps at most.
     Run(Steps),
@@ -27,7 +27,7 @@ pub enum LinkDeed<'a> {
 }
 
 /// What is done with one component.
-#[derive(Debug, Drop)]
+#[derive(Drop)]
 pub enum ComponentDeed<'a> {
     /// `asm`, `compile`: it is put into a file.
     Put(FileName<'a>),
@@ -36,7 +36,7 @@ pub enum ComponentDeed<'a> {
 }
 
 /// What a command line asks for: what is read, and what is done with it.
-#[derive(Debug, Drop)]
+#[derive(Drop)]
 pub enum Command<'a> {
     /// Parts that are linked, or an image.
     Links(Linked<'a>, LinkDeed<'a>),

@@ -10,7 +10,7 @@ use std::marker::Model;
 
 /// The name of a file, as a word gives it: 1 to [`LONGEST_NAME`] bytes, of which the first isn't
 /// `-`. A contract sees the bytes.
-#[derive(Debug, Drop)]
+#[derive(Drop)]
 pub struct FileName<'a> {
     text: &'a str,
 }

@@ -13,7 +13,7 @@ use std::alloc::{AllocError, Global};
 use std::marker::Model;
 
 /// What stands before a part's name.
-#[derive(Clone, Copy, Debug, PartialEq, Eq)]
+#[derive(Clone, Copy, PartialEq, Eq)]
 pub enum Mark {
     /// `t:`
     Trusted,
@@ -22,7 +22,7 @@ pub enum Mark {
 }
 
 /// What a part's name ends in, which says what its file holds.
-#[derive(Clone, Copy, Debug, PartialEq, Eq)]
+#[derive(Clone, Copy, PartialEq, Eq)]
 pub enum Ending {
     /// `.prc` or `.tok`, a source in this language.
     Source(Dialect),
@@ -68,7 +68,7 @@ impl Ending {
 }
 
 /// A part word: `t:NAME` or `u:NAME`, where NAME has one of the endings; a source with tokens is trusted.
-#[derive(Debug, Drop)]
+#[derive(Drop)]
 pub struct PartWord<'a> {
     /// Whether the part is trusted.
     pub mark: Mark,
@@ -79,7 +79,7 @@ pub struct PartWord<'a> {
 }
 
 /// The part words of a command, 1 to [`MOST_PARTS`] in their order. A contract sees the list.
-#[derive(Debug, Drop)]
+#[derive(Drop)]
 pub struct PartWords<'a> {
     words: Vec<PartWord<'a>>,
 }

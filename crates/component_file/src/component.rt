@@ -5,7 +5,7 @@ use cap_words::{Items, SealRange, Word};
 use std::marker::Model;
 
 /// So many addresses from a first one on; there may be none.
-#[derive(Clone, Copy, Debug, PartialEq, Eq)]
+#[derive(Clone, Copy, PartialEq, Eq)]
 pub struct Area {
     /// The first address.
     pub base: u32,
@@ -14,7 +14,7 @@ pub struct Area {
 }
 
 /// An export of another part, or of the part itself, that the part wants to call.
-#[derive(Debug, Drop)]
+#[derive(Drop)]
 pub struct Import {
     /// The name of the part that exports it.
     pub part: Items<u8>,
@@ -25,7 +25,7 @@ pub struct Import {
 }
 
 /// An entry of the part that others may call.
-#[derive(Debug, Drop)]
+#[derive(Drop)]
 pub struct Export {
     /// Its name.
     pub name: Items<u8>,
@@ -36,7 +36,7 @@ pub struct Export {
 }
 
 /// What a register of trusted code holds.
-#[derive(Clone, Copy, Debug, PartialEq, Eq)]
+#[derive(Clone, Copy, PartialEq, Eq)]
 pub enum Kind {
     /// A word that untrusted code may hold.
     Any,
@@ -53,7 +53,7 @@ pub enum Kind {
 }
 
 /// What the registers hold where the code reaches an offset, as the part declares it.
-#[derive(Clone, Copy, Debug, PartialEq, Eq)]
+#[derive(Clone, Copy, PartialEq, Eq)]
 pub struct KindRow {
     /// The offset in the code.
     pub offset: u32,
@@ -62,7 +62,7 @@ pub struct KindRow {
 }
 
 /// What a component is made of. It may break the limits; a [`Component`] keeps them.
-#[derive(Debug, Drop)]
+#[derive(Drop)]
 pub struct ComponentFields {
     /// The part's name.
     pub name: Items<u8>,
@@ -103,7 +103,7 @@ pub struct ComponentFields {
 /// It keeps the limits of docs/FORMATS.md: names are names, numbers and counts are within their
 /// bounds, the base of an empty range is 0, code and data have 1 to 65,536 words of which none is
 /// sealed, and lists are in their order. That offsets lie within code or data is no part of them.
-#[derive(Debug, Drop)]
+#[derive(Drop)]
 pub struct Component {
     fields: ComponentFields,
 }

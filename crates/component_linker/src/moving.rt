@@ -9,7 +9,7 @@ ghost use Rattle.component_linker.specs.Placing.{moved_word, moved_cap, moved_se
 use cap_words::{Cap, CapFields, LAST_PLACE, SealCap, SealFields, Word};
 
 /// Numbers from one on are moved to those from another on.
-#[derive(Clone, Copy, Debug)]
+#[derive(Clone, Copy)]
 pub(crate) struct Shift {
     /// The first number before.
     pub(crate) from: u32,
@@ -18,7 +18,7 @@ pub(crate) struct Shift {
 }
 
 /// How a part is moved.
-#[derive(Clone, Copy, Debug)]
+#[derive(Clone, Copy)]
 pub(crate) struct Move {
     /// Its addresses.
     pub(crate) addresses: Shift,

@@ -26,7 +26,7 @@ pub struct Site {
 }
 
 /// An entry of a part, under the name of its export.
-#[derive(Debug, Drop)]
+#[derive(Drop)]
 pub struct Entry {
     /// The name.
     pub name: Items<u8>,
@@ -58,7 +58,7 @@ pub struct Owner {
 }
 
 /// What a slot of a part's data names: an entry of another part, or of the part itself.
-#[derive(Debug, Drop)]
+#[derive(Drop)]
 pub struct CalledEntry {
     /// The name of the part that has the entry.
     pub part: Items<u8>,

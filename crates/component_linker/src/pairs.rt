@@ -4,7 +4,7 @@ ghost use Rattle.component_check.specs.Places.{first_place};
 ghost use Rattle.component_linker.specs.Pairs.{FirstInBy, once};
 
 /// A place in a part.
-#[derive(Clone, Copy, Debug, PartialEq, Eq)]
+#[derive(Clone, Copy, PartialEq, Eq)]
 pub struct PartPlace {
     /// The index of the part.
     pub part: u32,

@@ -13,7 +13,7 @@ use std::marker::Model;
 ///
 /// Each part keeps the rules C1 to C9 of docs/RULES.md, and where it is trusted C10 to C12 and the
 /// rules of the flow of its code, K1 to K10.
-#[derive(Debug, Drop)]
+#[derive(Drop)]
 pub struct Part {
     component: Component,
     trusted: bool,

@@ -56,7 +56,7 @@ impl<'a> Model for PlacedParts<'a> {
 }
 
 /// What is free: addresses from one on, and seals from one on.
-#[derive(Clone, Copy, Debug)]
+#[derive(Clone, Copy)]
 pub(crate) struct Free {
     /// The first address.
     pub(crate) address: u32,

@@ -11,7 +11,7 @@ use run_audit::AuditFault;
 use std::alloc::AllocError;
 
 /// What a refusal tells.
-#[derive(Clone, Copy, Debug, PartialEq, Eq)]
+#[derive(Clone, Copy, PartialEq, Eq)]
 pub enum DrawRefusal {
     /// The words are no command.
     Usage,
@@ -25,7 +25,7 @@ pub enum DrawRefusal {
 }
 
 /// Why a call goes no further.
-#[derive(Clone, Copy, Debug, PartialEq, Eq)]
+#[derive(Clone, Copy, PartialEq, Eq)]
 pub(crate) enum DrawStop {
     /// It is refused.
     Refused(DrawRefusal),

@@ -14,7 +14,7 @@ use command_words::FileName;
 use std::alloc::{AllocError, Global};
 
 /// A call of the program: whose text is drawn, and where the picture is put.
-#[derive(Debug, Drop)]
+#[derive(Drop)]
 pub struct DrawCall<'a> {
     /// The file of `--feed`.
     pub feed: FileName<'a>,

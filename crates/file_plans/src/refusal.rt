@@ -12,7 +12,7 @@ use std::alloc::{AllocError, AllocFailed};
 
 /// What a refusal tells. A part is told by its index among the part words, or in
 /// the image.
-#[derive(Clone, Copy, Debug, PartialEq, Eq)]
+#[derive(Clone, Copy, PartialEq, Eq)]
 pub enum Refusal {
     /// The words are no command.
     Usage,

@@ -81,7 +81,7 @@ pub enum Step {
 
 /// How a machine ended. A failure says its cause and pc's address, or -1 where pc holds no memory
 /// capability.
-#[derive(Clone, Copy, PartialEq, Eq, Debug)]
+#[derive(Clone, Copy, PartialEq, Eq)]
 pub enum End {
     Halted,
     Failed(FailCause, i64),

@@ -4,7 +4,7 @@ ghost use Rattle.std.specs.Prelude.{◌≡◌};
 use std::marker::Model;
 
 /// A procedure, named as `PART:EXPORT`.
-#[derive(Debug, Drop)]
+#[derive(Drop)]
 pub struct EntryName<'a> {
     /// The name of its part.
     pub part: &'a [u8],
@@ -21,7 +21,7 @@ impl<'a> Model for EntryName<'a> {
 }
 
 /// A call, named as `PART:SITE:BASE`.
-#[derive(Debug, Drop)]
+#[derive(Drop)]
 pub struct CallPlace<'a> {
     /// The name of its part.
     pub part: &'a [u8],

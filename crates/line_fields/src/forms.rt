@@ -10,7 +10,7 @@ use crate::number::natural_in;
 use cap_words::is_name;
 
 /// What a return would do.
-#[derive(Debug, Drop)]
+#[derive(Drop)]
 pub enum WayBack<'a> {
     /// It leaves trusted code.
     Out,
@@ -23,7 +23,7 @@ pub enum WayBack<'a> {
 }
 
 /// What two argument registers are as a closure pair.
-#[derive(Debug, Drop)]
+#[derive(Drop)]
 pub enum Handed<'a> {
     /// They are none.
     Nothing,

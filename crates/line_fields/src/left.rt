@@ -17,7 +17,7 @@ use std::marker::Model;
 /// What is left of a text that is cut at a mark. A contract sees the parts.
 ///
 /// Each call takes the next part. After a `None` nothing is said of what is left.
-#[derive(Debug, Drop)]
+#[derive(Drop)]
 pub struct Parts<'a> {
     mark: u8,
     rest: Option<&'a [u8]>,

@@ -21,7 +21,7 @@ use source_events::{Item, MeaningEnd};
 use std::alloc::Global;
 
 /// What `mean` writes, and how the meaning ended.
-#[derive(Debug, Drop)]
+#[derive(Drop)]
 pub struct Meaning {
     /// A line for each event, and the end line.
     pub text: Items<u8>,

@@ -31,7 +31,7 @@ use std::marker::Model;
 use trusted_border::{Event, Layout};
 
 /// What a step came to: that it went, with what is told of it, or how the machine ended.
-#[derive(Clone, Copy, PartialEq, Eq, Debug)]
+#[derive(Clone, Copy, PartialEq, Eq)]
 pub enum OStep {
     Went(Option<Event>),
     Halted,
@@ -39,7 +39,7 @@ pub enum OStep {
 }
 
 /// How an overlay machine ended.
-#[derive(Clone, Copy, PartialEq, Eq, Debug)]
+#[derive(Clone, Copy, PartialEq, Eq)]
 pub enum OEnd {
     Halted,
     Failed,

@@ -6,7 +6,7 @@ use cap_words::{CapFields, Content, Face, Lin, MachineWord, Opened, Perm, SealFi
 
 /// What a register or a cell of the overlay machine holds. A call leaves a pair of words, with which
 /// it can be returned to.
-#[derive(Debug, Drop)]
+#[derive(Drop)]
 pub enum OWord {
     /// A word of the plain machine.
     Plain(Word),

@@ -9,7 +9,7 @@ use cap_words::{Items, LAST_PLACE};
 use std::alloc::{AllocError, Global};
 
 // What may be done at a place.
-#[derive(Clone, Copy, Debug, PartialEq, Eq)]
+#[derive(Clone, Copy, PartialEq, Eq)]
 struct Rights {
     read: bool,
     write: bool,

@@ -28,7 +28,7 @@ use std::marker::Model;
 
 /// The words that are written so far, with the offsets of calls, entries and labels, and what the
 /// procedure that is being written needs to know of its part.
-#[derive(Debug, Drop)]
+#[derive(Drop)]
 pub(crate) struct Draft {
     code: Vec<Word>,
     sites: Vec<u32>,

@@ -1,7 +1,7 @@
 //! What parameters or locals take.
 
 /// What parameters or locals take.
-#[derive(Clone, Copy, Debug)]
+#[derive(Clone, Copy)]
 pub struct Taken {
     /// Registers, or slots of locals.
     pub slots: u32,

@@ -1,7 +1,7 @@
 //! The two languages.
 
 /// The language that a source is written in.
-#[derive(Clone, Copy, Debug, PartialEq, Eq)]
+#[derive(Clone, Copy, PartialEq, Eq)]
 pub enum Dialect {
     /// That of plain modules.
     Plain,

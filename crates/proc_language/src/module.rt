@@ -6,7 +6,7 @@ use cap_words::Items;
 use std::marker::Model;
 
 /// What another part exports under a name, to be called.
-#[derive(Debug, Drop)]
+#[derive(Drop)]
 pub struct ModuleImport {
     /// The place of `import`.
     pub at: u32,
@@ -19,7 +19,7 @@ pub struct ModuleImport {
 }
 
 /// A variable or an array of the module.
-#[derive(Debug, Drop)]
+#[derive(Drop)]
 pub struct Global {
     /// The place of `global`.
     pub at: u32,
@@ -32,7 +32,7 @@ pub struct Global {
 }
 
 /// A parameter of a procedure.
-#[derive(Debug, Drop)]
+#[derive(Drop)]
 pub struct Param {
     /// Its name.
     pub name: Name,
@@ -41,7 +41,7 @@ pub struct Param {
 }
 
 /// A procedure.
-#[derive(Debug, Drop)]
+#[derive(Drop)]
 pub struct Proc {
     /// The place of `export` or `proc`.
     pub at: u32,
@@ -58,7 +58,7 @@ pub struct Proc {
 }
 
 /// What a module is made of. It may break the limits; a [`Module`] keeps them.
-#[derive(Debug, Drop)]
+#[derive(Drop)]
 pub struct ModuleFields {
     /// The place of `module`.
     pub at: u32,
@@ -91,7 +91,7 @@ pub struct ModuleFields {
 /// It keeps the limits of docs/LANGUAGE.md on names, numbers and counts, has a procedure, and none
 /// of its names is a reserved word. How many terms a sum has and how many brackets are open is a
 /// matter of texts.
-#[derive(Debug, Drop)]
+#[derive(Drop)]
 pub struct Module {
     fields: ModuleFields,
 }

@@ -5,7 +5,7 @@ use cap_words::Items;
 use std::marker::Model;
 
 /// A name, and the place of its first byte.
-#[derive(Debug, Drop)]
+#[derive(Drop)]
 pub struct Name {
     /// Its bytes.
     pub text: Items<u8>,
@@ -14,7 +14,7 @@ pub struct Name {
 }
 
 /// What stands between two operands.
-#[derive(Clone, Copy, Debug, PartialEq, Eq)]
+#[derive(Clone, Copy, PartialEq, Eq)]
 pub enum Op {
     /// `+`
     Plus,
@@ -28,7 +28,7 @@ pub enum Op {
 
 /// An expression.
 #[cycle(expr)]
-#[derive(Debug, Drop)]
+#[derive(Drop)]
 pub struct Expr {
     /// The place of its first token.
     pub at: u32,
@@ -38,7 +38,7 @@ pub struct Expr {
 
 /// What an expression is.
 #[cycle(expr)]
-#[derive(Debug, Drop)]
+#[derive(Drop)]
 pub enum ExprKind {
     /// A number.
     Number(u32),
@@ -54,7 +54,7 @@ pub enum ExprKind {
 
 /// A call.
 #[cycle(expr)]
-#[derive(Debug, Drop)]
+#[derive(Drop)]
 pub struct Call {
     /// What is called.
     pub name: Name,
@@ -64,7 +64,7 @@ pub struct Call {
 
 /// An argument of a call.
 #[cycle(expr)]
-#[derive(Debug, Drop)]
+#[derive(Drop)]
 pub enum Arg {
     /// The value of an expression.
     Value(Expr),
@@ -93,7 +93,7 @@ impl Model for Expr {
 
 /// A statement.
 #[cycle(stmt)]
-#[derive(Debug, Drop)]
+#[derive(Drop)]
 pub struct Stmt {
     /// The place of its first token.
     pub at: u32,
@@ -103,7 +103,7 @@ pub struct Stmt {
 
 /// What a statement is.
 #[cycle(stmt)]
-#[derive(Debug, Drop)]
+#[derive(Drop)]
 pub enum StmtKind {
     /// A variable is set.
     Set(Name, Expr),

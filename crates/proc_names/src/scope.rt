@@ -9,7 +9,7 @@ use proc_language::{Global, ModuleFields, ModuleImport, Name, Param, Proc};
 
 /// What a name leads to, where it stands for a variable: each by its index in the lists of the
 /// procedure or the module.
-#[derive(Clone, Copy, Debug, PartialEq, Eq)]
+#[derive(Clone, Copy, PartialEq, Eq)]
 pub enum Variable {
     /// A parameter that is no callback.
     Param(usize),
@@ -27,7 +27,7 @@ pub enum Variable {
 
 /// What a name leads to, where it is called or passed on: each by its index in the lists of the
 /// procedure or the module.
-#[derive(Clone, Copy, Debug, PartialEq, Eq)]
+#[derive(Clone, Copy, PartialEq, Eq)]
 pub enum Callee {
     /// A callback among the parameters.
     Callback(usize),

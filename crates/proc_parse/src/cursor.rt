@@ -18,7 +18,7 @@ use text_scan::{Token, TokenKind};
 
 /// What is left of the tokens. A contract sees each with its place and bytes, and the place of the
 /// text's end.
-#[derive(Debug, Drop)]
+#[derive(Drop)]
 pub struct TokenCursor<'a, 'b> {
     text: &'a [u8],
     rest: &'b [Token],

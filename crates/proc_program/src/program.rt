@@ -6,7 +6,7 @@ use proc_language::Op;
 use std::marker::Model;
 
 /// What a name that is called, or passed on, stands for.
-#[derive(Clone, Copy, Debug, PartialEq, Eq)]
+#[derive(Clone, Copy, PartialEq, Eq)]
 pub enum Handle {
     /// A callback: the place of its first half among parameters and locals.
     Given(u32),
@@ -17,7 +17,7 @@ pub enum Handle {
 }
 
 /// What the name of a variable stands for.
-#[derive(Clone, Copy, Debug, PartialEq, Eq)]
+#[derive(Clone, Copy, PartialEq, Eq)]
 pub enum Location {
     /// A parameter or a local: parameters come first. A callback takes two places, all else one.
     Local(u32),
@@ -26,7 +26,7 @@ pub enum Location {
 }
 
 /// An array of the module: its first word among those of the globals, and its length.
-#[derive(Clone, Copy, Debug, PartialEq, Eq)]
+#[derive(Clone, Copy, PartialEq, Eq)]
 pub struct Array {
     /// The place of its first word.
     pub first: u32,
@@ -36,7 +36,7 @@ pub struct Array {
 
 /// An expression.
 #[cycle(exp)]
-#[derive(Debug, Drop)]
+#[derive(Drop)]
 pub struct Exp {
     /// What it is.
     pub kind: ExpKind,
@@ -44,7 +44,7 @@ pub struct Exp {
 
 /// What an expression is.
 #[cycle(exp)]
-#[derive(Debug, Drop)]
+#[derive(Drop)]
 pub enum ExpKind {
     /// A number.
     Number(u32),
@@ -60,7 +60,7 @@ pub enum ExpKind {
 
 /// A call.
 #[cycle(exp)]
-#[derive(Debug, Drop)]
+#[derive(Drop)]
 pub struct CallExp {
     /// Its number in the module: calls are numbered from 0 by the order of their closing brackets.
     pub site: u32,
@@ -72,7 +72,7 @@ pub struct CallExp {
 
 /// An argument.
 #[cycle(exp)]
-#[derive(Debug, Drop)]
+#[derive(Drop)]
 pub enum ArgExp {
     /// The value of an expression.
     Value(Exp),
@@ -101,7 +101,7 @@ impl Model for Exp {
 
 /// A statement.
 #[cycle(step)]
-#[derive(Debug, Drop)]
+#[derive(Drop)]
 pub struct Statement {
     /// What it is.
     pub kind: StatementKind,
@@ -109,7 +109,7 @@ pub struct Statement {
 
 /// What a statement is.
 #[cycle(step)]
-#[derive(Debug, Drop)]
+#[derive(Drop)]
 pub enum StatementKind {
     /// A variable is set.
     Set(Location, Exp),
@@ -147,7 +147,7 @@ impl Model for Statement {
 }
 
 /// What another part exports under a name.
-#[derive(Debug, Drop)]
+#[derive(Drop)]
 pub struct ProgramImport {
     /// The name of the part.
     pub part: Items<u8>,
@@ -156,7 +156,7 @@ pub struct ProgramImport {
 }
 
 /// A procedure as it runs.
-#[derive(Debug, Drop)]
+#[derive(Drop)]
 pub struct Procedure {
     /// Its name.
     pub name: Items<u8>,
@@ -173,7 +173,7 @@ pub struct Procedure {
 }
 
 /// Where a module's words stand, and its seals.
-#[derive(Clone, Copy, Debug, PartialEq, Eq)]
+#[derive(Clone, Copy, PartialEq, Eq)]
 pub struct Header {
     /// The address of the first code word.
     pub code: u32,
@@ -190,7 +190,7 @@ pub struct Header {
 }
 
 /// A module as it runs.
-#[derive(Debug, Drop)]
+#[derive(Drop)]
 pub struct Program {
     /// Its name.
     pub name: Items<u8>,

@@ -8,7 +8,7 @@ use proc_names::NameFault;
 use token_check::TokenFault;
 
 /// What is wrong with a source, or that memory was refused.
-#[derive(Clone, Copy, Debug, PartialEq, Eq)]
+#[derive(Clone, Copy, PartialEq, Eq)]
 pub enum SourceFault {
     /// The text spells no module.
     Text(ParseFault),

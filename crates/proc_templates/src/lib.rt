@@ -8,7 +8,7 @@
 pub mod laws;
 
 /// A procedure's frame, and where the data of its module begin.
-#[derive(Clone, Copy, Debug, PartialEq, Eq)]
+#[derive(Clone, Copy, PartialEq, Eq)]
 pub struct FrameShape {
     /// The words of the frame.
     pub words: u32,

@@ -11,7 +11,7 @@ use crate::told::FrameLine;
 use line_fields::{Handed, Parts, is_text};
 
 /// A line of a trace, with what its check asks for.
-#[derive(Debug, Drop)]
+#[derive(Drop)]
 pub enum Line<'a> {
     /// A call.
     Call(FrameLine<'a>),

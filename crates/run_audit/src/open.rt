@@ -10,7 +10,7 @@ use std::marker::Model;
 
 /// The calls that are open, and whether the last line was an enter line. A contract sees the calls
 /// newest first.
-#[derive(Debug, Drop)]
+#[derive(Drop)]
 pub(crate) struct Open<'a> {
     calls: Vec<FrameLine<'a>>,
     entered: bool,

@@ -7,7 +7,7 @@ use std::marker::Model;
 
 /// What a call line and its ret line tell of a frame: the name of a part, a site of it, the first and the
 /// last address of a range, and the words. A contract sees the texts of the words.
-#[derive(Debug, Drop)]
+#[derive(Drop)]
 pub struct FrameLine<'a> {
     pub(crate) part: &'a [u8],
     pub(crate) site: u32,

@@ -7,7 +7,7 @@ use crate::seen::{Answered, Entered, Passed};
 use line_fields::{Parts, behind};
 
 /// What a line of a feed tells.
-#[derive(Debug, Drop)]
+#[derive(Drop)]
 pub(crate) enum FeedLine<'a> {
     /// A procedure is entered.
     Enter(Entered<'a>),

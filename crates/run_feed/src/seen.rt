@@ -5,7 +5,7 @@ use line_fields::{Handed, WayBack};
 use std::marker::Model;
 
 /// What an `enter` line tells. Of words it has the fields.
-#[derive(Debug, Drop)]
+#[derive(Drop)]
 pub(crate) struct Entered<'a> {
     pub(crate) part: &'a [u8],
     pub(crate) name: &'a [u8],
@@ -36,7 +36,7 @@ impl<'a> Model for Entered<'a> {
 }
 
 /// What a `ret out` line tells. Of the value it has the field.
-#[derive(Debug, Drop)]
+#[derive(Drop)]
 pub(crate) struct Answered<'a> {
     pub(crate) part: &'a [u8],
     pub(crate) site: u32,
@@ -58,7 +58,7 @@ impl<'a> Model for Answered<'a> {
 }
 
 /// What a `pass` line tells.
-#[derive(Debug, Drop)]
+#[derive(Drop)]
 pub(crate) struct Passed<'a> {
     pub(crate) p0: Handed<'a>,
     pub(crate) p1: Handed<'a>,

@@ -8,7 +8,7 @@ use std::alloc::{AllocError, Global};
 use std::marker::Model;
 
 /// A line of a run, and what it changes.
-#[derive(Debug, Drop)]
+#[derive(Drop)]
 pub(crate) struct Event<'a> {
     pub(crate) line: &'a [u8],
     pub(crate) turn: Turn,

@@ -8,7 +8,7 @@ use crate::turn::Turn;
 use std::alloc::{AllocError, Global};
 
 /// How addresses become heights.
-#[derive(Clone, Copy, Debug, PartialEq, Eq)]
+#[derive(Clone, Copy, PartialEq, Eq)]
 pub struct Scale {
     /// The most words that are drawn between two cuts.
     pub most: u64,

@@ -8,7 +8,7 @@ use std::marker::Model;
 
 /// Where the open frames begin, and the address behind the stack that was handed over last, if there is one.
 /// A contract sees the frames newest first.
-#[derive(Debug, Drop)]
+#[derive(Drop)]
 pub(crate) struct Held {
     bases: Vec<u64>,
     top: Option<u64>,

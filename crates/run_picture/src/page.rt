@@ -7,7 +7,7 @@ use crate::turn::Side;
 use std::marker::Model;
 
 /// Where things stand on a page: lines to the right, addresses downwards, the highest first.
-#[derive(Debug, Drop)]
+#[derive(Drop)]
 pub(crate) struct Page<'a> {
     column: u64,
     count: u64,

@@ -9,7 +9,7 @@ use std::marker::Model;
 /// them and how many they are.
 ///
 /// It isn't `Clone`: two lots of the same seals would give each of them twice.
-#[derive(Debug, Drop)]
+#[derive(Drop)]
 pub struct SealLot {
     next: u32,
     left: u32,
@@ -59,7 +59,6 @@ impl SealLot {
 ///
 /// It is neither `Clone` nor `Drop`: a path that doesn't spend it, by [`SealToken::bind`], is a
 /// compile error.
-#[derive(Debug)]
 pub struct SealToken {
     seal: u32,
 }
@@ -90,7 +89,7 @@ impl SealToken {
 }
 
 /// The seal of a site, which is a call in trusted code with its return point.
-#[derive(Clone, Copy, Debug, PartialEq, Eq)]
+#[derive(Clone, Copy, PartialEq, Eq)]
 pub struct SiteSeal {
     /// The seal.
     pub seal: u32,

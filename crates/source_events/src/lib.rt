@@ -9,7 +9,7 @@
 use cap_words::Items;
 
 /// What a feed has, one behind another. Names are bytes of ASCII, as in the lines of a run.
-#[derive(Debug, Drop)]
+#[derive(Drop)]
 pub enum Item {
     /// A procedure is entered from outside.
     Enter {
@@ -40,7 +40,7 @@ pub enum Item {
 }
 
 /// What the return of an entered procedure would do.
-#[derive(Debug, Drop)]
+#[derive(Drop)]
 pub enum FeedBack {
     /// It leaves.
     Out,
@@ -53,7 +53,7 @@ pub enum FeedBack {
 }
 
 /// What two argument registers are as a closure pair.
-#[derive(Debug, Drop)]
+#[derive(Drop)]
 pub enum FeedPair {
     /// They are none.
     Nothing,
@@ -66,7 +66,7 @@ pub enum FeedPair {
 }
 
 /// What an argument register holds where trusted code is left.
-#[derive(Clone, Copy, Debug, PartialEq, Eq)]
+#[derive(Clone, Copy, PartialEq, Eq)]
 pub enum OutArg {
     /// An integer.
     Int(i64),
@@ -75,7 +75,7 @@ pub enum OutArg {
 }
 
 /// What leaves trusted code.
-#[derive(Debug, Drop)]
+#[derive(Drop)]
 pub enum OutEvent {
     /// A call: the name of its part, its number, and what the four argument registers hold.
     CallOut(Items<u8>, u32, [OutArg; 4]),
@@ -85,7 +85,7 @@ pub enum OutEvent {
 }
 
 /// How a meaning ends.
-#[derive(Clone, Copy, Debug, PartialEq, Eq)]
+#[derive(Clone, Copy, PartialEq, Eq)]
 pub enum MeaningEnd {
     /// By `halt`, with this value.
     Halt(i64),
@@ -98,7 +98,7 @@ pub enum MeaningEnd {
 }
 
 /// What a meaning tells.
-#[derive(Debug, Drop)]
+#[derive(Drop)]
 pub struct Told {
     /// What left the modules, in order.
     pub events: Items<OutEvent>,

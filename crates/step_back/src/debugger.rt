@@ -17,7 +17,7 @@ use std::marker::Model;
 pub const MOST_DEPTH: u32 = 65_536;
 
 /// Why a debugger went no further.
-#[derive(Clone, Copy, PartialEq, Eq, Debug)]
+#[derive(Clone, Copy, PartialEq, Eq)]
 pub enum StopReason {
     /// pc came to a breakpoint.
     Break,

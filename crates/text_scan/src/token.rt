@@ -1,7 +1,7 @@
 //! What a text is made of.
 
 /// What a token is.
-#[derive(Clone, Copy, Debug, Default, PartialEq, Eq)]
+#[derive(Clone, Copy, Default, PartialEq, Eq)]
 pub enum TokenKind {
     /// A run of `a` to `z`, `0` to `9` and `_` that doesn't begin with a digit.
     Name,
@@ -17,7 +17,7 @@ pub enum TokenKind {
 }
 
 /// A token: what it is, and which bytes of the text it has.
-#[derive(Clone, Copy, Debug, Default, PartialEq, Eq)]
+#[derive(Clone, Copy, Default, PartialEq, Eq)]
 pub struct Token {
     /// What it is.
     pub kind: TokenKind,

@@ -7,7 +7,7 @@ use proc_language::{Global, ModuleImport, Name, Param};
 use std::marker::Model;
 
 /// A parameter of a procedure.
-#[derive(Debug, Drop)]
+#[derive(Drop)]
 pub enum TokenParam {
     /// One that takes registers.
     Plain(Param),
@@ -16,7 +16,7 @@ pub enum TokenParam {
 }
 
 /// What a procedure has of its own.
-#[derive(Debug, Drop)]
+#[derive(Drop)]
 pub enum TokenLocal {
     /// A variable.
     Plain(Name),
@@ -25,7 +25,7 @@ pub enum TokenLocal {
 }
 
 /// A procedure.
-#[derive(Debug, Drop)]
+#[derive(Drop)]
 pub struct TokenProc {
     /// The place of `export` or `proc`.
     pub at: u32,
@@ -44,7 +44,7 @@ pub struct TokenProc {
 }
 
 /// What a module with tokens is made of. It may break the limits; a [`TokenModule`] keeps them.
-#[derive(Debug, Drop)]
+#[derive(Drop)]
 pub struct TokenModuleFields {
     /// The place of `module`.
     pub at: u32,
@@ -76,7 +76,7 @@ pub struct TokenModuleFields {
 ///
 /// Without its tokens it keeps the limits of a plain module, and each of its procedures has at most
 /// [`MOST_TOKENS`](proc_language::MOST_TOKENS) tokens.
-#[derive(Debug, Drop)]
+#[derive(Drop)]
 pub struct TokenModule {
     fields: TokenModuleFields,
 }

@@ -7,7 +7,7 @@ use std::marker::Model;
 
 /// An expression.
 #[cycle(expr)]
-#[derive(Debug, Drop)]
+#[derive(Drop)]
 pub struct TokenExpr {
     /// The place of its first token.
     pub at: u32,
@@ -17,7 +17,7 @@ pub struct TokenExpr {
 
 /// What an expression is.
 #[cycle(expr)]
-#[derive(Debug, Drop)]
+#[derive(Drop)]
 pub enum TokenExprKind {
     /// A number.
     Number(u32),
@@ -33,7 +33,7 @@ pub enum TokenExprKind {
 
 /// A call.
 #[cycle(expr)]
-#[derive(Debug, Drop)]
+#[derive(Drop)]
 pub struct TokenCall {
     /// What is called.
     pub name: Name,
@@ -43,7 +43,7 @@ pub struct TokenCall {
 
 /// An argument of a call.
 #[cycle(expr)]
-#[derive(Debug, Drop)]
+#[derive(Drop)]
 pub enum TokenArg {
     /// The value of an expression.
     Value(TokenExpr),
@@ -74,7 +74,7 @@ impl Model for TokenExpr {
 
 /// A statement.
 #[cycle(stmt)]
-#[derive(Debug, Drop)]
+#[derive(Drop)]
 pub struct TokenStmt {
     /// The place of its first token.
     pub at: u32,
@@ -86,7 +86,7 @@ pub struct TokenStmt {
 
 /// What a statement is.
 #[cycle(stmt)]
-#[derive(Debug, Drop)]
+#[derive(Drop)]
 pub enum TokenStmtKind {
     /// A variable is set.
     Set(Name, TokenExpr),

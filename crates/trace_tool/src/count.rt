@@ -12,7 +12,7 @@ use lcm_machine::Step;
 use trusted_border::Event;
 
 /// What the last step of a run answered, and how many `call` lines the run writes.
-#[derive(Clone, Copy, PartialEq, Eq, Debug)]
+#[derive(Clone, Copy, PartialEq, Eq)]
 pub struct Counted {
     pub last: Step,
     pub calls: u64,

@@ -38,7 +38,7 @@ impl Error for FieldFault {}
 ///
 /// Each call reads what stands next. After a fault the cursor is of no further use: nothing is said
 /// of where it stands.
-#[derive(Debug, Drop)]
+#[derive(Drop)]
 pub struct Cursor<'a> {
     at: u32,
     rest: &'a [u8],
