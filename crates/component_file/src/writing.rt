@@ -1,13 +1,14 @@
 //! Components to bytes.
-ghost use Rattle.std.specs.Prelude.{◌≡◌, ◌<◌, ◌^◌, ◌++◌, ℕ, List, length, OnOk, IfOk};
+ghost use Rattle.std.specs.Prelude.{◌≡◌, ◌<◌, ◌^◌, ◌++◌, ℕ, List, [], length, OnOk, IfOk};
 ghost use Rattle.std.specs.List.{flat_map, AllByRecursion};
 ghost use Rattle.cap_words.specs.WordBytes.{SealInSpace, word_bytes_of};
 ghost use Rattle.component_file.specs.Spelling.{u32_bytes, name_bytes, stretch_bytes, list_bytes};
 ghost use Rattle.component_file.specs.Spelling.{import_bytes, export_bytes, optional_bytes, kind_bytes};
 ghost use Rattle.component_file.specs.Spelling.{row_bytes, version_of, SpellsComponent, NamesAreShort, NameIsShort};
-ghost use Rattle.component_file.specs.Spelling.{Always};
+ghost use Rattle.component_file.specs.Spelling.{Always, spelling};
+ghost use Rattle.component_file.specs.Limits.{IsComponent};
 
-use crate::component::{Component, Export, Import, Kind, KindRow};
+use crate::component::{Component, ComponentFields, Export, Import, Kind, KindRow};
 use crate::{FIXED_VERSION, MOVABLE_VERSION};
 use cap_words::{Word, push_u16, push_u32, push_word};
 use std::alloc::{AllocError, Global};
@@ -181,31 +182,39 @@ fn version_of(movable: bool) -> u16
     }
 }
 
+// The fields of a component, one after another.
+fn push_fields(out: &mut Vec<u8>, fields: &ComponentFields) -> Result<(), AllocError>
+    requires empty { out.old.items ≡ [] }
+    requires fits { IsComponent fields.now }
+    ensures { OnOk result (out.new.items ≡ spelling fields.now) }
+{
+    out.extend_from_slice(b"STKC")?;
+    push_u16(out, version_of(fields.movable))?;
+    push_name(out, fields.name.as_slice())?;
+    push_u32(out, fields.stack_base)?;
+    push_u32(out, fields.closure)?;
+    push_stretch(out, fields.seals.base(), fields.seals.count())?;
+    push_stretch(out, fields.linear.base, fields.linear.count)?;
+    push_u32(out, fields.code_base)?;
+    push_long_list(out, fields.code.as_slice())?;
+    push_u32(out, fields.data_base)?;
+    push_long_list(out, fields.data_words.as_slice())?;
+    push_short_list(out, fields.imports.as_slice())?;
+    push_short_list(out, fields.exports.as_slice())?;
+    push_short_list(out, fields.sites.as_slice())?;
+    push_optional(out, fields.fail_at)?;
+    push_optional(out, fields.literal_at)?;
+    push_long_list(out, fields.rows.as_slice())?;
+    Ok(())
+}
+
 /// The bytes of a component, which are its one spelling: docs/FORMATS.md has the form.
-#[tactic(auto, unfolding(crate::specs::Spelling::spelling))]
 pub fn encode_component(alloc: Global, c: &Component) -> Result<Vec<u8>, AllocError>
     ensures spelled { IfOk result (λ v. SpellsComponent v.items c.now) }
     // So it can be decoded again.
     ensures short { IfOk result (λ v. length v.items < 2 ^ 32) }
 {
-    let fields = c.fields();
     let mut out = Vec::new(alloc);
-    out.extend_from_slice(b"STKC")?;
-    push_u16(&mut out, version_of(fields.movable))?;
-    push_name(&mut out, fields.name.as_slice())?;
-    push_u32(&mut out, fields.stack_base)?;
-    push_u32(&mut out, fields.closure)?;
-    push_stretch(&mut out, fields.seals.base(), fields.seals.count())?;
-    push_stretch(&mut out, fields.linear.base, fields.linear.count)?;
-    push_u32(&mut out, fields.code_base)?;
-    push_long_list(&mut out, fields.code.as_slice())?;
-    push_u32(&mut out, fields.data_base)?;
-    push_long_list(&mut out, fields.data_words.as_slice())?;
-    push_short_list(&mut out, fields.imports.as_slice())?;
-    push_short_list(&mut out, fields.exports.as_slice())?;
-    push_short_list(&mut out, fields.sites.as_slice())?;
-    push_optional(&mut out, fields.fail_at)?;
-    push_optional(&mut out, fields.literal_at)?;
-    push_long_list(&mut out, fields.rows.as_slice())?;
+    push_fields(&mut out, c.fields())?;
     Ok(out)
 }

@@ -13,3 +13,5 @@ pub use Rattle.readers.proofs.Wholes.{again_whole, cut_whole, found_whole, one_w
 pub use Rattle.readers.proofs.Wholes.{refused_whole}
 -- items that are read one after another, and a loop that reads them
 pub use Rattle.readers.proofs.Items.{begins, items_read, read_all, read_none, read_one, with_front}
+-- pieces that are written one after another
+pub use Rattle.readers.proofs.Pieces.{all_after, glued}

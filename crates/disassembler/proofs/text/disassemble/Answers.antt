@@ -1,6 +1,6 @@
-use Rattle.std.proofs.Common.{◌≡◌, ℕ, ◌<◌, ◌^◌, length, Ok, subst, List, [], ◌∷◌, ◌++◌, append_assoc}
-use Rattle.std.proofs.Common.{append-nil, decimal}
+use Rattle.std.proofs.Common.{◌≡◌, ℕ, ◌<◌, ◌^◌, length, Ok, subst, List, [], ◌∷◌, ◌++◌, decimal}
 use Rattle.std.specs.List.{flat_map, concat}
+use Rattle.readers.proofs.Offers.{glued}
 use Rattle.asm_fields.specs.declared.directives.ItemKind.TheVariants as item
 use Rattle.disassembler.specs.Disassembled.{item_line, flag_line, stretch_line, code_line, word_line}
 use Rattle.disassembler.specs.Disassembled.{import_line, export_line, site_line, optional_line, row_line}
@@ -15,7 +15,8 @@ pieces : (a b c d e f g h i j k l m n o p : List ℕ)
     → (((((((((((((((([] ++ a) ++ b) ++ c) ++ d) ++ e) ++ f) ++ g) ++ h) ++ i) ++ j) ++ k) ++ l) ++ m) ++ n)
     ++ o) ++ p)
     ≡ concat (a ∷ b ∷ c ∷ d ∷ e ∷ f ∷ g ∷ h ∷ i ∷ j ∷ k ∷ l ∷ m ∷ n ∷ o ∷ p ∷ [])
-pieces a b c d e f g h i j k l m n o p = simp (append_assoc, append-nil)
+pieces a b c d e f g h i j k l m n o p =
+    glued [] (a ∷ b ∷ c ∷ d ∷ e ∷ f ∷ g ∷ h ∷ i ∷ j ∷ k ∷ l ∷ m ∷ n ∷ o ∷ p ∷ [])
 
 -- the fields of the component, and the pieces from the last to the first
 pub returns-clause-text : goal.returns-clause-text
@@ -31,8 +32,7 @@ returns-clause-text c =
       ← c.as_slice-5.ensures,
       ← c.as_slice-6.ensures,
       ← c.as_slice-7.ensures,
-      ←
-          c.base.ensures.same,
+      ← c.base.ensures.same,
       ← c.count.ensures.same,
     )
     (rw (
