@@ -57,10 +57,6 @@ FreshNext f (Some w) = Fresh f w
 abbrev pub Makes : (Reg → Face) → Effect → Type 0
 Makes f e = FreshMade f e.first × FreshMade f e.second × FreshNext f e.next
 
-abbrev IsXjmp : Instr → Type 0
-IsXjmp (Xjmp r1 r2) = Unit {0}
-IsXjmp _ = ⊥
-
 unsealed_fresh : (f : Reg → Face) (c : Content) → Fresh f (unsealed c)
 unsealed_fresh f (MemC c) = tt
 unsealed_fresh f (SealC s) = tt

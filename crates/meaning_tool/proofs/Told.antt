@@ -1,5 +1,5 @@
 -- What came of the plan of a meaning, joined.
-use Rattle.std.proofs.Common.{◌≡◌, ℕ, List, length, refl, subst, sym, ap, ◌∙◌}
+use Rattle.std.proofs.Common.{◌≡◌, ℕ, List, length, refl, subst}
 use Rattle.std.specs.Prelude.{Result, Ok, Err, IfOk, IfErr}
 use Rattle.outside_io.specs.FilesSeen.{FilesSeen}
 use Rattle.command_words.specs.declared.part.PartWord.{PartWord}

@@ -1,13 +1,12 @@
 -- A loop over statements writes one after the other.
-use Rattle.std.proofs.Common.{◌≡◌, ℕ, suc, ◌+◌, ◌<◌, List, ◌∷◌, length, drop, drop-cons, add-one}
-use Rattle.std.proofs.Common.{get_or, sym, ap, ◌∙◌}
+use Rattle.std.proofs.Common.{◌≡◌, ℕ, ◌+◌, List, ◌∷◌, drop}
+use Rattle.std.proofs.Common.{sym, ap, ◌∙◌}
 use Rattle.proc_program.specs.Program.{Statement}
 use Rattle.proc_program.specs.StepView.{block_of}
 use Rattle.proc_templates.specs.declared.FrameShape.{FrameShape}
 use Rattle.proc_templates.specs.Templates.{step_code, block_code}
 use Rattle.proc_compiler.specs.Drafts.{Drafted, with_items}
 use Rattle.proc_compiler.proofs.Written.{items_append}
-use Rattle.proc_language.proofs.Offers.{drop_item}
 
 pub block_told : (f : FrameShape) (steps : List Statement) (i : ℕ) (s : Statement) (start d e : Drafted)
     → drop i steps ≡ s ∷ drop (i + 1) steps

@@ -1,10 +1,9 @@
 -- Items written one behind another.
 use Rattle.std.proofs.Common.{◌≡◌, ℕ, zero, suc, ◌+◌, ◌-◌, false, List, [], ◌∷◌, ◌++◌, length, map, replicate}
 use Rattle.std.proofs.Common.{refl, sym, ap, ◌∙◌, append_assoc, arith}
-use Rattle.std.specs.Prelude.{Result, Ok, Err, OnOk, ◌==◌, slice_get, pos}
+use Rattle.std.specs.Prelude.{◌==◌, slice_get, pos}
 use Rattle.std.specs.Option.{option_map_or}
-use Rattle.std.proofs.lemmas.List.{nil_from_length}
-use Rattle.std.proofs.lemmas.Result.{on_ok_weaker}
+
 use Rattle.cap_words.specs.declared.Word.{Word}
 use Rattle.cap_words.specs.declared.Word.TheVariants.{Int}
 use Rattle.lcm_isa.specs.declared.Reg.{Reg}
@@ -14,9 +13,8 @@ use Rattle.lcm_isa.specs.declared.Instr.{Instr}
 use Rattle.lcm_isa.specs.declared.Instr.TheVariants.{Store, Cca}
 use Rattle.call_sequence.specs.Sequences.{numbers, distance}
 use Rattle.proc_templates.specs.Items.{Spot, Item, does, guards, is_last, Laid, put, lay, word_of}
-use Rattle.proc_program.specs.Program.{Args}
-use Rattle.proc_templates.specs.Sums.{values_words, loads_words}
-use Rattle.proc_templates.specs.Templates.{argument, args_words, check_half, push, wipe}
+
+use Rattle.proc_templates.specs.Templates.{argument, check_half, push, wipe}
 use Rattle.proc_templates.proofs.Offers.{args-split}
 use Rattle.proc_compiler.specs.Drafts.{Drafted, with_items}
 

@@ -10,7 +10,7 @@ use Rattle.proc_grammar.specs.Lexemes.{Lexeme, Meaning, word, words_of, token_wo
 use Rattle.proc_grammar.specs.Lexemes.{a_name, a_number, adding, added, comparing, compared, square, round}
 use Rattle.proc_grammar.specs.Lexemes.{end_square, end_round, comma}
 use Rattle.phrases.specs.Phrase as phrases
-use Rattle.phrases.specs.Phrase.{then, only, ◌or◌, where_true}
+use Rattle.phrases.specs.Phrase.{only, ◌or◌}
 use Rattle.proc_language.specs.declared.TheConstants.{MOST_REGISTERS, MOST_TERMS}
 use Rattle.proc_grammar.specs.Grammar.{Phrase, kept, is_literal, behind_arg, one_more, sum_of}
 use Rattle.proc_grammar.specs.Grammar as grammar

@@ -9,7 +9,7 @@ use Rattle.proc_grammar.specs.Lexemes.{Lexeme, word, words_of, token_word, sign,
 use Rattle.proc_grammar.specs.Lexemes.{either_way, comma, slash, round, end_round, curly, end_curly}
 use Rattle.proc_grammar.specs.Lexemes.{semicolon}
 use Rattle.phrases.specs.Phrase as phrases
-use Rattle.phrases.specs.Phrase.{then, only, ◌or◌, where_true}
+use Rattle.phrases.specs.Phrase.{◌or◌}
 use Rattle.proc_language.specs.declared.TheConstants.{MOST_REGISTERS, MOST_ITEMS, MOST_LOCALS, MOST_TOKENS}
 use Rattle.proc_grammar.specs.Grammar.{Phrase, kept, is_arity, behind_param, behind_local, behind_params}
 use Rattle.proc_grammar.specs.Grammar.{one_more, Taken, none_taken}

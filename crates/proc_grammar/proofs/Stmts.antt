@@ -12,8 +12,8 @@ use Rattle.proc_grammar.specs.Lexemes.{Lexeme, word, words_of, token_word, token
 use Rattle.proc_grammar.specs.Lexemes.{a_start, start_in, name_text, taken, stmt_words, plain_stmt_words}
 use Rattle.proc_grammar.specs.Lexemes.{square, round, curly, end_curly, assign, semicolon}
 use Rattle.phrases.specs.Phrase as phrases
-use Rattle.phrases.specs.Phrase.{then, only, ◌or◌, where_true}
-use Rattle.proc_grammar.specs.Grammar.{Phrase, kept}
+use Rattle.phrases.specs.Phrase.{then, only, ◌or◌}
+use Rattle.proc_grammar.specs.Grammar.{Phrase}
 use Rattle.proc_grammar.specs.Grammar as grammar
 use Rattle.proc_grammar.specs.declared.fault.ParseFault.TheVariants.{TooMany}
 use Rattle.readers.specs.Readers.{◌>>=◌, done}

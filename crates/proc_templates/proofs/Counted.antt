@@ -24,7 +24,7 @@ use Rattle.proc_program.specs.declared.program.Handle.TheVariants.{Given, Own, I
 use Rattle.proc_templates.specs.declared.FrameShape.{FrameShape}
 use Rattle.proc_templates.specs.Templates.{load_var, store_var, load_pair, op_code, load_args, zeros}
 use Rattle.proc_templates.specs.Templates.{arguments, code, args_code, step_code, block_code, if_code}
-use Rattle.proc_templates.specs.Templates.{check_params, check_param, pushed, push, wipe, epilogue, proc_code}
+use Rattle.proc_templates.specs.Templates.{check_params, check_param, pushed, push, wipe, proc_code}
 use Rattle.proc_templates.specs.Compiled.{frame_of, lay_proc, lay_procs, head_of, laid_of, component_of}
 use Rattle.proc_program.specs.Calls.{calls, args_calls, step_calls, block_calls, part_calls, procedure_calls}
 use Rattle.proc_templates.specs.Free.{behind}

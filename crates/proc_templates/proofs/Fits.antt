@@ -27,10 +27,10 @@ use Rattle.proc_program.specs.declared.program.Handle.TheVariants.{Given, Own, I
 use Rattle.proc_program.specs.declared.program.Array.{Array}
 use Rattle.proc_templates.specs.declared.FrameShape.{FrameShape}
 use Rattle.proc_templates.specs.Templates.{pair_words, op_words, exp_words, args_words, step_words}
-use Rattle.proc_templates.specs.Templates.{block_words, at_slot, at_glob, load_var, store_var, at_element}
+use Rattle.proc_templates.specs.Templates.{block_words, at_slot, at_glob, load_var, store_var}
 use Rattle.proc_templates.specs.Templates.{load_pair, op_code, arguments, argument, load_args, zeros, code}
 use Rattle.proc_templates.specs.Templates.{args_code, step_code, block_code, if_code, check_param}
-use Rattle.proc_templates.specs.Templates.{check_params, pushed, push, wipe, epilogue, proc_code}
+use Rattle.proc_templates.specs.Templates.{check_params, pushed, push, wipe, proc_code}
 use Rattle.proc_templates.specs.Bounds.{PlaceBound, RowBound, HandleBound, ExpBound, ArgsBound, StepBound}
 use Rattle.proc_templates.specs.Bounds.{BlockBound}
 use Rattle.proc_templates.specs.Fit.{AllFit, ItemFits, ItemsFit}

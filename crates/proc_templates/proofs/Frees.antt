@@ -15,9 +15,9 @@ use Rattle.proc_program.specs.declared.program.Handle.{Handle}
 use Rattle.proc_program.specs.declared.program.Handle.TheVariants.{Given, Own, Imported}
 use Rattle.proc_templates.specs.declared.FrameShape.{FrameShape}
 use Rattle.proc_templates.specs.Templates as templates
-use Rattle.proc_templates.specs.Templates.{load_slot, store_slot, load_var, store_var, load_pair}
+use Rattle.proc_templates.specs.Templates.{load_slot, load_var, store_var, load_pair}
 use Rattle.proc_templates.specs.Templates.{op_code, arguments, argument, load_args, zeros, code, args_code}
-use Rattle.proc_templates.specs.Templates.{check_half, check_param, check_params, push, wipe}
+use Rattle.proc_templates.specs.Templates.{check_param, check_params, push, wipe}
 use Rattle.proc_templates.specs.Ready.{is_low, is_quiet}
 use Rattle.proc_templates.specs.Free.{is_guarded, ends_or_goes, is_free}
 

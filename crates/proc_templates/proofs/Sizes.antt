@@ -21,9 +21,9 @@ use Rattle.proc_templates.specs.Templates as templates
 use Rattle.proc_templates.specs.Sums.{values_words, loads_words, after_values}
 use Rattle.proc_templates.specs.Templates.{pair_words, op_words, exp_words, args_words, step_words}
 use Rattle.proc_templates.specs.Templates.{block_words, load_var, store_var, at_element, load_pair, op_code}
-use Rattle.proc_templates.specs.Templates.{arguments, argument, load_args, zeros, code, args_code, step_code}
-use Rattle.proc_templates.specs.Templates.{block_code, if_code, check_param, check_params, check_words}
-use Rattle.proc_templates.specs.Templates.{checks_words, push, wipe, epilogue}
+use Rattle.proc_templates.specs.Templates.{arguments, load_args, zeros, code, args_code, step_code}
+use Rattle.proc_templates.specs.Templates.{block_code, if_code}
+
 use Rattle.proc_templates.specs.Free.{behind, after}
 
 pub record Long (xs : List Item) (n : ℕ) : Type 0 where

@@ -214,11 +214,6 @@ running_plain ts l rest h =
     let g1 = goes (tested is_address ts) _ (l, rest) h in
     steps_plain g1.rest l rest g1.next
 
--- what is read where a name is none of these
-abbrev reader_if : Bool → Reader Line → Reader Line → Reader Line
-reader_if true r s = r
-reader_if false r s = s
-
 pick : (b : Bool) (r s : Reader Line) (ts : Fields) (l : Line) (rest : Fields) (P : Type 0)
     → (if b then r else s) ts ≡ Some (l, rest) → (r ts ≡ Some (l, rest) → P) → (s ts ≡ Some (l, rest) → P) → P
 pick true r s ts l rest P h p q = p h

@@ -1,5 +1,5 @@
 -- Some arguments are no larger than all.
-use Rattle.std.proofs.Common.{◌≤◌, arith, List, [], ◌∷◌}
+use Rattle.std.proofs.Common.{◌≤◌, arith, List, ◌∷◌}
 use Rattle.token_language.specs.declared.tree.TokenArg.{TokenArg}
 use Rattle.token_language.specs.declared.tree.TokenArg.TheVariants.{Value, Proc, Token}
 use Rattle.token_language.specs.Tree.{size_of_args}

@@ -19,7 +19,7 @@ use Rattle.proc_semantics.specs.declared.value.Activation.{Activation}
 use Rattle.proc_semantics.specs.Told as tells
 use Rattle.proc_semantics.specs.Values.{Store, set_word}
 use Rattle.proc_semantics.specs.Meaning as plain
-use Rattle.proc_semantics.specs.Meaning.{result_of, with_number, element_at, enough, given_of, is_given}
+use Rattle.proc_semantics.specs.Meaning.{with_number, is_given}
 use Rattle.token_language.specs.declared.module.TokenProc.{TokenProc}
 use Rattle.token_language.specs.declared.module.TokenModuleFields.{TokenModuleFields}
 use Rattle.token_language.specs.Tree.{Expr, Block}

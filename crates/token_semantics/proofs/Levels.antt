@@ -19,7 +19,7 @@ use Rattle.proc_semantics.specs.declared.value.Register.{Register}
 use Rattle.proc_semantics.specs.declared.value.Activation.{Activation}
 use Rattle.proc_semantics.specs.Values.{Store, register_of, taken, proc_at, found, registers_fed, World}
 use Rattle.proc_semantics.specs.Meaning as plain
-use Rattle.proc_semantics.specs.Meaning.{result_of, with_number, element_at, enough, given_of, is_given}
+use Rattle.proc_semantics.specs.Meaning.{enough}
 use Rattle.proc_language.specs.declared.TheConstants.{MOST_TOKENS}
 use Rattle.token_language.specs.declared.module.TokenProc.{TokenProc}
 use Rattle.token_language.specs.declared.module.TokenModuleFields.{TokenModuleFields}

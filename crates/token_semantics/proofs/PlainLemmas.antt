@@ -19,7 +19,7 @@ use Rattle.proc_names.specs.Faults.{unless}
 use Rattle.proc_names.specs.Names.{same, variable_named, callee_named, passed_named}
 use Rattle.proc_names.specs.NameFaults as names
 use Rattle.proc_names.specs.NameFaults.{plain_faults, array_faults, registers_fit, callback_arity}
-use Rattle.proc_names.specs.NameFaults.{import_arity, passed_faults, twice, names_of_items, name_faults}
+use Rattle.proc_names.specs.NameFaults.{import_arity, passed_faults, twice, name_faults}
 use Rattle.token_language.specs.declared.module.TokenParam.TheVariants as param
 use Rattle.token_language.specs.declared.module.TokenLocal.TheVariants as local
 use Rattle.token_language.specs.declared.module.TokenProc.{TokenProc}

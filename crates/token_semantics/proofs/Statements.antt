@@ -18,7 +18,7 @@ use Rattle.proc_semantics.specs.declared.value.Activation.{Activation}
 use Rattle.proc_semantics.specs.Told as tells
 use Rattle.proc_semantics.specs.Values.{Store, is_zero, variable, global_word, set_word, pair_of, register_of}
 use Rattle.proc_semantics.specs.Meaning as plain
-use Rattle.proc_semantics.specs.Meaning.{result_of, with_number, element_at, enough, given_of, is_given}
+use Rattle.proc_semantics.specs.Meaning.{result_of, element_at, given_of}
 use Rattle.token_language.specs.declared.module.TokenProc.{TokenProc}
 use Rattle.token_language.specs.declared.module.TokenModuleFields.{TokenModuleFields}
 use Rattle.token_language.specs.Tree.{Expr, number, var, element, call, op, Args, no_args, value, proc, token}

@@ -1,4 +1,4 @@
-use Rattle.std.proofs.Common.{◌≡◌, List, String, drop, refl, vec_len, length, Vec, IfOk}
+use Rattle.std.proofs.Common.{◌≡◌, drop, refl, vec_len, length, IfOk}
 use Rattle.std.specs.Prelude.{Result, Ok, Err}
 use Rattle.std.proofs.lemmas.Iterator.{YieldsList}
 use Rattle.std.proofs.lemmas.Iterator.Adapters.{fact_from_collect, YieldsList-from_skip, YieldsList-from_vec}
