@@ -6,7 +6,7 @@ use Rattle.std.specs.Option.{option_and_then, option_map_or}
 use Rattle.std.proofs.lemmas.List.{map-append}
 use Rattle.std.proofs.lemmas.Option.{slice_get-map}
 use Rattle.proc_language.specs.declared.tree.Name.{Name}
-use Rattle.proc_language.specs.declared.module.ModuleImport.{ModuleImport}
+use Rattle.proc_language.specs.declared.module.Import.{Import}
 use Rattle.proc_language.specs.declared.module.Param.{Param}
 use Rattle.proc_language.specs.declared.module.Proc.{Proc}
 use Rattle.proc_language.specs.declared.module.ModuleFields.{ModuleFields}
@@ -112,10 +112,10 @@ callback_alike ps k = ap (option_and_then (λ q. q.arity)) (slice_get-map unplac
     by None = refl
     by (Some q) = refl
 
-import_alike : (is : List ModuleImport) (k : ℕ) → import_arity (map unplaced_import is) k ≡ import_arity is k
+import_alike : (is : List Import) (k : ℕ) → import_arity (map unplaced_import is) k ≡ import_arity is k
 import_alike is k = ap (option_map (λ x. x.arity)) (slice_get-map unplaced_import is k) ∙ by (slice_get is k)
   where
-    by : (x : Option ModuleImport)
+    by : (x : Option Import)
         → option_map (λ x. x.arity) (option_map unplaced_import x) ≡ option_map (λ x. x.arity) x
     by None = refl
     by (Some q) = refl

@@ -5,8 +5,8 @@ use Rattle.cap_words.specs.Names as names
 use Rattle.source_events.specs.declared.Item.{Item}
 use Rattle.source_events.specs.declared.Item.TheVariants.{Enter, Ret}
 use Rattle.source_events.specs.declared.FeedBack.TheVariants as way
-use Rattle.source_events.specs.declared.MeaningEnd.{MeaningEnd}
-use Rattle.source_events.specs.declared.MeaningEnd.TheVariants.{Halt as Halted, OutOfFuel}
+use Rattle.source_events.specs.declared.End.{End}
+use Rattle.source_events.specs.declared.End.TheVariants.{Halt as Halted, OutOfFuel}
 use Rattle.proc_language.specs.Words.{is_source_name, is_reserved}
 use Rattle.proc_language.specs.Limits.{IsModule}
 use Rattle.proc_names.specs.Names.{variable_named, callee_named, passed_named}
@@ -57,7 +57,7 @@ observed_is W size feed f es none e =
     (numbered_items 0 feed)).events) none ∙ e)
 
 -- of a module without main
-end_is : (W : World) (size : ℕ) (feed : List Item) (f : ℕ) (e : MeaningEnd) → main_target W ≡ None
+end_is : (W : World) (size : ℕ) (feed : List Item) (f : ℕ) (e : End) → main_target W ≡ None
     → ((level tracing W (f + length (numbered_items 0 feed) + 1)).wait None (map (λ (u : Program). u.globals)
     W)
     None f

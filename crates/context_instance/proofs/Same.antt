@@ -3,7 +3,7 @@ use Rattle.std.proofs.Common.{◌≡◌, ℕ, zero, suc, ◌+◌, ◌-◌, ℤ, 
 use Rattle.std.proofs.Common.{Some, None, true, false, refl, sym, ap, ◌∙◌, arith, subst}
 use Rattle.std.specs.Prelude.{slice_index_or, ◌^◌}
 use Rattle.std.proofs.lemmas.Bool.Decides.{Decides-int_eq}
-use Rattle.source_events.specs.declared.MeaningEnd.TheVariants.{OutOfFuel}
+use Rattle.source_events.specs.declared.End.TheVariants.{OutOfFuel}
 use Rattle.proc_language.specs.declared.tree.Op.TheVariants.{Plus}
 use Rattle.proc_names.specs.Names.{variable_named}
 use Rattle.proc_program.specs.declared.program.Program.{Program}

@@ -9,7 +9,7 @@ use Rattle.overlay_machine.specs.Link.{IsUntrusted}
 use Rattle.proc_language.specs.declared.tree.Name.{Name}
 use Rattle.proc_language.specs.declared.tree.Op.TheVariants.{Plus, Equal}
 use Rattle.proc_language.specs.declared.module.ModuleFields.{ModuleFields}
-use Rattle.proc_language.specs.declared.module.ModuleImport.{ModuleImport}
+use Rattle.proc_language.specs.declared.module.Import.{Import}
 use Rattle.proc_language.specs.declared.module.Global.{Global}
 use Rattle.proc_language.specs.declared.module.Param.{Param}
 use Rattle.proc_language.specs.declared.module.Proc.{Proc}
@@ -50,7 +50,7 @@ exporting name params body =
     record { at = 0; shared = true; name = name; params = params; locals = []; body = body }
 
 -- module t code 1 data 200 closure 10 returns 12 n stack 300; with imports, globals and one procedure
-abbrev pub module_t : ℕ → List ModuleImport → List Global → Proc → ModuleFields
+abbrev pub module_t : ℕ → List Import → List Global → Proc → ModuleFields
 module_t returns imports globals p = record {
   at = 0;
   name = named 116;

@@ -4,8 +4,8 @@ use Rattle.std.proofs.Common.{map, Option, Some, None, refl, sym, ap, ◌∙◌,
 use Rattle.std.specs.Prelude.{slice_get, ◌-◌}
 use Rattle.std.proofs.lemmas.List.{append-nil}
 use Rattle.source_events.specs.declared.Item.{Item}
-use Rattle.source_events.specs.declared.MeaningEnd.{MeaningEnd}
-use Rattle.source_events.specs.declared.MeaningEnd.TheVariants.{OutOfFuel}
+use Rattle.source_events.specs.declared.End.{End}
+use Rattle.source_events.specs.declared.End.TheVariants.{OutOfFuel}
 use Rattle.proc_semantics.specs.declared.value.Target.{Target}
 use Rattle.proc_semantics.specs.Values.{World, Store, main_target}
 use Rattle.proc_semantics.specs.Rules.{start, level}
@@ -134,7 +134,7 @@ told_later world stack feed f e = by (longer world stack feed f e)
     by {t} {u} (inr h) = (h.1, h.2)
 
 -- an end is the same
-pub end_later : (world : World) (stack : ℕ) (feed : List Item) (f e : ℕ) (x : MeaningEnd)
+pub end_later : (world : World) (stack : ℕ) (feed : List Item) (f e : ℕ) (x : End)
     → (refined world stack feed f).end ≡ x → (x ≡ OutOfFuel → ⊥) → (refined world stack feed (f + e)).end ≡ x
 end_later world stack feed f e x i ended = by (longer world stack feed f e)
   where

@@ -23,8 +23,8 @@ use Rattle.template_runs.specs.Border.{Shows, ShowsBy, by_call, by_leave}
 use Rattle.proc_language.specs.declared.module.ModuleFields.{ModuleFields}
 use Rattle.proc_program.specs.Lower.{part_of}
 use Rattle.source_events.specs.declared.Item.{Item}
-use Rattle.source_events.specs.declared.MeaningEnd.{MeaningEnd}
-use Rattle.source_events.specs.declared.MeaningEnd.TheVariants.{Halt as Halted, Fail, Waiting, OutOfFuel}
+use Rattle.source_events.specs.declared.End.{End}
+use Rattle.source_events.specs.declared.End.TheVariants.{Halt as Halted, Fail, Waiting, OutOfFuel}
 use Rattle.proc_semantics.specs.Values.{World}
 use Rattle.proc_semantics.specs.Meaning.{meaning}
 use Rattle.proc_semantics.specs.Marked.{Thing, refined}
@@ -140,10 +140,10 @@ module _ (it : TwoLinks) (calls : CallNames)
     fits : FeedFits (feed xs)
     fits = feed_fits (layout it.s) O es xs b e t
 
-    abbrev Ends : MeaningEnd → Type 0
+    abbrev Ends : End → Type 0
     Ends x = MeaningEnds W it.size (feed xs) (map (λ (x : Shown). x.event) es) x
 
-    so : (x : MeaningEnd) → Ends x → (x ≡ OutOfFuel → ⊥) → EndsSo W' it.size it.s' Means' xs' x
+    so : (x : End) → Ends x → (x ≡ OutOfFuel → ⊥) → EndsSo W' it.size it.s' Means' xs' x
     so x m some =
         let e : (refined W it.size (feed xs) m.enough).end ≡ x =
         end_is W it.size (feed xs) m.enough ∙ m.ends m.enough (omega arith) in
@@ -157,7 +157,7 @@ module _ (it : TwoLinks) (calls : CallNames)
         )
 
     -- where it let go, the meaning would wait
-    never : (x : MeaningEnd) → Ends x → (x ≡ Waiting → ⊥) → (x ≡ OutOfFuel → ⊥) → (q m : OState)
+    never : (x : End) → Ends x → (x ≡ Waiting → ⊥) → (x ≡ OutOfFuel → ⊥) → (q m : OState)
         → Until (layout it.s') e' q
         → overlay_step (layout it.s') q ≡ goes m → is_inside (layout it.s') m ≡ false → ⊥
     never x ends_x not some q m v g out =
@@ -170,7 +170,7 @@ module _ (it : TwoLinks) (calls : CallNames)
         let y = so x ends_x some in
         not (sym (y.1 (y.0 + w.enough) (omega arith)) ∙ w.ends (y.0 + w.enough) (omega arith))
 
-    comes : (x : MeaningEnd) → Ends x → (x ≡ Waiting → ⊥) → (x ≡ OutOfFuel → ⊥)
+    comes : (x : End) → Ends x → (x ≡ Waiting → ⊥) → (x ≡ OutOfFuel → ⊥)
         → ComesTo W' it.size it.s' Means' e' x
     comes x m not some =
         comes_to W' it.size it.s' Means' es' xs' e' (tells_of (layout it.s') O' es' xs' b' e' t') i' x

@@ -32,8 +32,8 @@ use Rattle.proc_semantics.specs.Meaning.{meaning}
 use Rattle.proc_semantics.specs.Marked.{Thing}
 use Rattle.source_events.specs.declared.OutEvent.{OutEvent}
 use Rattle.source_events.specs.declared.Item.{Item}
-use Rattle.source_events.specs.declared.MeaningEnd.{MeaningEnd}
-use Rattle.source_events.specs.declared.MeaningEnd.TheVariants.{Halt as Halted, Fail as Fails, OutOfFuel}
+use Rattle.source_events.specs.declared.End.{End}
+use Rattle.source_events.specs.declared.End.TheVariants.{Halt as Halted, Fail as Fails, OutOfFuel}
 use Rattle.source_laws.specs.Seen.{Shown, Back}
 use Rattle.source_laws.specs.Seen as seen
 use Rattle.source_laws.specs.Trace as lines
@@ -314,18 +314,18 @@ module _ (world : World) (size : ℕ) (s : StartSeen) (means : MeansAlways world
           absurd (prefix_short _ (Outs es) h.1.0 (length (Outs es)) h.1.1 refl (long told.0 (omega arith)))
 
   -- the meaning of these items ends so, under every large enough fuel
-  abbrev pub EndsSo : List (Thing OWord Back) → MeaningEnd → Type 0
+  abbrev pub EndsSo : List (Thing OWord Back) → End → Type 0
   EndsSo is e = (enough : ℕ) × ((f : ℕ) → enough ≤ f → (meaning world size (Items is) f).end ≡ e)
 
   -- trusted code comes to such an end
-  pub data ComesTo (p : OState) (e : MeaningEnd) : Type 0 where
+  pub data ComesTo (p : OState) (e : End) : Type 0 where
     to_halt : (q : OState) (v : ℤ) → Until L p q → overlay_step L q ≡ halts → (flat_view L q).reg A0 ≡ Int v
         → e ≡ Halted v → ComesTo p e
     to_fail : (q : OState) → Until L p q → overlay_step L q ≡ fails → e ≡ Fails → ComesTo p e
 
   -- where it doesn't let go
   pub comes_to : (es : List Shown) (is : List (Thing OWord Back)) (p : OState) → Tells L O es is p
-      → is_inside L p ≡ true → (e : MeaningEnd) → EndsSo is e → (e ≡ OutOfFuel → ⊥)
+      → is_inside L p ≡ true → (e : End) → EndsSo is e → (e ≡ OutOfFuel → ⊥)
       → ((q m : OState) → Until L p q → overlay_step L q ≡ goes m → is_inside L m ≡ false → ⊥) → ComesTo p e
   comes_to es is p t i e so some never = by (fate L p (so.0 * 200 + 1) i)
     where

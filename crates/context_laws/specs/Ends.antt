@@ -13,7 +13,7 @@ use Rattle.component_linker.specs.LinkedStarts.{IsStartOf}
 use Rattle.proc_language.specs.declared.module.ModuleFields.{ModuleFields}
 use Rattle.proc_program.specs.Lower.{part_of as program_of}
 use Rattle.source_events.specs.declared.Item.{Item}
-use Rattle.source_events.specs.declared.MeaningEnd.TheVariants.{OutOfFuel}
+use Rattle.source_events.specs.declared.End.TheVariants.{OutOfFuel}
 use Rattle.proc_semantics.specs.Values.{World}
 use Rattle.proc_semantics.specs.Marked.{refined}
 use Rattle.source_starts.specs.Sources.{AreSources, linked_at}

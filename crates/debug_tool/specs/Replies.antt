@@ -10,8 +10,8 @@ use Rattle.lcm_machine.specs.Places.{reg}
 use Rattle.lcm_machine.specs.Cells.{cell}
 use Rattle.lcm_machine.specs.Run.{Run}
 use Rattle.trace_tool.specs.EndLines.{pc_text, steps_text, end_line}
-use Rattle.step_back.specs.declared.debugger.StopReason.{StopReason}
-use Rattle.step_back.specs.declared.debugger.StopReason.TheVariants.{Break, Ended, Spent}
+use Rattle.step_back.specs.declared.debugger.Stop.{Stop}
+use Rattle.step_back.specs.declared.debugger.Stop.TheVariants.{Break, Ended, Spent}
 use Rattle.step_back.specs.declared.debugger.TheConstants.{MOST_DEPTH}
 use Rattle.step_back.specs.Seen.{Debugging}
 use Rattle.step_back.specs.Debug.{debugging_from, go, go_back, is_full}
@@ -27,7 +27,7 @@ abbrev pub place_text : List ℕ → Run → List ℕ
 place_text word s = word ++ (codes " " ++ (pc_text (reg s.maps.regs Pc) ++ steps_text s.count))
 
 -- where steps forward led: all were made, pc came to a breakpoint, or the machine has ended
-abbrev pub reached_text : StopReason → Run → List ℕ
+abbrev pub reached_text : Stop → Run → List ℕ
 reached_text Spent s = place_text (codes "at") s
 reached_text Break s = place_text (codes "stop") s
 reached_text (Ended step) s = end_line s

@@ -9,19 +9,19 @@ ghost use Rattle.debug_tool.specs.Replies.{reply, after_command};
 use cap_words::{Word, word_text};
 use debug_script::DebugCommand;
 use lcm_machine::LcmState;
-use step_back::{Debugger, StopReason};
+use step_back::{Debugger, Stop};
 use trace_tool::{EndLine, end_line, place_line};
 
 // Where steps forward led.
-fn reached_line(state: &LcmState, stop: StopReason) -> EndLine
-    requires { (step : AnyStep) → stop ≡ StopReason.Ended step → step ≡ answer state.now }
+fn reached_line(state: &LcmState, stop: Stop) -> EndLine
+    requires { (step : AnyStep) → stop ≡ Stop.Ended step → step ≡ answer state.now }
     ensures bytes { result.bytes ≡ reached_text stop state.now }
     ensures some { 0 < length result.bytes }
 {
     match stop {
-        StopReason::Break => place_line("stop", state),
-        StopReason::Ended(step) => end_line(state, step),
-        StopReason::Spent => place_line("at", state),
+        Stop::Break => place_line("stop", state),
+        Stop::Ended(step) => end_line(state, step),
+        Stop::Spent => place_line("at", state),
     }
 }
 

@@ -36,8 +36,8 @@ use Rattle.proc_sources.specs.declared.fault.SourceFault.{SourceFault}
 use Rattle.run_audit.specs.declared.fault.AuditFault.{AuditFault}
 use Rattle.refusal_lines.specs.Refusals.{refusal_status, image_status}
 use Rattle.file_plans.specs.Plans.{Plan, Reads, Ends, Made, Comes}
-use Rattle.source_events.specs.declared.MeaningEnd.{MeaningEnd}
-use Rattle.source_events.specs.declared.MeaningEnd.TheVariants as end
+use Rattle.source_events.specs.declared.End.{End}
+use Rattle.source_events.specs.declared.End.TheVariants as end
 use Rattle.meaning_tool.specs.Subjects.{Subject, told_of}
 use Rattle.lcm_cli.specs.Commands.{Telling, Task, Run, Trace, Reach, Debug, Put, Write, Tell, plan_in}
 use Rattle.lcm_cli.specs.Answers.{Answer, Outside, end_status, meaning_status, writes, ran, ran_overlay}
@@ -167,7 +167,7 @@ trace_caused asked read old new i steps c start overlay s o run_end.WriteFault e
     absurd (writes_none steps overlay e)
 
 mean_caused : (asked : Option Command) (read : List (List ℕ)) (old new : Outside) (s : Subject) (fuel : ℕ)
-    → CameOf asked read old.files (Ok (Tell s fuel)) new.files → (e : MeaningEnd) → (told_of s fuel).end ≡ e
+    → CameOf asked read old.files (Ok (Tell s fuel)) new.files → (e : End) → (told_of s fuel).end ≡ e
     → Caused asked read old new (meaning_status e)
 mean_caused asked read old new s fuel c (end.Halt v) h = inr (inr (inr (inr (s, fuel, c, inl (v, h)))))
 mean_caused asked read old new s fuel c end.Fail h = inr (inr (s, fuel, c, h))

@@ -26,8 +26,8 @@ use Rattle.refusal_lines.specs.declared.status.Status.TheVariants as status
 use Rattle.refusal_lines.specs.Refusals.{refusal_status, image_status}
 use Rattle.file_plans.specs.Plans.{Plan, Reads, Ends, Made, whole as came_whole, too_long, unread, Comes}
 use Rattle.link_tool.specs.Parts.{component_at, part_at}
-use Rattle.source_events.specs.declared.MeaningEnd.{MeaningEnd}
-use Rattle.source_events.specs.declared.MeaningEnd.TheVariants as end
+use Rattle.source_events.specs.declared.End.{End}
+use Rattle.source_events.specs.declared.End.TheVariants as end
 use Rattle.meaning_tool.specs.Subjects.{told_of, module_at, subject_in}
 use Rattle.lcm_cli.specs.Audits.{audit_at}
 use Rattle.lcm_cli.specs.Commands.{Task, Run, Trace, Reach, Debug, Put, Write, Tell, Content, OfModule}
@@ -196,7 +196,7 @@ end_none run_end.Failed a e = e
 end_none run_end.Running a e = e
 end_none run_end.WriteFault a e = e
 
-meaning_none : (e : MeaningEnd) (a : Answer) → a.file ≡ None → PutsNone (meaning_status e) a
+meaning_none : (e : End) (a : Answer) → a.file ≡ None → PutsNone (meaning_status e) a
 meaning_none (end.Halt v) a h = tt
 meaning_none end.Fail a h = h
 meaning_none end.Waiting a h = tt

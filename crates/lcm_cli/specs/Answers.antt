@@ -16,8 +16,8 @@ use Rattle.trace_tool.specs.declared.run.RunEnd.TheVariants as run_end
 use Rattle.trace_tool.specs.Layout.{layout}
 use Rattle.trace_tool.specs.Runs.{run_text, end_of}
 use Rattle.trace_tool.specs.Traces.{trace_of, trace_text}
-use Rattle.source_events.specs.declared.MeaningEnd.{MeaningEnd}
-use Rattle.source_events.specs.declared.MeaningEnd.TheVariants as end
+use Rattle.source_events.specs.declared.End.{End}
+use Rattle.source_events.specs.declared.End.TheVariants as end
 use Rattle.source_events.specs.declared.Told.{Told}
 use Rattle.meaning_text.specs.Text.{told_text}
 use Rattle.meaning_tool.specs.Subjects.{told_of}
@@ -80,7 +80,7 @@ abbrev pub ran_overlay : OverlaySeen → ℕ → Answer
 ran_overlay overlay steps = writes (end_status (trace_of steps overlay).end) (trace_text steps overlay)
 
 -- the status of a meaning, by how it ended
-abbrev pub meaning_status : MeaningEnd → Status
+abbrev pub meaning_status : End → Status
 meaning_status (end.Halt v) = Done
 meaning_status end.Fail = MachineFailed
 meaning_status end.Waiting = Done

@@ -66,8 +66,8 @@ use Rattle.proc_sources.specs.declared.fault.SourceFault.{SourceFault}
 use Rattle.proc_sources.specs.Sources.{module_in, sourced}
 use Rattle.proc_language.specs.declared.dialect.Dialect.{Dialect}
 use Rattle.source_events.specs.declared.Item.{Item}
-use Rattle.source_events.specs.declared.MeaningEnd.{MeaningEnd}
-use Rattle.source_events.specs.declared.MeaningEnd.TheVariants as meaning_end
+use Rattle.source_events.specs.declared.End.{End}
+use Rattle.source_events.specs.declared.End.TheVariants as meaning_end
 use Rattle.source_events.specs.Outs.{LeaveIntegers}
 use Rattle.proc_semantics.specs.Meaning.{meaning}
 use Rattle.module_rules.specs.Rules.{stack_base_of, ruled}
@@ -288,12 +288,12 @@ TracedTo asked read old new end =
 -- ---- meanings
 
 -- the modules and the feed came, and their meaning ended so
-abbrev pub MeantTo : Option Command → List (List ℕ) → FilesSeen → FilesSeen → (MeaningEnd → Type 0) → Type 0
+abbrev pub MeantTo : Option Command → List (List ℕ) → FilesSeen → FilesSeen → (End → Type 0) → Type 0
 MeantTo asked read old new P =
     (s : Subject) × (fuel : ℕ) × CameOf asked read old (Ok (Tell s fuel)) new × P (told_of s fuel).end
 
 -- it halts, or waits
-abbrev pub IsAtRest : MeaningEnd → Type 0
+abbrev pub IsAtRest : End → Type 0
 IsAtRest e = ((v : ℤ) × (e ≡ meaning_end.Halt v)) ⊎ (e ≡ meaning_end.Waiting)
 
 -- ---- files that are put, and texts that are written

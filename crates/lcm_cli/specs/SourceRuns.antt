@@ -19,7 +19,7 @@ use Rattle.component_linker.specs.Parts.{PartSeen}
 use Rattle.component_linker.specs.Started.{StartSeen}
 use Rattle.module_rules.specs.Rules.{stack_base_of, ruled}
 use Rattle.run_feed.specs.Feed.{fed}
-use Rattle.source_events.specs.declared.MeaningEnd.{MeaningEnd}
+use Rattle.source_events.specs.declared.End.{End}
 use Rattle.source_events.specs.declared.Told.{Told}
 use Rattle.source_starts.specs.Sources.{AreSources}
 use Rattle.source_laws.specs.Sources.{MeaningEnds, MeaningBegins}
@@ -137,7 +137,7 @@ pub record TellsOfRun (modules : List ModuleFields) (l : Linked) (steps : ℕ) (
   pub told_is : told ≡ meaning (map part_of modules) from.size (came_in from.start steps) fuel
   pub status_is : ended ≡ meaning_status told.end
   pub written : Adds before.sink (told_text told) after.sink
-  pub tells : (end : MeaningEnd)
+  pub tells : (end : End)
       (ends : MeaningEnds (map part_of modules) from.size (came_in from.start steps)
       (went_out from.start steps) end)
       → ends.enough ≤ fuel → (told.end ≡ end) × (told.events ≡ went_out from.start steps)

@@ -45,7 +45,7 @@ use overlay_machine::laws::a_start_has_one_overlay;
 use proc_sources::laws::sources_are_modules;
 use refusal_lines::{Status, refusal_line, refusal_status};
 use run_items::laws::texts_tell_items;
-use source_events::MeaningEnd;
+use source_events::End;
 use source_starts::laws::{runs_mean, sources_show_nothing_else, stacks_begin};
 use std::alloc::Global;
 use trace_tool::laws::{frames_are_secret, open_calls_are_kept, the_headline};
@@ -164,13 +164,13 @@ fn give_text<S: Sink>(text: &Items<u8>, status: Status, out: &mut S) -> Status
     }
 }
 
-fn meaning_status(end: MeaningEnd) -> Status
+fn meaning_status(end: End) -> Status
     ensures { result ≡ meaning_status end }
 {
     match end {
-        MeaningEnd::Halt(_) | MeaningEnd::Waiting => Status::Done,
-        MeaningEnd::Fail => Status::MachineFailed,
-        MeaningEnd::OutOfFuel => Status::StepsUsed,
+        End::Halt(_) | End::Waiting => Status::Done,
+        End::Fail => Status::MachineFailed,
+        End::OutOfFuel => Status::StepsUsed,
     }
 }
 

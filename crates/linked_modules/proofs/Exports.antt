@@ -6,7 +6,7 @@ use Rattle.std.specs.List.{list_any}
 use Rattle.std.specs.Str.{bytes_eq}
 use Rattle.std.proofs.lemmas.Slice.Eq.{bytes_eq-Decides}
 use Rattle.component_file.specs.declared.component.Import.{Import}
-use Rattle.proc_language.specs.declared.module.ModuleImport.{ModuleImport as ModuleImport}
+use Rattle.proc_language.specs.declared.module.Import.{Import as ModuleImport}
 use Rattle.proc_language.specs.declared.module.Proc.{Proc}
 use Rattle.proc_language.specs.declared.module.ModuleFields.{ModuleFields}
 use Rattle.proc_program.specs.declared.program.Procedure.{Procedure}

@@ -25,7 +25,7 @@ use Rattle.component_linker.specs.Links.{l3, l5, l6, rules_l, is_private as is_p
 use Rattle.component_linker.specs.Links.{has_main as part_has_main}
 use Rattle.component_linker.proofs.Offers.{first_broken_in, slice_get-take, taken, any_settled, in_part}
 use Rattle.component_linker.proofs.Offers.{stack_fits as parts_fit, stack_bases, imports_found, taken_get}
-use Rattle.proc_language.specs.declared.module.ModuleImport.{ModuleImport as ModuleImport}
+use Rattle.proc_language.specs.declared.module.Import.{Import as ModuleImport}
 use Rattle.proc_language.specs.declared.module.Proc.{Proc}
 use Rattle.proc_language.specs.declared.module.ModuleFields.{ModuleFields}
 use Rattle.proc_program.specs.Lower.{part_of}

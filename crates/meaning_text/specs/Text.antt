@@ -6,8 +6,8 @@ use Rattle.source_events.specs.declared.OutArg.{OutArg}
 use Rattle.source_events.specs.declared.OutArg.TheVariants.{Int, Half}
 use Rattle.source_events.specs.declared.OutEvent.{OutEvent}
 use Rattle.source_events.specs.declared.OutEvent.TheVariants.{CallOut, LeaveOut}
-use Rattle.source_events.specs.declared.MeaningEnd.{MeaningEnd}
-use Rattle.source_events.specs.declared.MeaningEnd.TheVariants.{Halt, Fail, Waiting, OutOfFuel}
+use Rattle.source_events.specs.declared.End.{End}
+use Rattle.source_events.specs.declared.End.TheVariants.{Halt, Fail, Waiting, OutOfFuel}
 use Rattle.source_events.specs.declared.Told.{Told}
 
 -- an integer, or that it is one half of a pair
@@ -28,7 +28,7 @@ event_text (LeaveOut part value) =
 abbrev pub events_text : List OutEvent → List ℕ
 events_text events = flat_map event_text events
 
-abbrev pub end_text : MeaningEnd → List ℕ
+abbrev pub end_text : End → List ℕ
 end_text (Halt value) = codes "halt" ++ field_text (signed_decimal value)
 end_text Fail = codes "fail"
 end_text Waiting = codes "waiting"

@@ -5,7 +5,7 @@ ghost use Rattle.meaning_text.specs.Text.{out_args_text, event_text, events_text
 
 use crate::pieces::{end_line, push, push_arg, push_field, push_integer, push_number};
 use cap_words::Items;
-use source_events::{MeaningEnd, OutArg, OutEvent, Told};
+use source_events::{End, OutArg, OutEvent, Told};
 use std::alloc::{AllocError, Global};
 
 // Appends what the registers of a call hold.
@@ -67,17 +67,17 @@ fn push_events(text: &mut Vec<u8>, events: &[OutEvent]) -> Result<(), AllocError
 }
 
 // Appends how a meaning ended.
-fn push_end(text: &mut Vec<u8>, end: MeaningEnd) -> Result<(), AllocError>
+fn push_end(text: &mut Vec<u8>, end: End) -> Result<(), AllocError>
     ensures { OnOk result (text.new.items ≡ text.old.items ++ end_text end) }
 {
     match end {
-        MeaningEnd::Halt(value) => {
+        End::Halt(value) => {
             push(text, "halt")?;
             push_integer(text, value)
         }
-        MeaningEnd::Fail => push(text, "fail"),
-        MeaningEnd::Waiting => push(text, "waiting"),
-        MeaningEnd::OutOfFuel => push(text, "fuel"),
+        End::Fail => push(text, "fail"),
+        End::Waiting => push(text, "waiting"),
+        End::OutOfFuel => push(text, "fuel"),
     }
 }
 

@@ -17,7 +17,7 @@ use module_rules::{check_modules, stack_base_of};
 use outside_io::Files;
 use proc_language::Module;
 use proc_meaning::meaning;
-use source_events::{Item, MeaningEnd};
+use source_events::{End, Item};
 use std::alloc::Global;
 
 /// What `mean` writes, and how the meaning ended.
@@ -26,7 +26,7 @@ pub struct Meaning {
     /// A line for each event, and the end line.
     pub text: Items<u8>,
     /// How it ended.
-    pub end: MeaningEnd,
+    pub end: End,
 }
 
 // Whether modules keep the rules of a meaning.

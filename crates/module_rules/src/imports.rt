@@ -9,7 +9,7 @@ ghost use Rattle.module_rules.specs.Rules.{is_unshared, is_private, imports_are_
 use crate::pairs::{module_at, same_name};
 use crate::places::{ModulePlace, first_in};
 use component_check::first_place;
-use proc_language::{Module, ModuleFields, ModuleImport, Proc};
+use proc_language::{Import, Module, ModuleFields, Proc};
 
 // The first module of a name.
 fn module_named<'a>(modules: &'a [Module], name: &[u8]) -> Option<&'a Module>
@@ -37,7 +37,7 @@ fn is_missing(from: Option<&Module>, name: &[u8]) -> bool
     }
 }
 
-fn import_is_missing(modules: &[Module], imports: &[ModuleImport], k: usize) -> bool
+fn import_is_missing(modules: &[Module], imports: &[Import], k: usize) -> bool
     requires { k < length imports.now }
     ensures { result ≡ passes (λ x. is_missing (module_named modules.now x.part.text) x.name.text)
         (slice_get imports.now k) }

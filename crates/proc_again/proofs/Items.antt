@@ -10,7 +10,7 @@ use Rattle.proc_grammar.specs.PlainTrees.{plain_trees}
 use Rattle.cap_words.specs.declared.TheConstants.{LAST_PLACE}
 use Rattle.proc_language.specs.declared.TheConstants.{MOST_ITEMS, MOST_LOCALS, MOST_REGISTERS}
 use Rattle.proc_language.specs.declared.tree.Name.{Name}
-use Rattle.proc_language.specs.declared.module.ModuleImport.{ModuleImport}
+use Rattle.proc_language.specs.declared.module.Import.{Import}
 use Rattle.proc_language.specs.declared.module.Global.{Global}
 use Rattle.proc_language.specs.declared.module.Param.{Param}
 use Rattle.proc_language.specs.declared.module.Proc.{Proc}
@@ -70,7 +70,7 @@ items_again = items_by_again one_more (λ n. n) (λ n x. refl)
 
 -- ---- imports
 
-pub import_again : (i : ModuleImport) → ImportFits i → (count : ℕ) → count < MOST_ITEMS
+pub import_again : (i : Import) → ImportFits i → (count : ℕ) → count < MOST_ITEMS
     → Again (import_item [] true count) (import_pieces i) (λ x. unplaced_import x ≡ unplaced_import i)
 unfolding import_item
 import_again i fits count few =

@@ -3,7 +3,7 @@ use Rattle.std.proofs.Common.{◌≡◌, ◌≤◌, true, List, [], ◌∷◌, r
 use Rattle.std.proofs.lemmas.List.{append-nil}
 use Rattle.proc_grammar.specs.PlainTrees.{plain_trees}
 use Rattle.proc_language.specs.declared.TheConstants.{MOST_ITEMS}
-use Rattle.proc_language.specs.declared.module.ModuleImport.{ModuleImport}
+use Rattle.proc_language.specs.declared.module.Import.{Import}
 use Rattle.proc_language.specs.declared.module.Global.{Global}
 use Rattle.proc_language.specs.declared.module.Proc.{Proc}
 use Rattle.proc_language.specs.declared.module.ModuleFields.{ModuleFields}
@@ -18,7 +18,7 @@ use Rattle.proc_again.proofs.Steps.{step, done, at}
 use Rattle.proc_again.proofs.Items.{items_again, import_again, InitialFits, global_again, ProcAgain}
 use Rattle.proc_again.proofs.Items.{a_proc_again, SameHeader, header_again}
 
-alike_module : (m : ModuleFields) (h : ModuleHeader) (is : List ModuleImport) (gs : List Global)
+alike_module : (m : ModuleFields) (h : ModuleHeader) (is : List Import) (gs : List Global)
     (ps : List Proc)
     → SameHeader m h
     → map unplaced_import is ≡ map unplaced_import m.imports
@@ -40,7 +40,7 @@ alike_module m h is gs ps same a b c = λ i. record {
   procs = c i;
 }
 
-procs_again : (m : ModuleFields) (h : ModuleHeader) (is : List ModuleImport) (gs : List Global)
+procs_again : (m : ModuleFields) (h : ModuleHeader) (is : List Import) (gs : List Global)
     → SameHeader m h
     → map unplaced_import is ≡ map unplaced_import m.imports
     → map unplaced_global gs ≡ map unplaced_global m.globals

@@ -5,7 +5,7 @@ use Rattle.std.specs.Prelude.{codes, ℤ, pos, negsuc, IfSome}
 use Rattle.proc_language.specs.declared.tree.Name.{Name}
 use Rattle.proc_language.specs.declared.tree.Op.{Op}
 use Rattle.proc_language.specs.declared.tree.Op.TheVariants.{Plus, Minus, Less, Equal}
-use Rattle.proc_language.specs.declared.module.ModuleImport.{ModuleImport}
+use Rattle.proc_language.specs.declared.module.Import.{Import}
 use Rattle.proc_language.specs.declared.module.Global.{Global}
 use Rattle.proc_language.specs.declared.module.Param.{Param}
 use Rattle.proc_language.specs.declared.module.Proc.{Proc}
@@ -211,7 +211,7 @@ all_sound f Fits one [] fits = tt
 all_sound f Fits one (x ∷ xs) fits = both (f x) (flat_map f xs) (one x fits.0)
     (all_sound f Fits one xs fits.1)
 
-import_sound : (i : ModuleImport) → ImportFits i → AreSound (import_pieces i)
+import_sound : (i : Import) → ImportFits i → AreSound (import_pieces i)
 import_sound i fits = (
   import_word,
   (

@@ -9,7 +9,7 @@ use Rattle.proc_language.specs.declared.TheConstants.{MOST_ITEMS, MOST_REGISTERS
 use Rattle.proc_language.specs.declared.TheConstants.{MOST_TOKENS}
 use Rattle.proc_language.specs.declared.tree.Name.{Name}
 use Rattle.proc_language.specs.declared.tree.Op.{Op}
-use Rattle.proc_language.specs.declared.module.ModuleImport.{ModuleImport}
+use Rattle.proc_language.specs.declared.module.Import.{Import}
 use Rattle.proc_language.specs.declared.module.Global.{Global}
 use Rattle.readers.specs.Readers.{◌>>=◌, done}
 use Rattle.phrases.specs.Phrase as phrases
@@ -592,7 +592,7 @@ module _ {E A S P V R M : Type 0} (T : Makes E A S P V R M) (limits : Bool) (fue
       (heads_as (heads_then _ (heads_one (word (codes "proc")))) (λ u g. inr g)) in
       full_head t (h t x p)
 
-  import_full : (count : ℕ) (t : List Lexeme) (x : ModuleImport) → grammar.import_item
+  import_full : (count : ℕ) (t : List Lexeme) (x : Import) → grammar.import_item
       (words_of T.tokens) false count t x
       → 1 ≤ length t
   unfolding grammar.import_item

@@ -6,7 +6,7 @@ use Rattle.proc_language.specs.declared.TheConstants.{MOST_ITEMS, MOST_REGISTERS
 use Rattle.proc_language.specs.declared.TheConstants.{LARGEST_LITERAL}
 use Rattle.proc_language.specs.declared.tree.Name.{Name}
 use Rattle.proc_language.specs.declared.tree.Op.{Op}
-use Rattle.proc_language.specs.declared.module.ModuleImport.{ModuleImport}
+use Rattle.proc_language.specs.declared.module.Import.{Import}
 use Rattle.proc_language.specs.declared.module.Global.{Global}
 use Rattle.proc_language.specs.Limits.{Each, NameFits, ImportFits, GlobalFits, SealsFit}
 use Rattle.proc_grammar.specs.declared.header.ModuleHeader.{ModuleHeader}
@@ -103,7 +103,7 @@ module _ {E A S P V R M : Type 0} (T : Makes E A S P V R M) (L : Limits E A S P 
     pub proc : (at end : ℕ) (shared : Bool) (x : Name) (params : List P) (locals : List V) (body : List S)
         → NameFits x → L.Params none_taken params → L.Locals (behind_params T params) locals → L.Body body
         → L.Proc (T.proc at end shared x params locals body)
-    pub module_of : (h : ModuleHeader) (imports : List ModuleImport) (globals : List Global) (procs : List R)
+    pub module_of : (h : ModuleHeader) (imports : List Import) (globals : List Global) (procs : List R)
         → HeaderFits h → Few ImportFits imports → Few GlobalFits globals → 1 ≤ length procs
         → Few L.Proc procs → L.Module (T.module_of h imports globals procs)
     pub tokens : IfSome T.tokens KeepsTokens

@@ -8,7 +8,7 @@ use Rattle.proc_language.specs.declared.TheConstants.{LONGEST_ARRAY, LARGEST_LIT
 use Rattle.proc_language.specs.declared.TheConstants.{MOST_BRACKETS, MOST_TOKENS}
 use Rattle.proc_language.specs.declared.tree.Name.{Name}
 use Rattle.proc_language.specs.declared.tree.Op.{Op}
-use Rattle.proc_language.specs.declared.module.ModuleImport.{ModuleImport}
+use Rattle.proc_language.specs.declared.module.Import.{Import}
 use Rattle.proc_language.specs.declared.module.Global.{Global}
 use Rattle.phrases.specs.Phrase as phrases
 use Rattle.phrases.specs.Phrase.{◌>>=◌, only, one, ◌or◌, where_true, nothing, many}
@@ -151,7 +151,7 @@ module _ (words : List (List ℕ)) (limits : Bool) where
     _ ← where_true (kept limits (is_short x))
     only x
 
-  unfoldable pub import_item : ℕ → Phrase ModuleImport
+  unfoldable pub import_item : ℕ → Phrase Import
   import_item count = do
     at ← one (word (codes "import"))
     _ ← within limits count MOST_ITEMS

@@ -4,7 +4,7 @@
 use Rattle.std.specs.Prelude.{ℕ, Bool, List, Option}
 use Rattle.proc_language.specs.declared.tree.Name.{Name}
 use Rattle.proc_language.specs.declared.tree.Op.{Op}
-use Rattle.proc_language.specs.declared.module.ModuleImport.{ModuleImport}
+use Rattle.proc_language.specs.declared.module.Import.{Import}
 use Rattle.proc_language.specs.declared.module.Global.{Global}
 use Rattle.proc_grammar.specs.declared.header.ModuleHeader.{ModuleHeader}
 
@@ -47,5 +47,5 @@ pub record Makes (E A S P V R M : Type 0) : Type 0 where
   -- how many tokens it is
   pub local_tokens : V → ℕ
   pub proc : ℕ → ℕ → Bool → Name → List P → List V → List S → R
-  pub module_of : ModuleHeader → List ModuleImport → List Global → List R → M
+  pub module_of : ModuleHeader → List Import → List Global → List R → M
   pub tokens : Option (TokenMakes A S P V)

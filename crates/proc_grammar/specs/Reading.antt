@@ -7,7 +7,7 @@ use Rattle.proc_language.specs.declared.TheConstants.{MOST_ITEMS, MOST_REGISTERS
 use Rattle.proc_language.specs.declared.TheConstants.{MOST_TOKENS}
 use Rattle.proc_language.specs.declared.tree.Name.{Name}
 use Rattle.proc_language.specs.declared.tree.Op.{Op}
-use Rattle.proc_language.specs.declared.module.ModuleImport.{ModuleImport}
+use Rattle.proc_language.specs.declared.module.Import.{Import}
 use Rattle.proc_language.specs.declared.module.Global.{Global}
 use Rattle.readers.specs.Readers.{◌>>=◌, done, holds}
 use Rattle.phrases.specs.Reading.{case_next}
@@ -82,7 +82,7 @@ module _ (words : List (List ℕ)) (limits : Bool) where
     x ← one (a_name words)
     proper_name x
 
-  unfoldable pub next_import : ℕ → Reader ModuleImport
+  unfoldable pub next_import : ℕ → Reader Import
   next_import count = do
     at ← one (word (codes "import"))
     _ ← within limits count MOST_ITEMS at

@@ -5,7 +5,7 @@ ghost use Rattle.proc_grammar.specs.Lexemes.{taken, words_of};
 
 use crate::header::ModuleHeader;
 use cap_words::Items;
-use proc_language::{Global, ModuleImport, Name, Op};
+use proc_language::{Global, Import, Name, Op};
 use std::alloc::{AllocError, Global as Heap};
 
 /// A language of this grammar: its trees, and what they are made of. A first place is that of the first
@@ -203,7 +203,7 @@ pub trait Language {
     /// A module.
     fn module_of(
         header: ModuleHeader,
-        imports: Items<ModuleImport>,
+        imports: Items<Import>,
         globals: Items<Global>,
         procs: Items<Self::Proc>,
     ) -> Self::Module

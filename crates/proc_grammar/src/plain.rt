@@ -6,8 +6,7 @@ use crate::header::ModuleHeader;
 use crate::language::Language;
 use cap_words::Items;
 use proc_language::{
-    Arg, Call, Expr, ExprKind, Global, ModuleFields, ModuleImport, Name, Op, Param, Proc, Stmt,
-    StmtKind,
+    Arg, Call, Expr, ExprKind, Global, Import, ModuleFields, Name, Op, Param, Proc, Stmt, StmtKind,
 };
 use std::alloc::{AllocError, Global as Heap};
 
@@ -246,7 +245,7 @@ impl Language for Plain {
 
     fn module_of(
         header: ModuleHeader,
-        imports: Items<ModuleImport>,
+        imports: Items<Import>,
         globals: Items<Global>,
         procs: Items<Proc>,
     ) -> ModuleFields

@@ -6,7 +6,7 @@ use Rattle.cap_words.specs.declared.TheConstants.{LAST_PLACE}
 use Rattle.proc_language.specs.declared.TheConstants.{MOST_SEALS, MOST_ITEMS, MOST_REGISTERS}
 use Rattle.proc_language.specs.declared.TheConstants.{MOST_LOCALS, LONGEST_ARRAY, LARGEST_LITERAL}
 use Rattle.proc_language.specs.declared.tree.Name.{Name}
-use Rattle.proc_language.specs.declared.module.ModuleImport.{ModuleImport}
+use Rattle.proc_language.specs.declared.module.Import.{Import}
 use Rattle.proc_language.specs.declared.module.Global.{Global}
 use Rattle.proc_language.specs.declared.module.Param.{Param}
 use Rattle.proc_language.specs.declared.module.Proc.{Proc}
@@ -77,7 +77,7 @@ abbrev mutual
 abbrev pub ArityFits : Option ℕ → Type 0
 ArityFits arity = IfSome arity (λ n. n ≤ MOST_REGISTERS)
 
-abbrev pub ImportFits : ModuleImport → Type 0
+abbrev pub ImportFits : Import → Type 0
 ImportFits i = NameFits i.part × NameFits i.name × (i.arity ≤ MOST_REGISTERS)
 
 abbrev pub LengthFits : ℕ → Type 0

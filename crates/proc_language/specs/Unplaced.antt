@@ -1,7 +1,7 @@
 -- Trees without their places: every place is 0.
 use Rattle.std.specs.Prelude.{◌≡◌, map}
 use Rattle.proc_language.specs.declared.tree.Name.{Name}
-use Rattle.proc_language.specs.declared.module.ModuleImport.{ModuleImport}
+use Rattle.proc_language.specs.declared.module.Import.{Import}
 use Rattle.proc_language.specs.declared.module.Global.{Global}
 use Rattle.proc_language.specs.declared.module.Param.{Param}
 use Rattle.proc_language.specs.declared.module.Proc.{Proc}
@@ -41,7 +41,7 @@ abbrev mutual
   unplaced_block no_stmts = no_stmts
   unplaced_block (stmt s b) = stmt (unplaced_stmt s) (unplaced_block b)
 
-abbrev pub unplaced_import : ModuleImport → ModuleImport
+abbrev pub unplaced_import : Import → Import
 unplaced_import i = record i { at = 0; part = unplaced_name i.part; name = unplaced_name i.name }
 
 abbrev pub unplaced_global : Global → Global

@@ -11,7 +11,7 @@ mod tree;
 mod words;
 
 pub use dialect::Dialect;
-pub use module::{Global, Module, ModuleFields, ModuleImport, Param, Proc};
+pub use module::{Global, Import, Module, ModuleFields, Param, Proc};
 pub use tree::{Arg, Call, Expr, ExprKind, Name, Op, Stmt, StmtKind};
 pub use words::{is_name, is_reserved};
 

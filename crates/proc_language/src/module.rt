@@ -7,7 +7,7 @@ use std::marker::Model;
 
 /// What another part exports under a name, to be called.
 #[derive(Drop)]
-pub struct ModuleImport {
+pub struct Import {
     /// The place of `import`.
     pub at: u32,
     /// The name of the part.
@@ -79,7 +79,7 @@ pub struct ModuleFields {
     /// Whether the part may be placed elsewhere.
     pub movable: bool,
     /// What it wants to call.
-    pub imports: Items<ModuleImport>,
+    pub imports: Items<Import>,
     /// Its variables and arrays.
     pub globals: Items<Global>,
     /// Its procedures.

@@ -4,8 +4,8 @@ use Rattle.std.proofs.Common.{sym, ap, ap₂, ◌∙◌, arith}
 use Rattle.std.proofs.lemmas.List.{append_assoc}
 use Rattle.source_events.specs.declared.Item.{Item}
 use Rattle.source_events.specs.declared.OutEvent.{OutEvent}
-use Rattle.source_events.specs.declared.MeaningEnd.{MeaningEnd}
-use Rattle.source_events.specs.declared.MeaningEnd.TheVariants.{OutOfFuel, Waiting}
+use Rattle.source_events.specs.declared.End.{End}
+use Rattle.source_events.specs.declared.End.TheVariants.{OutOfFuel, Waiting}
 use Rattle.source_events.specs.declared.Told.{Told}
 use Rattle.proc_semantics.specs.Told.{Comp, ends, ticks, counted, emit, take_item}
 
@@ -85,7 +85,7 @@ module _ (fuel : ℕ) (total : Told) where
       (ap (λ l. l ++ t.events) is ∙ append_assoc xs (x ∷ []) t.events)
       ∙ ap (λ (y : Comp). more xs (fuel - left) (y left feed)) (sym e) ∙ h
 
-  pub stopped : (m : Comp) (x : MeaningEnd) (xs : List OutEvent) (left : ℕ) (feed : List Item) → m ≡ ends x
+  pub stopped : (m : Comp) (x : End) (xs : List OutEvent) (left : ℕ) (feed : List Item) → m ≡ ends x
       → more xs (fuel - left) (m left feed) ≡ total → record { events = xs; end = x; ticks = fuel - left }
       ≡ total
   stopped m x xs left feed e h =

@@ -2,7 +2,7 @@
 -- list has to be of good form.
 use Rattle.std.specs.Prelude.{ℕ, ◌+◌, ◌*◌, ◌<◌, ◌≤◌, length, ℤ, pos, List, [], ◌∷◌, ◌++◌, reverse}
 use Rattle.std.specs.Prelude.{Option, Some, None, if◌then◌else◌}
-use Rattle.source_events.specs.declared.MeaningEnd.TheVariants.{Halt as Halted}
+use Rattle.source_events.specs.declared.End.TheVariants.{Halt as Halted}
 use Rattle.proc_program.specs.declared.program.CallExp.{CallExp}
 use Rattle.proc_program.specs.Program.{Exp, Args, Block}
 use Rattle.proc_program.specs.View.{args_of}

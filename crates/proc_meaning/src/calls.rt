@@ -12,7 +12,7 @@ use crate::work::{Ahead, Now, Whence, Work};
 use cap_words::Items;
 use proc_program::{ArgExp, CallExp, Program};
 use proc_semantics::{Activation, Pair, Value};
-use source_events::{MeaningEnd, OutEvent};
+use source_events::{End, OutEvent};
 use std::alloc::{AllocError, Global};
 
 /// The name of a module, as an event has it.
@@ -57,10 +57,10 @@ fn call<'a>(
     ensures less { IfOk result (λ a. IsLess a work.new.items (2 * length work.old.items + 3)) }
 {
     let Some(given) = given_of(run.frame) else {
-        return Ok(Ahead::Stop(MeaningEnd::Fail));
+        return Ok(Ahead::Stop(End::Fail));
     };
     match pair_of(world, run, to.handle) {
-        Pair::Bad => Ok(Ahead::Stop(MeaningEnd::Fail)),
+        Pair::Bad => Ok(Ahead::Stop(End::Fail)),
         Pair::Outside => {
             let name = part_name(alloc, world, run.frame.home)?;
             let event = OutEvent::CallOut(name, to.site, out_args(&values));

@@ -12,7 +12,7 @@ use crate::places::Run;
 use crate::work::{Ahead, Now, Whence, Work};
 use proc_program::Program;
 use proc_semantics::{Activation, Register, Target, Value};
-use source_events::MeaningEnd;
+use source_events::End;
 use std::alloc::{AllocError, Global};
 
 /// Locals that begin at 0, behind what parameters took.
@@ -65,7 +65,7 @@ pub(crate) fn begin<'a>(
     ensures less { IfOk result (λ a. IsLess a work.new.items (2 * length work.old.items)) }
 {
     let Some(proc) = proc_at(world, target) else {
-        return Ok(Ahead::Stop(MeaningEnd::Fail));
+        return Ok(Ahead::Stop(End::Fail));
     };
     let ticks = sum(proc.need, 1);
     let Some(words) = enough(proc.need, left) else {
@@ -118,7 +118,7 @@ fn back_of<'a>(w: Work<'a>, v: i64, run: &mut Run) -> Ahead<'a>
         Work::Rest(_) => Ahead::Free(Now::Back(v)),
         Work::Turn(_, _) => Ahead::Free(Now::Back(v)),
         Work::Ends(whence) => end_run(whence, v, run),
-        _ => Ahead::Stop(MeaningEnd::Fail),
+        _ => Ahead::Stop(End::Fail),
     }
 }
 
@@ -131,6 +131,6 @@ pub(crate) fn give_back<'a>(v: i64, work: &mut Vec<Work<'a>>, run: &mut Run) -> 
 {
     match work.pop() {
         Some(w) => back_of(w, v, run),
-        None => Ahead::Stop(MeaningEnd::Fail),
+        None => Ahead::Stop(End::Fail),
     }
 }

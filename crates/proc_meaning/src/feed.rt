@@ -14,7 +14,7 @@ use crate::places::{Run, registers};
 use crate::work::{Ahead, Now, Whence, Work};
 use proc_program::Program;
 use proc_semantics::Value;
-use source_events::{FeedBack, Item, MeaningEnd, OutArg, OutEvent};
+use source_events::{End, FeedBack, Item, OutArg, OutEvent};
 use std::alloc::{AllocError, Global};
 
 // ---- the newest call that waits
@@ -85,15 +85,15 @@ fn resume_at<'a>(
     match w {
         Work::Waits(caller, site, given) => {
             let Some(value) = value else {
-                return Ahead::Stop(MeaningEnd::Fail);
+                return Ahead::Stop(End::Fail);
             };
             if is_for(world, caller.frame.home, site, given, asked) {
                 *run = caller;
                 return Ahead::Free(Now::Value(value));
             }
-            Ahead::Stop(MeaningEnd::Fail)
+            Ahead::Stop(End::Fail)
         }
-        _ => Ahead::Stop(MeaningEnd::Fail),
+        _ => Ahead::Stop(End::Fail),
     }
 }
 
@@ -113,7 +113,7 @@ fn resume<'a>(
 {
     match work.pop() {
         Some(w) => resume_at(world, w, asked, value, run),
-        None => Ahead::Stop(MeaningEnd::Fail),
+        None => Ahead::Stop(End::Fail),
     }
 }
 
@@ -141,10 +141,10 @@ pub(crate) fn leave<'a>(
             let event = OutEvent::LeaveOut(part_name(alloc, world, home)?, OutArg::Int(value));
             Ok(Ahead::Said(event, Now::Wait))
         }
-        FeedBack::Bad => Ok(Ahead::Stop(MeaningEnd::Fail)),
+        FeedBack::Bad => Ok(Ahead::Stop(End::Fail)),
         FeedBack::Hop(part, name) => {
             let Some(target) = found(world, part.as_slice(), name.as_slice()) else {
-                return Ok(Ahead::Stop(MeaningEnd::Fail));
+                return Ok(Ahead::Stop(End::Fail));
             };
             let registers = registers(alloc, &[Value::Num(value)])?;
             let whence = Whence::Entered(home, left, way);
@@ -152,7 +152,7 @@ pub(crate) fn leave<'a>(
         }
         FeedBack::Pair(part, site, base) => {
             let Some(left) = left else {
-                return Ok(Ahead::Stop(MeaningEnd::Fail));
+                return Ok(Ahead::Stop(End::Fail));
             };
             let asked = Asked {
                 part: part.as_slice(),
@@ -188,7 +188,7 @@ pub(crate) fn take<'a>(
             back,
         } => {
             let Some(target) = found(world, part.as_slice(), name.as_slice()) else {
-                return Ok(Ahead::Stop(MeaningEnd::Fail));
+                return Ok(Ahead::Stop(End::Fail));
             };
             let registers = registers_fed(alloc, world, args, pairs)?;
             let whence = Whence::Entered(target.home, *left, back);

@@ -15,7 +15,7 @@ use crate::places::{Run, Words, set_word, word_at};
 use crate::work::{Ahead, Now, Work};
 use proc_program::{Exp, Location, Statement, StatementKind};
 use proc_semantics::Value;
-use source_events::MeaningEnd;
+use source_events::End;
 use std::alloc::AllocError;
 
 /// A statement begins.
@@ -135,7 +135,7 @@ fn give_to<'a>(
     match w {
         Work::Index(row) => match element_at(row, v) {
             Some(o) => Ok(Ahead::Free(Now::Value(word_at(store, run.frame.home, o)))),
-            None => Ok(Ahead::Stop(MeaningEnd::Fail)),
+            None => Ok(Ahead::Stop(End::Fail)),
         },
         Work::Right(op, e) => {
             work.push(Work::Operate(op, v))?;
@@ -143,7 +143,7 @@ fn give_to<'a>(
         }
         Work::Operate(op, x) => match result_of(op, x, v) {
             Some(result) => Ok(Ahead::Free(Now::Value(result))),
-            None => Ok(Ahead::Stop(MeaningEnd::Fail)),
+            None => Ok(Ahead::Stop(End::Fail)),
         },
         Work::Arg(to, mut values, rest) => {
             values.push(Value::Num(v))?;
@@ -162,14 +162,14 @@ fn give_to<'a>(
                 set_word(store, run.frame.home, o, v);
                 Ok(Ahead::Free(Now::Next))
             }
-            None => Ok(Ahead::Stop(MeaningEnd::Fail)),
+            None => Ok(Ahead::Stop(End::Fail)),
         },
         Work::Forget => Ok(Ahead::Free(Now::Next)),
         Work::Choose(a, b) => choose(v, a, b, work),
         Work::Test(c, b) => test(v, c, b, work),
         Work::Return => Ok(Ahead::Free(Now::Back(v))),
-        Work::Halt => Ok(Ahead::Stop(MeaningEnd::Halt(v))),
-        _ => Ok(Ahead::Stop(MeaningEnd::Fail)),
+        Work::Halt => Ok(Ahead::Stop(End::Halt(v))),
+        _ => Ok(Ahead::Stop(End::Fail)),
     }
 }
 
@@ -187,7 +187,7 @@ pub(crate) fn give<'a>(
 {
     match work.pop() {
         Some(w) => give_to(w, v, work, run, store),
-        None => Ok(Ahead::Stop(MeaningEnd::Fail)),
+        None => Ok(Ahead::Stop(End::Fail)),
     }
 }
 
@@ -215,7 +215,7 @@ fn next_of<'a>(
             Ok(Ahead::Ticked(1, Now::Eval(c)))
         }
         Work::Ends(whence) => Ok(end_run(whence, 0, run)),
-        _ => Ok(Ahead::Stop(MeaningEnd::Fail)),
+        _ => Ok(Ahead::Stop(End::Fail)),
     }
 }
 
@@ -228,6 +228,6 @@ pub(crate) fn next<'a>(work: &mut Vec<Work<'a>>, run: &mut Run) -> Result<Ahead<
 {
     match work.pop() {
         Some(w) => next_of(w, work, run),
-        None => Ok(Ahead::Stop(MeaningEnd::Fail)),
+        None => Ok(Ahead::Stop(End::Fail)),
     }
 }

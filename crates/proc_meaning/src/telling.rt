@@ -12,7 +12,7 @@ use crate::turns::turn;
 use crate::work::{Ahead, Now, Whence, Work};
 use cap_words::Items;
 use proc_program::Program;
-use source_events::{Item, MeaningEnd, OutEvent, Told};
+use source_events::{End, Item, OutEvent, Told};
 use std::alloc::{AllocError, Global};
 
 /// What the words of the globals are at first.
@@ -37,7 +37,7 @@ fn first<'a>(alloc: Global, world: &[Program], stack: u32) -> Now<'a>
     }
 }
 
-fn told(events: Vec<OutEvent>, end: MeaningEnd, ticks: u64) -> Told
+fn told(events: Vec<OutEvent>, end: End, ticks: u64) -> Told
     ensures { result ≡ record { events = events.items; end = end; ticks = ticks } }
 {
     Told {
@@ -71,7 +71,7 @@ pub fn meaning_of_parts(
             Ahead::Free(next) => now = next,
             Ahead::Ticked(ticks, next) => {
                 if left < ticks {
-                    return Ok(told(events, MeaningEnd::OutOfFuel, fuel));
+                    return Ok(told(events, End::OutOfFuel, fuel));
                 }
                 left -= ticks;
                 now = next;
@@ -81,7 +81,7 @@ pub fn meaning_of_parts(
                 now = next;
             }
             Ahead::Asks => match coming.split_first() {
-                None => return Ok(told(events, MeaningEnd::Waiting, fuel - left)),
+                None => return Ok(told(events, End::Waiting, fuel - left)),
                 Some((item, rest)) => {
                     coming = rest;
                     now = Now::Take(item);

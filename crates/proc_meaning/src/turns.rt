@@ -10,7 +10,7 @@ use crate::places::{Run, Words};
 use crate::steps::{give, next};
 use crate::work::{Ahead, Now, Work};
 use proc_program::Program;
-use source_events::MeaningEnd;
+use source_events::End;
 use std::alloc::{AllocError, Global};
 
 /// One turn.
@@ -39,6 +39,6 @@ pub(crate) fn turn<'a>(
         }
         Now::Wait => Ok(Ahead::Asks),
         Now::Take(item) => take(alloc, world, item, work, run),
-        Now::Fail => Ok(Ahead::Stop(MeaningEnd::Fail)),
+        Now::Fail => Ok(Ahead::Stop(End::Fail)),
     }
 }

@@ -3,7 +3,7 @@ use crate::places::Run;
 use proc_language::Op;
 use proc_program::{ArgExp, Array, CallExp, Exp, Location, Statement};
 use proc_semantics::{Register, Target, Value};
-use source_events::{FeedBack, Item, MeaningEnd, OutEvent};
+use source_events::{End, FeedBack, Item, OutEvent};
 
 /// What is to be done with a value, behind a statement, or at the end of a procedure.
 #[derive(Drop)]
@@ -90,5 +90,5 @@ pub(crate) enum Ahead<'a> {
     /// With the next item of the feed.
     Asks,
     /// Nothing.
-    Stop(MeaningEnd),
+    Stop(End),
 }

@@ -4,7 +4,7 @@ use proc_language::Module;
 use proc_meaning::meaning;
 use proc_names::resolve;
 use proc_parse::parse;
-use source_events::{FeedBack, FeedPair, Item, MeaningEnd, OutArg, OutEvent, Told};
+use source_events::{End, FeedBack, FeedPair, Item, OutArg, OutEvent, Told};
 use std::alloc::{AllocError, Global};
 
 /// What a pair of registers is, or what a return would do.
@@ -132,12 +132,12 @@ fn push_event(text: &mut Vec<u8>, alloc: Global, event: &OutEvent) -> Result<(),
     text.extend_from_slice(b"; ")
 }
 
-fn push_end(text: &mut Vec<u8>, alloc: Global, end: MeaningEnd) -> Result<(), AllocError> {
+fn push_end(text: &mut Vec<u8>, alloc: Global, end: End) -> Result<(), AllocError> {
     match end {
-        MeaningEnd::Halt(v) => text.extend_from_slice(format!(in alloc; "halt {}", v)?.as_bytes()),
-        MeaningEnd::Fail => text.extend_from_slice(b"fail"),
-        MeaningEnd::Waiting => text.extend_from_slice(b"waiting"),
-        MeaningEnd::OutOfFuel => text.extend_from_slice(b"out_of_fuel"),
+        End::Halt(v) => text.extend_from_slice(format!(in alloc; "halt {}", v)?.as_bytes()),
+        End::Fail => text.extend_from_slice(b"fail"),
+        End::Waiting => text.extend_from_slice(b"waiting"),
+        End::OutOfFuel => text.extend_from_slice(b"out_of_fuel"),
     }
 }
 

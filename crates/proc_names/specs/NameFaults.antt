@@ -3,7 +3,7 @@ use Rattle.std.specs.Prelude.{ℕ, ◌==◌, Bool, true, false, ◌&&◌, not, i
 use Rattle.std.specs.Prelude.{map, slice_get, Option, Some, None, option_map, Result, Ok, Err}
 use Rattle.std.specs.Option.{option_map_or, option_and_then}
 use Rattle.proc_language.specs.declared.tree.Name.{Name}
-use Rattle.proc_language.specs.declared.module.ModuleImport.{ModuleImport}
+use Rattle.proc_language.specs.declared.module.Import.{Import}
 use Rattle.proc_language.specs.declared.module.Global.{Global}
 use Rattle.proc_language.specs.declared.module.Param.{Param}
 use Rattle.proc_language.specs.declared.module.Proc.{Proc}
@@ -52,7 +52,7 @@ registers_fit args None = false
 abbrev pub callback_arity : List Param → ℕ → Option ℕ
 callback_arity params i = option_and_then (λ q. q.arity) (slice_get params i)
 
-abbrev pub import_arity : List ModuleImport → ℕ → Option ℕ
+abbrev pub import_arity : List Import → ℕ → Option ℕ
 import_arity imports i = option_map (λ x. x.arity) (slice_get imports i)
 
 -- as many arguments as parameters, and `proc` exactly at each callback
@@ -131,7 +131,7 @@ twice [] = []
 twice (x ∷ xs) = again x xs ++ twice xs
 
 -- imports by the name after the dot
-abbrev pub names_of_items : {P : Type 0} → (P → Name) → List ModuleImport → List Global → List P → List Name
+abbrev pub names_of_items : {P : Type 0} → (P → Name) → List Import → List Global → List P → List Name
 names_of_items name_of imports globals procs =
     map (λ i. i.name) imports ++ (map (λ g. g.name) globals ++ map name_of procs)
 

@@ -4,7 +4,7 @@ use Rattle.std.specs.Prelude.{Option, Some, None}
 use Rattle.std.specs.Option.{option_map_or}
 use Rattle.std.specs.Str.{bytes_eq}
 use Rattle.proc_language.specs.declared.tree.Name.{Name}
-use Rattle.proc_language.specs.declared.module.ModuleImport.{ModuleImport}
+use Rattle.proc_language.specs.declared.module.Import.{Import}
 use Rattle.proc_language.specs.declared.module.Global.{Global}
 use Rattle.proc_language.specs.declared.module.Param.{Param}
 use Rattle.proc_language.specs.declared.module.Proc.{Proc}
@@ -55,7 +55,7 @@ abbrev pub global_at : List Global → ℕ → Variable
 global_at globals i = if is_array globals i then variable_of.Array i else variable_of.Global i
 
 -- what no procedure hides: the names of the procedures are told
-abbrev pub item_variable : {P : Type 0} → (P → Name) → List ModuleImport → List Global → List P → Name
+abbrev pub item_variable : {P : Type 0} → (P → Name) → List Import → List Global → List P → Name
     → Variable
 item_variable name_of imports globals procs x =
     or_else (index_of (λ g. g.name) globals x) (global_at globals) (
@@ -71,7 +71,7 @@ variable_named m p x =
 -- ---- calls: of a callback, an import or a procedure
 
 -- what is no callback
-abbrev pub item_callee : {P : Type 0} → (P → Name) → List ModuleImport → List Global → List P → Name → Callee
+abbrev pub item_callee : {P : Type 0} → (P → Name) → List Import → List Global → List P → Name → Callee
 item_callee name_of imports globals procs f =
     or_else (index_of (λ i. i.name) imports f) callee_of.Import (
     or_else (index_of name_of procs f) callee_of.Proc (

@@ -2,7 +2,7 @@
 ghost use Rattle.std.specs.Prelude.{◌≡◌};
 ghost use Rattle.proc_names.specs.Names.{same, index_of};
 
-use proc_language::{Global, ModuleImport, Name, Param, Proc};
+use proc_language::{Global, Import, Name, Param, Proc};
 
 /// What has a name.
 pub trait Named {
@@ -17,7 +17,7 @@ pub trait Named {
 }
 
 /// By the name after the dot, under which it is called.
-impl Named for ModuleImport {
+impl Named for Import {
     ghost name_of = { λ i. i.name };
 
     fn name(&self) -> &Name {

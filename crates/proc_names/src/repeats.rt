@@ -7,7 +7,7 @@ ghost use Rattle.proc_names.specs.NameFaults.{again, twice, names_of_items, own_
 
 use crate::fault::{NameFault, earlier};
 use crate::named::{Named, same};
-use proc_language::{Global, ModuleImport, Name, Proc};
+use proc_language::{Global, Import, Name, Proc};
 
 // The first item that has the name again.
 #[tactic(auto, using(crate::proofs::FirstLemmas::firsts))]
@@ -63,7 +63,7 @@ pub fn twice_in_two<T: Named, U: Named>(items: &[T], others: &[U]) -> Option<Nam
 /// Where the name of an item of a module stands that one before has: the first such place.
 #[tactic(auto, using(crate::proofs::TwiceLemmas::twices))]
 pub fn items_twice<P: Named>(
-    imports: &[ModuleImport],
+    imports: &[Import],
     globals: &[Global],
     procs: &[P],
 ) -> Option<NameFault>

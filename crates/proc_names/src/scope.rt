@@ -5,7 +5,7 @@ ghost use Rattle.proc_names.specs.Names.{variable_named, item_variable, callee_n
 ghost use Rattle.proc_names.specs.Names.{passed_named};
 
 use crate::named::{Named, index_of, same};
-use proc_language::{Global, ModuleFields, ModuleImport, Name, Param, Proc};
+use proc_language::{Global, Import, ModuleFields, Name, Param, Proc};
 
 /// What a name leads to, where it stands for a variable: each by its index in the lists of the
 /// procedure or the module.
@@ -93,7 +93,7 @@ pub fn variable_named(m: &ModuleFields, p: &Proc, x: &Name) -> Variable
 
 /// What a variable's name leads to that no procedure has of its own.
 pub fn item_variable<P: Named>(
-    imports: &[ModuleImport],
+    imports: &[Import],
     globals: &[Global],
     procs: &[P],
     x: &Name,
@@ -146,7 +146,7 @@ pub fn callee_named(m: &ModuleFields, p: &Proc, f: &Name) -> Callee
 
 /// What the name of a call leads to that is no callback.
 pub fn item_callee<P: Named>(
-    imports: &[ModuleImport],
+    imports: &[Import],
     globals: &[Global],
     procs: &[P],
     f: &Name,

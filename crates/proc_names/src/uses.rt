@@ -14,8 +14,7 @@ use crate::fault::{NameFault, earlier};
 use crate::repeats::{items_twice, own_twice};
 use crate::scope::{Callee, Variable, callee_named, passed_named, variable_named};
 use proc_language::{
-    Arg, Call, Expr, ExprKind, Module, ModuleFields, ModuleImport, Name, Param, Proc, Stmt,
-    StmtKind,
+    Arg, Call, Expr, ExprKind, Import, Module, ModuleFields, Name, Param, Proc, Stmt, StmtKind,
 };
 
 /// Whether each name of a module leads to something that fits its use, and none stands twice. The error
@@ -114,7 +113,7 @@ fn callback_arity(params: &[Param], i: usize) -> Option<u32>
 }
 
 /// How many registers the import of an index takes.
-pub fn import_arity(imports: &[ModuleImport], i: usize) -> Option<u32>
+pub fn import_arity(imports: &[Import], i: usize) -> Option<u32>
     ensures { result ≡ import_arity imports.now i }
 {
     match imports.get(i) {

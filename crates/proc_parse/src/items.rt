@@ -12,7 +12,7 @@ ghost use Rattle.proc_grammar.specs.Reading.{next_import, next_global, next_head
 use crate::cursor::TokenCursor;
 use cap_words::LAST_PLACE;
 use proc_grammar::{Language, ModuleHeader, ParseFault};
-use proc_language::{Global, LONGEST_ARRAY, MOST_ITEMS, MOST_REGISTERS, MOST_SEALS, ModuleImport};
+use proc_language::{Global, Import, LONGEST_ARRAY, MOST_ITEMS, MOST_REGISTERS, MOST_SEALS};
 use std::alloc::Global as Heap;
 
 // 2^63, the first number above those of 64 bits with a sign.
@@ -22,7 +22,7 @@ const BEYOND_I64: u64 = 9_223_372_036_854_775_808;
 pub fn imports<L: Language>(
     alloc: Heap,
     tokens: &mut TokenCursor<'_, '_>,
-) -> Result<Vec<ModuleImport>, ParseFault>
+) -> Result<Vec<Import>, ParseFault>
     ensures { GivesAs (λ v. v.items) result tokens.new
         (many full (word (codes "import")) one_more
         (next_import (words_of L.made.tokens) true) 0 tokens.old) }
@@ -58,7 +58,7 @@ pub fn import<L: Language>(
     alloc: Heap,
     tokens: &mut TokenCursor<'_, '_>,
     count: u32,
-) -> Result<ModuleImport, ParseFault>
+) -> Result<Import, ParseFault>
     ensures exact { Gives result tokens.new (next_import (words_of L.made.tokens) true count tokens.old) }
     ensures few { OnOk result (count < MOST_ITEMS) }
 {
@@ -72,7 +72,7 @@ pub fn import<L: Language>(
     tokens.sign(b'/')?;
     let arity = tokens.up_to(MOST_REGISTERS)?;
     tokens.sign(b';')?;
-    Ok(ModuleImport {
+    Ok(Import {
         at,
         part,
         name,

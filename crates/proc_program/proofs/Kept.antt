@@ -7,7 +7,7 @@ use Rattle.std.specs.Int.{w64}
 use Rattle.std.specs.Int.RustNames.{FitsSigned}
 use Rattle.std.proofs.lemmas.List.{length-map, length-replicate}
 use Rattle.std.proofs.lemmas.List.Sums.{sum_by-cons}
-use Rattle.proc_language.specs.declared.module.ModuleImport.{ModuleImport}
+use Rattle.proc_language.specs.declared.module.Import.{Import}
 use Rattle.proc_language.specs.declared.module.Global.{Global}
 use Rattle.proc_language.specs.declared.module.Param.{Param}
 use Rattle.proc_language.specs.declared.module.Proc.{Proc}
@@ -180,7 +180,7 @@ module _ (m : ModuleFields) (limits : IsModule m) where
 
 -- ---- modules
 
-imports_fit : (xs : List ModuleImport) → Each language.ImportFits xs
+imports_fit : (xs : List Import) → Each language.ImportFits xs
     → Each LoweredImportFits (map import_of xs)
 imports_fit [] w = tt
 imports_fit (x ∷ xs) w = (record { part = w.0.0; name = w.0.1 }, imports_fit xs w.1)

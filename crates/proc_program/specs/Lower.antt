@@ -3,7 +3,7 @@ use Rattle.std.specs.Prelude.{ℕ, ◌+◌, ℤ, pos, List, [], ◌∷◌, ◌++
 use Rattle.std.specs.Prelude.{sum_by, unwrap_or, is_some}
 use Rattle.std.specs.Option.{option_map_or}
 use Rattle.proc_language.specs.declared.tree.Name.{Name}
-use Rattle.proc_language.specs.declared.module.ModuleImport.{ModuleImport}
+use Rattle.proc_language.specs.declared.module.Import.{Import}
 use Rattle.proc_language.specs.declared.module.Global.{Global}
 use Rattle.proc_language.specs.declared.module.Param.{Param}
 use Rattle.proc_language.specs.declared.module.Proc.{Proc}
@@ -154,7 +154,7 @@ abbrev pub globals_of : List Global → List ℤ
 globals_of [] = []
 globals_of (g ∷ gs) = replicate (words g) (unwrap_or g.initial (pos 0)) ++ globals_of gs
 
-abbrev pub import_of : ModuleImport → RunImport
+abbrev pub import_of : Import → RunImport
 import_of i = record { part = i.part.text; name = i.name.text }
 
 abbrev pub header_of : ModuleFields → Header

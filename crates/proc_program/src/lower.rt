@@ -417,7 +417,7 @@ fn globals_of(alloc: Heap, gs: &[Global]) -> Result<Vec<i64>, AllocError>
 
 fn imports_of(
     alloc: Heap,
-    imports: &[proc_language::ModuleImport],
+    imports: &[proc_language::Import],
 ) -> Result<Vec<ProgramImport>, AllocError>
     ensures { IfOk result (λ v. v.items ≡ map import_of imports.now) }
 {

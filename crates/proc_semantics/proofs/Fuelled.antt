@@ -2,8 +2,8 @@
 use Rattle.std.proofs.Common.{◌≡◌, ℕ, zero, suc, ◌+◌, ◌<◌, ◌≤◌, inl, inr, ⊎_elim, List, [], ◌∷◌}
 use Rattle.std.proofs.Common.{length, map, refl, sym, ap, ◌∙◌, subst, arith}
 use Rattle.source_events.specs.declared.Item.{Item}
-use Rattle.source_events.specs.declared.MeaningEnd.{MeaningEnd}
-use Rattle.source_events.specs.declared.MeaningEnd.TheVariants.{Halt as Halted, Fail, Waiting, OutOfFuel}
+use Rattle.source_events.specs.declared.End.{End}
+use Rattle.source_events.specs.declared.End.TheVariants.{Halt as Halted, Fail, Waiting, OutOfFuel}
 use Rattle.source_events.specs.declared.Told.{Told}
 use Rattle.proc_semantics.specs.Told.{Comp, tick, counted, said, take_item}
 use Rattle.proc_semantics.specs.Values.{World, main_target}
@@ -88,13 +88,13 @@ fits_tick b m m' s = record { is = is }
         let h = s.is f feed (omega (arith, lt)) in
         (omega (arith, h.0), λ e. omega (arith, h.1 e))
 
-abbrev IsOut : MeaningEnd → Type 0
+abbrev IsOut : End → Type 0
 IsOut (Halted v) = ⊥
 IsOut Fail = ⊥
 IsOut Waiting = ⊥
 IsOut OutOfFuel = Unit {0}
 
-not_out : (e : MeaningEnd) → (IsOut e → ⊥) → e ≡ OutOfFuel → ⊥
+not_out : (e : End) → (IsOut e → ⊥) → e ≡ OutOfFuel → ⊥
 not_out e never is = never (subst IsOut (sym is) tt)
 
 fits_take : (b : ℕ) (k k' : Item → Comp) → ((i : Item) → Fits b (k i) (k' i))

@@ -1,7 +1,7 @@
 -- That the refined meaning tells more than the meaning.
 use Rattle.std.specs.Prelude.{◌≡◌, ◌≢◌, ℕ, List}
 use Rattle.source_events.specs.declared.Item.{Item}
-use Rattle.source_events.specs.declared.MeaningEnd.TheVariants.{Waiting}
+use Rattle.source_events.specs.declared.End.TheVariants.{Waiting}
 use Rattle.proc_semantics.specs.Values.{World}
 use Rattle.proc_semantics.specs.Meaning.{meaning}
 use Rattle.proc_semantics.specs.Marked.{refined}

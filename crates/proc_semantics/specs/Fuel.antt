@@ -2,7 +2,7 @@
 use Rattle.std.specs.Prelude.{◌≡◌, ℕ, ◌+◌, ◌<◌, ◌≤◌, ◌⊎◌, List, ◌++◌}
 use Rattle.source_events.specs.declared.Item.{Item}
 use Rattle.source_events.specs.declared.OutEvent.{OutEvent}
-use Rattle.source_events.specs.declared.MeaningEnd.TheVariants.{OutOfFuel}
+use Rattle.source_events.specs.declared.End.TheVariants.{OutOfFuel}
 use Rattle.source_events.specs.declared.Told.{Told}
 use Rattle.proc_semantics.specs.Values.{World}
 use Rattle.proc_semantics.specs.Meaning.{meaning}

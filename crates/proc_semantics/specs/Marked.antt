@@ -10,8 +10,8 @@ use Rattle.source_events.specs.declared.OutArg.{OutArg}
 use Rattle.source_events.specs.declared.OutArg.TheVariants.{Int, Half}
 use Rattle.source_events.specs.declared.OutEvent.{OutEvent}
 use Rattle.source_events.specs.declared.OutEvent.TheVariants.{CallOut, LeaveOut}
-use Rattle.source_events.specs.declared.MeaningEnd.{MeaningEnd}
-use Rattle.source_events.specs.declared.MeaningEnd.TheVariants.{Halt as Halted, Fail, Waiting, OutOfFuel}
+use Rattle.source_events.specs.declared.End.{End}
+use Rattle.source_events.specs.declared.End.TheVariants.{Halt as Halted, Fail, Waiting, OutOfFuel}
 use Rattle.source_events.specs.declared.Told.{Told}
 use Rattle.proc_program.specs.declared.program.Handle.{Handle}
 use Rattle.proc_program.specs.declared.program.Handle.TheVariants.{Given, Own, Imported}
@@ -53,7 +53,7 @@ pub data Event (T E : Type 0) : Type 0 where
 
 pub record Report (T E : Type 0) : Type 0 where
   pub events : List (Event T E)
-  pub end : MeaningEnd
+  pub end : End
   pub ticks : ℕ
 
 module _ (T E : Type 0) where
@@ -76,7 +76,7 @@ module _ (T E : Type 0) where
     pub second : Option T
     pub words : List (Option T)
 
-  abbrev pub ends : MeaningEnd → Comp
+  abbrev pub ends : End → Comp
   ends e low fuel feed = record { events = []; end = e; ticks = 0 }
 
   abbrev pub counted : Report T E → Report T E

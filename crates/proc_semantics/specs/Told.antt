@@ -2,15 +2,15 @@
 use Rattle.std.specs.Prelude.{ℕ, zero, suc, ◌+◌, List, [], ◌∷◌}
 use Rattle.source_events.specs.declared.Item.{Item}
 use Rattle.source_events.specs.declared.OutEvent.{OutEvent}
-use Rattle.source_events.specs.declared.MeaningEnd.{MeaningEnd}
-use Rattle.source_events.specs.declared.MeaningEnd.TheVariants.{Fail, Waiting, OutOfFuel}
+use Rattle.source_events.specs.declared.End.{End}
+use Rattle.source_events.specs.declared.End.TheVariants.{Fail, Waiting, OutOfFuel}
 use Rattle.source_events.specs.declared.Told.{Told}
 
 -- a computation: what is told from the fuel that is left and the feed that is left
 abbrev pub Comp : Type 0
 Comp = ℕ → List Item → Told
 
-abbrev pub ends : MeaningEnd → Comp
+abbrev pub ends : End → Comp
 ends e fuel feed = record { events = []; end = e; ticks = 0 }
 
 abbrev pub fails : Comp

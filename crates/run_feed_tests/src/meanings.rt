@@ -1,7 +1,7 @@
 //! What no clause says: that the definition which the clause cites means what docs/FORMATS.md says.
 use cap_words::Items;
 use meaning_text::told_text;
-use source_events::{MeaningEnd, OutArg, OutEvent, Told};
+use source_events::{End, OutArg, OutEvent, Told};
 use std::alloc::{AllocError, Global};
 use std::process::Abort;
 use std::test::Fail;
@@ -51,7 +51,7 @@ fn is_written(rt: &impl Abort, alloc: Global, told: &Told, text: &[u8]) -> Resul
 fn end_is_written(
     rt: &impl Abort,
     alloc: Global,
-    end: MeaningEnd,
+    end: End,
     ticks: u64,
     text: &[u8],
 ) -> Result<(), AllocError> {
@@ -63,7 +63,7 @@ fn end_is_written(
 fn events_are_written(rt: HostRuntime) -> Result<(), Fail> {
     let told = Told {
         events: events(rt.alloc())?,
-        end: MeaningEnd::Fail,
+        end: End::Fail,
         ticks: u64::MAX,
     };
     is_written(&rt, rt.alloc(), &told, EVENTS)?;
@@ -75,28 +75,28 @@ fn ends_are_written(rt: HostRuntime) -> Result<(), Fail> {
     end_is_written(
         &rt,
         rt.alloc(),
-        MeaningEnd::Halt(7),
+        End::Halt(7),
         23,
         b"halt 7 ticks 23\n",
     )?;
     end_is_written(
         &rt,
         rt.alloc(),
-        MeaningEnd::Halt(-8),
+        End::Halt(-8),
         1,
         b"halt -8 ticks 1\n",
     )?;
     end_is_written(
         &rt,
         rt.alloc(),
-        MeaningEnd::Waiting,
+        End::Waiting,
         0,
         b"waiting ticks 0\n",
     )?;
     end_is_written(
         &rt,
         rt.alloc(),
-        MeaningEnd::OutOfFuel,
+        End::OutOfFuel,
         1_000_000_000,
         b"fuel ticks 1000000000\n",
     )?;

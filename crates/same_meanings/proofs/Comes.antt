@@ -1,7 +1,7 @@
 -- What one computation comes to, step by step.
 use Rattle.std.proofs.Common.{◌≡◌, ℕ, zero, suc, ◌+◌, ◌≤◌, ℤ, List, [], ◌∷◌, Option, None, refl, sym, ap, ◌∙◌}
 use Rattle.std.proofs.Common.{arith}
-use Rattle.source_events.specs.declared.MeaningEnd.{MeaningEnd}
+use Rattle.source_events.specs.declared.End.{End}
 use Rattle.proc_semantics.specs.Marked.{Event, Thing, Whence, Comp, Way, event_to}
 use Rattle.proc_semantics.specs.Marked as tagged
 use Rattle.same_meanings.specs.Same.{tracing, Levelled, Behaviour, behaviour, Behaves}
@@ -30,7 +30,7 @@ module _ {N : Type 0} (name : Whence → N) where
     is = λ d f a b. ap (λ x. behaviour name (x low f feed)) (e d) ∙ c.is d f a b;
   }
 
-  pub comes_ended : (e : MeaningEnd) (low : Option ℕ) (feed : Things)
+  pub comes_ended : (e : End) (low : Option ℕ) (feed : Things)
       → Behaves name (λ d. tagged.ends Whence ℕ e) low feed (record { events = []; end = e })
   comes_ended e low feed = record { enough = 0; is = λ d f a b. refl }
 

@@ -4,8 +4,8 @@ use Rattle.std.proofs.Common.{Bool, true, false, refl, sym, subst, arith}
 use Rattle.std.specs.Prelude.{if◌then◌else◌, ◌==◌, ◌&&◌}
 use Rattle.std.specs.Str.{bytes_eq}
 use Rattle.source_events.specs.declared.Item.{Item}
-use Rattle.source_events.specs.declared.MeaningEnd.{MeaningEnd}
-use Rattle.source_events.specs.declared.MeaningEnd.TheVariants.{Waiting}
+use Rattle.source_events.specs.declared.End.{End}
+use Rattle.source_events.specs.declared.End.TheVariants.{Waiting}
 use Rattle.proc_semantics.specs.declared.value.Value.{Value}
 use Rattle.proc_semantics.specs.Told.{repeated}
 use Rattle.proc_semantics.specs.Values.{Store}
@@ -103,7 +103,7 @@ module _ (S : Sides) where
 
   -- ---- ends
 
-  pub both_end : (n : ℕ) (e : MeaningEnd)
+  pub both_end : (n : ℕ) (e : End)
       → Same n (λ d. tagged.ends Whence ℕ e) (λ d. tagged.ends Whence ℕ e)
   both_end n e = record {
     is = λ low at feed lt fits.

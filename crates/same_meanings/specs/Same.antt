@@ -6,7 +6,7 @@ use Rattle.source_events.specs.declared.Item.{Item}
 use Rattle.source_events.specs.declared.Item.TheVariants.{Enter}
 use Rattle.source_events.specs.declared.FeedBack.{FeedBack}
 use Rattle.source_events.specs.declared.FeedPair.{FeedPair}
-use Rattle.source_events.specs.declared.MeaningEnd.{MeaningEnd}
+use Rattle.source_events.specs.declared.End.{End}
 use Rattle.proc_program.specs.declared.program.Program.{Program}
 use Rattle.proc_semantics.specs.declared.value.Target.{Target}
 use Rattle.proc_semantics.specs.declared.value.Value.{Value}
@@ -51,7 +51,7 @@ wait_at (Some c) d = Some (record {
 -- what it tells: the events, by names of words, and the end
 pub record Behaviour (N : Type 0) : Type 0 where
   pub events : List (Event N ℕ)
-  pub end : MeaningEnd
+  pub end : End
 
 abbrev pub behaviour : {N : Type 0} → (Whence → N) → Report Whence ℕ → Behaviour N
 behaviour name t = record { events = map (event_to name (λ (k : ℕ). k)) t.events; end = t.end }

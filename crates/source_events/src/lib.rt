@@ -86,7 +86,7 @@ pub enum OutEvent {
 
 /// How a meaning ends.
 #[derive(Clone, Copy, PartialEq, Eq)]
-pub enum MeaningEnd {
+pub enum End {
     /// By `halt`, with this value.
     Halt(i64),
     /// By something that the rules don't allow.
@@ -103,7 +103,7 @@ pub struct Told {
     /// What left the modules, in order.
     pub events: Items<OutEvent>,
     /// How it ended.
-    pub end: MeaningEnd,
+    pub end: End,
     /// The ticks that it took.
     pub ticks: u64,
 }

@@ -46,7 +46,7 @@ use Rattle.source_events.specs.declared.OutArg.{OutArg}
 use Rattle.source_events.specs.declared.OutArg.TheVariants as given
 use Rattle.source_events.specs.declared.OutEvent.{OutEvent}
 use Rattle.source_events.specs.declared.OutEvent.TheVariants.{CallOut, LeaveOut}
-use Rattle.source_events.specs.declared.MeaningEnd.TheVariants.{Waiting}
+use Rattle.source_events.specs.declared.End.TheVariants.{Waiting}
 use Rattle.proc_semantics.specs.Values.{World}
 use Rattle.template_runs.specs.Runs.{is_inside}
 use Rattle.source_laws.specs.Sources.{Shows, MeansAlways, MeaningEnds}

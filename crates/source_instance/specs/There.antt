@@ -23,7 +23,7 @@ use Rattle.source_events.specs.declared.OutArg.{OutArg}
 use Rattle.source_events.specs.declared.OutArg.TheVariants as arg
 use Rattle.source_events.specs.declared.OutEvent.{OutEvent}
 use Rattle.source_events.specs.declared.OutEvent.TheVariants.{CallOut, LeaveOut}
-use Rattle.source_events.specs.declared.MeaningEnd.TheVariants.{Waiting}
+use Rattle.source_events.specs.declared.End.TheVariants.{Waiting}
 use Rattle.source_laws.specs.Sources.{MeaningEnds}
 use Rattle.source_starts.specs.Sources.{AreSources}
 use Rattle.source_starts.specs.RunMeans.{runs_trusted}

@@ -3,7 +3,7 @@ use Rattle.std.proofs.Common.{◌≡◌, ℕ, zero, suc, ◌+◌, ◌*◌, ◌<�
 use Rattle.std.proofs.Common.{arith, Option, None, ◌∙◌, ◌++◌}
 use Rattle.cap_words.specs.declared.Word.{Word}
 use Rattle.cap_words.specs.declared.Word.TheVariants.{Int}
-use Rattle.source_events.specs.declared.MeaningEnd.TheVariants.{Halt as Halted, Fail as Fails, OutOfFuel}
+use Rattle.source_events.specs.declared.End.TheVariants.{Halt as Halted, Fail as Fails, OutOfFuel}
 use Rattle.source_laws.specs.Trace.{Final, Running, Outside, HaltedWith, Failed}
 use Rattle.source_laws.specs.Seen.{Shown, Trace, shown, rests, shown_of, events_of}
 use Rattle.source_laws.proofs.Refined.{Comp, Thing, Event, Report, ends, tick, ticks, emit, take_item}

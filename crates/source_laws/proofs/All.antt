@@ -27,7 +27,7 @@ use Rattle.source_laws.proofs.Refined.{main_of, Comp, ends, meaning, no_register
 use Rattle.proc_semantics.specs.declared.value.Target.{Target}
 use Rattle.proc_program.specs.declared.program.Program.{Program}
 use Rattle.proc_program.specs.declared.program.Procedure.{Procedure}
-use Rattle.source_events.specs.declared.MeaningEnd.TheVariants.{Fail as Fails, OutOfFuel}
+use Rattle.source_events.specs.declared.End.TheVariants.{Fail as Fails, OutOfFuel}
 use Rattle.proc_semantics.specs.declared.value.Value.{Value}
 use Rattle.source_laws.specs.Seen.{trace, Trace, events_of}
 use Rattle.source_laws.specs.Sources.{MeansAlways}

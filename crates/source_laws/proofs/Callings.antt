@@ -51,7 +51,7 @@ use Rattle.proc_semantics.specs.Values.{Store}
 use Rattle.proc_semantics.specs.declared.value.Target.{Target}
 use Rattle.proc_semantics.specs.declared.value.Pair.{Pair}
 use Rattle.proc_semantics.specs.declared.value.Pair.TheVariants.{Runs, Bad, Outside}
-use Rattle.source_events.specs.declared.MeaningEnd.TheVariants.{Fail as Fails}
+use Rattle.source_events.specs.declared.End.TheVariants.{Fail as Fails}
 use Rattle.proc_semantics.specs.declared.value.Value.{Value}
 use Rattle.proc_semantics.specs.declared.value.Value.TheVariants.{Num, Closure, Other}
 use Rattle.proc_templates.specs.Templates.{argument}

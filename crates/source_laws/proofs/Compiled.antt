@@ -36,7 +36,7 @@ use Rattle.proc_program.specs.StepView.{block_of}
 use Rattle.proc_semantics.specs.Values.{Store, taken}
 use Rattle.proc_semantics.specs.declared.value.Target.{Target}
 use Rattle.proc_program.specs.declared.program.Procedure.{Procedure}
-use Rattle.source_events.specs.declared.MeaningEnd.TheVariants.{Fail as Fails}
+use Rattle.source_events.specs.declared.End.TheVariants.{Fail as Fails}
 use Rattle.proc_semantics.specs.declared.value.Value.{Value}
 use Rattle.proc_semantics.specs.declared.value.Value.TheVariants.{Num}
 use Rattle.proc_templates.specs.declared.FrameShape.{FrameShape as Shape}

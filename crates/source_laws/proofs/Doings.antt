@@ -39,7 +39,7 @@ use Rattle.proc_program.specs.declared.program.Location.TheVariants.{Local, Glob
 use Rattle.proc_program.specs.declared.program.Array.{Array}
 use Rattle.proc_program.specs.Program.{Exp, Statement, Set, SetAt, Do, If, While, Return}
 use Rattle.proc_program.specs.Program.{Block, no_steps, step}
-use Rattle.source_events.specs.declared.MeaningEnd.TheVariants.{Halt as Halted}
+use Rattle.source_events.specs.declared.End.TheVariants.{Halt as Halted}
 use Rattle.proc_semantics.specs.declared.value.Value.{Value}
 use Rattle.proc_semantics.specs.declared.value.Value.TheVariants.{Num}
 use Rattle.proc_semantics.specs.Values as values

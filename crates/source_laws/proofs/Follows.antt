@@ -1,8 +1,8 @@
 -- When the refined meaning agrees with a run, whatever was wiped before.
 use Rattle.std.proofs.Common.{◌≡◌, ℕ, ◌+◌, ◌*◌, ◌<◌, ◌≤◌, ℤ, List, ◌++◌, Option}
 use Rattle.cap_words.specs.declared.Word.TheVariants.{Int}
-use Rattle.source_events.specs.declared.MeaningEnd.TheVariants.{Halt as Halted, Fail as Fails, Waiting}
-use Rattle.source_events.specs.declared.MeaningEnd.TheVariants.{OutOfFuel}
+use Rattle.source_events.specs.declared.End.TheVariants.{Halt as Halted, Fail as Fails, Waiting}
+use Rattle.source_events.specs.declared.End.TheVariants.{OutOfFuel}
 use Rattle.source_laws.specs.Trace.{Final, Running, Outside, HaltedWith, Failed}
 use Rattle.source_laws.specs.Seen.{Shown, Trace, events_of}
 use Rattle.source_laws.proofs.Refined.{Comp, Report}

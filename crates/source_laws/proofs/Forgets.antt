@@ -26,7 +26,7 @@ use Rattle.source_events.specs.declared.OutArg.TheVariants.{Int}
 use Rattle.source_events.specs.declared.OutEvent.{OutEvent}
 use Rattle.source_events.specs.declared.OutEvent.TheVariants.{CallOut, LeaveOut}
 use Rattle.source_events.specs.Outs.{out_arg}
-use Rattle.source_events.specs.declared.MeaningEnd.TheVariants.{OutOfFuel}
+use Rattle.source_events.specs.declared.End.TheVariants.{OutOfFuel}
 use Rattle.proc_semantics.specs.Values as values
 use Rattle.proc_semantics.specs.Meaning as plain
 use Rattle.proc_semantics.specs.Fuel.{Prefix}

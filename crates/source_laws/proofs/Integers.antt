@@ -3,7 +3,7 @@ use Rattle.std.proofs.Common.{ℕ, List, [], ◌∷◌, ◌++◌, subst, arith}
 use Rattle.source_events.specs.declared.Item.{Item}
 use Rattle.source_events.specs.declared.OutEvent.{OutEvent}
 use Rattle.source_events.specs.declared.OutEvent.TheVariants.{CallOut, LeaveOut}
-use Rattle.source_events.specs.declared.MeaningEnd.{MeaningEnd}
+use Rattle.source_events.specs.declared.End.{End}
 use Rattle.source_events.specs.Outs.{LeaveIntegers}
 use Rattle.proc_semantics.specs.Values.{World}
 use Rattle.proc_semantics.proofs.Offers.{meanings_leave}
@@ -15,7 +15,7 @@ of_front (CallOut part site args ∷ xs) ys h = of_front xs ys h
 of_front (LeaveOut part value ∷ xs) ys h = (h.0, of_front xs ys h.1)
 
 module _ (world : World) (stack : ℕ) (is : List Item) (es : List OutEvent) where
-  pub where_ends : (end : MeaningEnd) → MeaningEnds world stack is es end → LeaveIntegers es
+  pub where_ends : (end : End) → MeaningEnds world stack is es end → LeaveIntegers es
   where_ends end a =
       subst LeaveIntegers (a.told a.enough (omega arith)) (meanings_leave world stack is a.enough)
 

@@ -38,7 +38,7 @@ use Rattle.trace_tool.specs.Layout.{part_name, site_of}
 use Rattle.trace_tool.specs.Views.{flat_view}
 use Rattle.source_laws.proofs.Scenes.{Scene}
 use Rattle.source_laws.proofs.Refined.{Wait, wipes, Comp, ends, resumed, returned}
-use Rattle.source_events.specs.declared.MeaningEnd.TheVariants.{Fail as Fails}
+use Rattle.source_events.specs.declared.End.TheVariants.{Fail as Fails}
 use Rattle.template_runs.specs.Runs.{is_inside}
 use Rattle.call_sequence.specs.declared.TheConstants.{CALL_WORDS, RETURN_WORDS, SITE_WORDS}
 use Rattle.lcm_machine.specs.Runs.{code_cap}

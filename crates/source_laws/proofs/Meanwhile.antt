@@ -57,7 +57,7 @@ use Rattle.trusted_border.specs.declared.events.Back.{Back}
 use Rattle.trusted_border.specs.declared.events.Back.TheVariants.{Out as OutBack, Bad, Hop}
 use Rattle.overlay_machine.specs.Safe.{IsSafe}
 use Rattle.proc_semantics.specs.Marked.{Leaves}
-use Rattle.source_events.specs.declared.MeaningEnd.TheVariants.{Fail as Fails}
+use Rattle.source_events.specs.declared.End.TheVariants.{Fail as Fails}
 use Rattle.template_runs.specs.Border.{GivesBack, Shows, by_leave}
 use Rattle.source_events.specs.declared.OutArg.TheVariants as arg
 use Rattle.source_events.specs.declared.OutEvent.TheVariants.{LeaveOut}

@@ -12,7 +12,7 @@ use Rattle.proc_program.specs.Program.{Exp, Args, Statement, Block}
 use Rattle.proc_language.specs.declared.tree.Op.{Op}
 use Rattle.source_events.specs.declared.FeedBack.{FeedBack}
 use Rattle.source_events.specs.declared.FeedPair.{FeedPair}
-use Rattle.source_events.specs.declared.MeaningEnd.{MeaningEnd}
+use Rattle.source_events.specs.declared.End.{End}
 use Rattle.proc_semantics.specs.declared.value.Target.{Target}
 use Rattle.proc_semantics.specs.declared.value.Pair.{Pair}
 use Rattle.proc_semantics.specs.declared.value.Value.{Value}
@@ -64,7 +64,7 @@ rest_marks = marked.rest_marks OWord Entry
 abbrev pub taken_marks : List Bool → List (Option OWord) → List (Option OWord)
 taken_marks = marked.taken_marks OWord Entry
 
-abbrev pub ends : MeaningEnd → Comp
+abbrev pub ends : End → Comp
 ends = marked.ends OWord Entry
 
 abbrev pub tick : Comp → Comp

@@ -13,7 +13,7 @@ use Rattle.trace_tool.specs.Views.{flat_view}
 use Rattle.proc_semantics.specs.Values.{World}
 use Rattle.source_events.specs.declared.Item.{Item}
 use Rattle.source_events.specs.declared.OutEvent.{OutEvent}
-use Rattle.source_events.specs.declared.MeaningEnd.TheVariants.{Halt as Halted, Waiting}
+use Rattle.source_events.specs.declared.End.TheVariants.{Halt as Halted, Waiting}
 use Rattle.source_events.specs.Outs.{LeaveIntegers}
 use Rattle.proc_semantics.specs.Told.{Comp}
 use Rattle.proc_semantics.specs.Meaning.{meaning}

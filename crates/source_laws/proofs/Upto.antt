@@ -15,7 +15,7 @@ use Rattle.trace_tool.specs.Views.{flat_view}
 use Rattle.source_laws.proofs.Refined as telling
 use Rattle.source_laws.specs.Seen.{Shown, shown_of, Back, rests, shown, event_outs, event_items, standing}
 use Rattle.source_laws.specs.Seen.{ended, show, trace}
-use Rattle.source_events.specs.declared.MeaningEnd.TheVariants.{Fail, Halt}
+use Rattle.source_events.specs.declared.End.TheVariants.{Fail, Halt}
 use Rattle.source_laws.proofs.Refined.{Comp, ends, tick, ticks, emit}
 use Rattle.overlay_machine.specs.Link.{Link}
 use Rattle.template_runs.specs.Public.{IsFreeAt}

@@ -14,9 +14,9 @@ use Rattle.trace_tool.specs.Views.{flat_view}
 use Rattle.proc_semantics.specs.Values.{World}
 use Rattle.source_events.specs.declared.Item.{Item}
 use Rattle.source_events.specs.declared.OutEvent.{OutEvent}
-use Rattle.source_events.specs.declared.MeaningEnd.{MeaningEnd}
-use Rattle.source_events.specs.declared.MeaningEnd.TheVariants.{Halt as Halted, Fail as Fails, Waiting}
-use Rattle.source_events.specs.declared.MeaningEnd.TheVariants.{OutOfFuel}
+use Rattle.source_events.specs.declared.End.{End}
+use Rattle.source_events.specs.declared.End.TheVariants.{Halt as Halted, Fail as Fails, Waiting}
+use Rattle.source_events.specs.declared.End.TheVariants.{OutOfFuel}
 use Rattle.source_events.specs.Outs.{LeaveIntegers}
 use Rattle.proc_semantics.specs.Meaning.{meaning}
 use Rattle.proc_semantics.specs.Fuel.{Prefix}
@@ -42,7 +42,7 @@ PER_TICK = 200
 
 module _ (world : World) (size : ℕ) (items : List Item) (events : List OutEvent) where
   -- an end, with these events, under every large enough fuel
-  pub record MeaningEnds (end : MeaningEnd) : Type 0 where
+  pub record MeaningEnds (end : End) : Type 0 where
     pub enough : ℕ
     pub ends : (fuel : ℕ) → enough ≤ fuel → (meaning world size items fuel).end ≡ end
     pub told : (fuel : ℕ) → enough ≤ fuel → (meaning world size items fuel).events ≡ events

@@ -9,7 +9,7 @@ use Rattle.component_linker.specs.LinkedStarts.{IsStartOf}
 use Rattle.overlay_machine.specs.declared.words.OWord.{OWord}
 use Rattle.overlay_machine.specs.declared.words.OWord.TheVariants.{Plain}
 use Rattle.proc_language.specs.declared.module.ModuleFields.{ModuleFields}
-use Rattle.proc_language.specs.declared.module.ModuleImport.{ModuleImport}
+use Rattle.proc_language.specs.declared.module.Import.{Import as ModuleImport}
 use Rattle.proc_language.specs.declared.module.Proc.{Proc}
 use Rattle.proc_semantics.specs.Marked.{PairHalf, CodeHalf, DataHalf}
 use Rattle.source_starts.specs.Sources.{AreSources}

@@ -21,7 +21,7 @@ use Rattle.proc_language.specs.declared.module.ModuleFields.{ModuleFields}
 use Rattle.proc_program.specs.Lower.{part_of}
 use Rattle.source_events.specs.declared.Item.{Item}
 use Rattle.source_events.specs.declared.OutEvent.{OutEvent}
-use Rattle.source_events.specs.declared.MeaningEnd.TheVariants.{Halt, Fail, Waiting}
+use Rattle.source_events.specs.declared.End.TheVariants.{Halt, Fail, Waiting}
 use Rattle.source_events.specs.Outs.{LeaveIntegers}
 use Rattle.proc_semantics.specs.Values.{World}
 use Rattle.source_laws.specs.Sources.{Shows, MeaningEnds, MeaningBegins, MeaningTakes}

@@ -15,8 +15,8 @@ use Rattle.step_back.specs.Seen.{Debugging}
 use Rattle.step_back.specs.Notes.{states_before, CanUndoAll}
 use Rattle.step_back.specs.Debug.{forward, forward_by, back, back_by, any, can_go_back, go_back, go, go_by}
 use Rattle.step_back.specs.Debug.{spent, is_stop}
-use Rattle.step_back.specs.declared.debugger.StopReason.{StopReason}
-use Rattle.step_back.specs.declared.debugger.StopReason.TheVariants.{Break, Ended, Spent}
+use Rattle.step_back.specs.declared.debugger.Stop.{Stop}
+use Rattle.step_back.specs.declared.debugger.Stop.TheVariants.{Break, Ended, Spent}
 use Rattle.lcm_machine.proofs.Offers.{count_next}
 use Rattle.step_back.proofs.NoteLemmas.{states_taken, undo_taken}
 
@@ -156,18 +156,18 @@ forward_count d = by_end d.now.end
 
 -- ---- where going forward leads
 
-by_stop : (P : StopReason × Debugging → Type 0) (b : Bool) (x y : StopReason × Debugging) → (b ≡ true → P x)
+by_stop : (P : Stop × Debugging → Type 0) (b : Bool) (x y : Stop × Debugging) → (b ≡ true → P x)
     → P y
     → P (if b then x else y)
 by_stop P true x y one other = one refl
 by_stop P false x y one other = other
 
 -- as many more steps at most
-abbrev FewMore : ℕ → ℕ → StopReason × Debugging → Type 0
+abbrev FewMore : ℕ → ℕ → Stop × Debugging → Type 0
 FewMore n count p = p.1.now.count ≤ count + n
 
 -- an end is that of the state
-abbrev TellsEnd : StopReason × Debugging → Type 0
+abbrev TellsEnd : Stop × Debugging → Type 0
 TellsEnd p = (step : Step) → p.0 ≡ Ended step → step ≡ answer p.1.now
 
 end_told : (d : Debugging) (o : Option End) → d.now.end ≡ o → TellsEnd (spent o, d)
@@ -193,12 +193,12 @@ told_by (suc n) None d e =
     (λ b step k. absurd (let bad : Break ≡ Ended step = k in cc))
     (told_by n (forward d).now.end (forward d) refl)
 
-pub go_count : (n : ℕ) (d e : Debugging) (stop : StopReason) → go n d ≡ (stop, e)
+pub go_count : (n : ℕ) (d e : Debugging) (stop : Stop) → go n d ≡ (stop, e)
     → e.now.count ≤ d.now.count + n
 unfolding go
 go_count n d e stop h = subst (FewMore n d.now.count) h (few_by n d.now.end d)
 
-pub go_end : (n : ℕ) (d e : Debugging) (stop : StopReason) → go n d ≡ (stop, e) → (step : Step) → stop
+pub go_end : (n : ℕ) (d e : Debugging) (stop : Stop) → go n d ≡ (stop, e) → (step : Step) → stop
     ≡ Ended step
     → step ≡ answer e.now
 unfolding go

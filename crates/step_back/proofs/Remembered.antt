@@ -7,7 +7,7 @@ use Rattle.lcm_machine.specs.declared.End.{End}
 use Rattle.lcm_machine.specs.Row.{Outcome, went, halted, failed, step_of}
 use Rattle.lcm_machine.specs.Run.{Run, moved, next_by, next_state, plain}
 use Rattle.lcm_machine.proofs.Offers.{count_next, plain_count}
-use Rattle.step_back.specs.declared.debugger.StopReason.TheVariants.{Break}
+use Rattle.step_back.specs.declared.debugger.Stop.TheVariants.{Break}
 use Rattle.step_back.specs.Seen.{Debugging}
 use Rattle.step_back.specs.Debug.{debugging_from, forward, forward_by, back, back_by, go, go_by, go_back}
 use Rattle.step_back.specs.Debug.{is_stop}

@@ -7,8 +7,8 @@ use Rattle.lcm_machine.specs.declared.End.{End}
 use Rattle.lcm_machine.specs.Ends.{end_answer}
 use Rattle.lcm_machine.specs.Row.{pc_at}
 use Rattle.lcm_machine.specs.Run.{Run, next_state}
-use Rattle.step_back.specs.declared.debugger.StopReason.{StopReason}
-use Rattle.step_back.specs.declared.debugger.StopReason.TheVariants.{Break, Ended, Spent}
+use Rattle.step_back.specs.declared.debugger.Stop.{Stop}
+use Rattle.step_back.specs.declared.debugger.Stop.TheVariants.{Break, Ended, Spent}
 use Rattle.step_back.specs.declared.stops.TheConstants.{MOST_STOPS}
 use Rattle.step_back.specs.Seen.{Debugging}
 
@@ -60,17 +60,17 @@ is_stop d = not (is_some d.now.end) && is_at d.stops (pc_at (λ w. w) d.now.maps
 -- ---- several steps
 
 -- forward until the machine has ended, pc comes to a breakpoint, or n steps are made
-abbrev pub spent : Option End → StopReason
+abbrev pub spent : Option End → Stop
 spent (Some e) = Ended (end_answer e)
 spent None = Spent
 
-abbrev pub go_by : Option End → ℕ → Debugging → StopReason × Debugging
+abbrev pub go_by : Option End → ℕ → Debugging → Stop × Debugging
 go_by (Some e) n d = (Ended (end_answer e), d)
 go_by None zero d = (Spent, d)
 go_by None (suc n) d =
     if is_stop (forward d) then (Break, forward d) else go_by (forward d).now.end n (forward d)
 
-unfoldable pub go : ℕ → Debugging → StopReason × Debugging
+unfoldable pub go : ℕ → Debugging → Stop × Debugging
 go n d = go_by d.now.end n d
 
 -- back n times, or as often as it can

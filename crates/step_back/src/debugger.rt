@@ -18,7 +18,7 @@ pub const MOST_DEPTH: u32 = 65_536;
 
 /// Why a debugger went no further.
 #[derive(Clone, Copy, PartialEq, Eq)]
-pub enum StopReason {
+pub enum Stop {
     /// pc came to a breakpoint.
     Break,
     /// The machine has ended.
@@ -169,29 +169,29 @@ impl Debugger {
     }
 
     // Why it goes no further after its last step.
-    fn spent(&self) -> StopReason
+    fn spent(&self) -> Stop
         ensures { result ≡ spent self.now.now.end }
     {
         match self.state.ended() {
-            Some(end) => StopReason::Ended(end),
-            None => StopReason::Spent,
+            Some(end) => Stop::Ended(end),
+            None => Stop::Spent,
         }
     }
 
     /// So many steps forward, unless one ends the machine or comes to a breakpoint. It answers which
     /// of these was. A machine that has ended answers so.
-    pub fn go(&mut self, n: u64) -> StopReason
+    pub fn go(&mut self, n: u64) -> Stop
         requires { self.old.now.count + n ≤ 2 ^ 63 }
         ensures is { go n self.old ≡ (result, self.new) }
-        ensures ended { (step : AnyStep) → result ≡ StopReason.Ended step → step ≡ answer self.new.now }
+        ensures ended { (step : AnyStep) → result ≡ Stop.Ended step → step ≡ answer self.new.now }
         ensures count { self.new.now.count ≤ self.old.now.count + n }
     {
         for _i in 0..n {
             if let Some(end) = self.state.ended() {
-                return StopReason::Ended(end);
+                return Stop::Ended(end);
             }
             if self.comes_to_stop() {
-                return StopReason::Break;
+                return Stop::Break;
             }
         }
         self.spent()

@@ -7,5 +7,5 @@ mod debugger;
 pub mod laws;
 mod stops;
 
-pub use debugger::{Debugger, MOST_DEPTH, StopReason};
+pub use debugger::{Debugger, MOST_DEPTH, Stop};
 pub use stops::MOST_STOPS;

@@ -4,14 +4,14 @@ use lcm_machine::Step;
 use std::alloc::{AllocError, Global};
 use std::process::Abort;
 use std::test::Fail;
-use step_back::{Debugger, StopReason};
+use step_back::{Debugger, Stop};
 
 // Two steps back at most, of a loop of two instructions.
 fn goes_two_steps_back(rt: &impl Abort, alloc: Global) -> Result<(), AllocError> {
     let start = started(rt, alloc, "move g1 pc;jmp g1")?;
     let mut debugger = Debugger::make(alloc, start, 2)?;
     assert_eq!(rt; debugger.forward(), Step::Went);
-    assert_eq!(rt; debugger.go(2), StopReason::Spent);
+    assert_eq!(rt; debugger.go(2), Stop::Spent);
     assert_eq!(rt; debugger.state().count(), 3);
     assert_eq!(rt;
         (debugger.back(), debugger.back(), debugger.back()),
@@ -21,7 +21,7 @@ fn goes_two_steps_back(rt: &impl Abort, alloc: Global) -> Result<(), AllocError>
         (debugger.state().count(), debugger.state().pc_at()),
         (1, 101)
     );
-    assert_eq!(rt; debugger.go(9), StopReason::Spent);
+    assert_eq!(rt; debugger.go(9), Stop::Spent);
     assert_eq!(rt; (debugger.go_back(9), debugger.go_back(9)), (2, 0));
     assert_eq!(rt; debugger.state().count(), 8);
     debugger.close();
@@ -39,17 +39,17 @@ fn ends_and_goes_back(rt: &impl Abort, alloc: Global) -> Result<(), AllocError> 
     let start = started(rt, alloc, "move g1 2;halt")?;
     let mut debugger = Debugger::make(alloc, start, 65_536)?;
     assert!(rt; debugger.stop_at(101));
-    assert_eq!(rt; debugger.go(9), StopReason::Break);
+    assert_eq!(rt; debugger.go(9), Stop::Break);
     assert!(rt; debugger.clear(101));
     assert_eq!(rt; debugger.forward(), Step::Halted);
     assert_eq!(rt; debugger.forward(), Step::Halted);
-    assert_eq!(rt; debugger.go(0), StopReason::Ended(Step::Halted));
+    assert_eq!(rt; debugger.go(0), Stop::Ended(Step::Halted));
     assert!(rt; debugger.back());
     assert_eq!(rt;
         (debugger.state().count(), debugger.state().ended()),
         (1, None)
     );
-    assert_eq!(rt; debugger.go(0), StopReason::Spent);
+    assert_eq!(rt; debugger.go(0), Stop::Spent);
     assert_eq!(rt; debugger.go_back(5), 1);
     debugger.close();
     Ok(())

@@ -7,7 +7,7 @@ ghost use Rattle.token_names.specs.TokenFaults.{IsTokenResolved};
 use crate::names::name;
 use crate::procs::proc;
 use cap_words::Items;
-use proc_language::{Global as Variable, Module, ModuleFields, ModuleImport, Proc};
+use proc_language::{Global as Variable, Import, Module, ModuleFields, Proc};
 use std::alloc::{AllocError, Global};
 use token_language::{TokenModule, TokenModuleFields, TokenProc};
 
@@ -44,7 +44,7 @@ fn fields(alloc: Global, m: &TokenModuleFields) -> Result<ModuleFields, AllocErr
     })
 }
 
-fn imports(alloc: Global, list: &[ModuleImport]) -> Result<Vec<ModuleImport>, AllocError>
+fn imports(alloc: Global, list: &[Import]) -> Result<Vec<Import>, AllocError>
     ensures { IfOk result (λ v. v.items ≡ list.now) }
 {
     let mut same = Vec::new(alloc);
@@ -54,12 +54,12 @@ fn imports(alloc: Global, list: &[ModuleImport]) -> Result<Vec<ModuleImport>, Al
     Ok(same)
 }
 
-fn import(alloc: Global, i: &ModuleImport) -> Result<ModuleImport, AllocError>
+fn import(alloc: Global, i: &Import) -> Result<Import, AllocError>
     ensures { IfOk result (λ same. same ≡ i.now) }
 {
     let part = name(alloc, &i.part)?;
     let name = name(alloc, &i.name)?;
-    Ok(ModuleImport {
+    Ok(Import {
         at: i.at,
         part,
         name,

@@ -3,7 +3,7 @@ ghost use Rattle.std.specs.Prelude.{◌≡◌};
 
 use crate::tree::TokenStmt;
 use cap_words::Items;
-use proc_language::{Global, ModuleImport, Name, Param};
+use proc_language::{Global, Import, Name, Param};
 use std::marker::Model;
 
 /// A parameter of a procedure.
@@ -65,7 +65,7 @@ pub struct TokenModuleFields {
     /// Whether the part may be placed elsewhere.
     pub movable: bool,
     /// What it wants to call.
-    pub imports: Items<ModuleImport>,
+    pub imports: Items<Import>,
     /// Its variables and arrays.
     pub globals: Items<Global>,
     /// Its procedures.

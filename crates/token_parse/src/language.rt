@@ -5,7 +5,7 @@ ghost use Rattle.token_parse.specs.TokenTrees.{token_trees};
 
 use cap_words::Items;
 use proc_grammar::{Language, ModuleHeader};
-use proc_language::{Global, ModuleImport, Name, Op, Param, is_reserved};
+use proc_language::{Global, Import, Name, Op, Param, is_reserved};
 use std::alloc::{AllocError, Global as Heap};
 use token_language::{
     TokenArg, TokenCall, TokenExpr, TokenExprKind, TokenLocal, TokenModuleFields, TokenParam,
@@ -295,7 +295,7 @@ impl Language for Tokens {
 
     fn module_of(
         header: ModuleHeader,
-        imports: Items<ModuleImport>,
+        imports: Items<Import>,
         globals: Items<Global>,
         procs: Items<TokenProc>,
     ) -> TokenModuleFields

@@ -3,7 +3,7 @@ use Rattle.std.proofs.Common.{refl, ◌≡◌, subst, ℕ, pos, true, false, Lis
 use Rattle.std.proofs.Common.{inl, slice_set}
 use Rattle.std.proofs.lemmas.List.Elements.{All-nil, All-cons}
 use Rattle.std.specs.Prelude.{codes}
-use Rattle.source_events.specs.declared.MeaningEnd.TheVariants.{Halt as Halted, Fail, OutOfFuel}
+use Rattle.source_events.specs.declared.End.TheVariants.{Halt as Halted, Fail, OutOfFuel}
 use Rattle.cap_words.specs.Names as names
 use Rattle.proc_language.specs.declared.tree.Name.{Name}
 use Rattle.proc_language.specs.Words.{is_source_name, is_reserved}

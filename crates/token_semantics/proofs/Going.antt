@@ -3,7 +3,7 @@ use Rattle.std.proofs.Common.{◌≡◌, sym, ◌∙◌, ap, subst, ℕ, ◌+◌
 use Rattle.std.proofs.Common.{length, Option, Some, None, slice_get, slice_set}
 use Rattle.std.specs.Prelude.{◌==◌, ◌&&◌}
 use Rattle.std.specs.Str.{bytes_eq}
-use Rattle.source_events.specs.declared.MeaningEnd.TheVariants.{Fail}
+use Rattle.source_events.specs.declared.End.TheVariants.{Fail}
 use Rattle.proc_language.specs.Tree as tree
 use Rattle.proc_names.specs.Calls.{calls}
 use Rattle.proc_program.specs.declared.program.Location.{Location}

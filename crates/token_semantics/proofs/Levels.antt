@@ -8,7 +8,7 @@ use Rattle.source_events.specs.declared.Item.{Item}
 use Rattle.source_events.specs.declared.Item.TheVariants.{Enter, Ret}
 use Rattle.source_events.specs.declared.FeedBack.{FeedBack}
 use Rattle.source_events.specs.declared.FeedBack.TheVariants as way
-use Rattle.source_events.specs.declared.MeaningEnd.TheVariants.{Fail, OutOfFuel}
+use Rattle.source_events.specs.declared.End.TheVariants.{Fail, OutOfFuel}
 use Rattle.proc_language.proofs.Offers.{each_at}
 use Rattle.proc_language.specs.Tree as tree
 use Rattle.proc_program.specs.Lower.{procedure_of}

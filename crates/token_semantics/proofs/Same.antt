@@ -5,8 +5,8 @@ use Rattle.std.proofs.Common.{slice_set, max}
 use Rattle.std.specs.Prelude.{is_some}
 use Rattle.source_events.specs.declared.Item.{Item}
 use Rattle.source_events.specs.declared.OutEvent.{OutEvent}
-use Rattle.source_events.specs.declared.MeaningEnd.{MeaningEnd}
-use Rattle.source_events.specs.declared.MeaningEnd.TheVariants.{Fail, OutOfFuel}
+use Rattle.source_events.specs.declared.End.{End}
+use Rattle.source_events.specs.declared.End.TheVariants.{Fail, OutOfFuel}
 use Rattle.source_events.specs.declared.Told.{Told}
 use Rattle.proc_language.specs.declared.tree.Name.{Name}
 use Rattle.proc_language.specs.Limits.{Each}
@@ -81,7 +81,7 @@ same_more r r' more m m' h book bal fuel feed =
       ended = bal.ended;
     }) fuel feed
 
-pub ended_same : (r : Running) (e : MeaningEnd) → Same r (ends e) (plain.ends e)
+pub ended_same : (r : Running) (e : End) → Same r (ends e) (plain.ends e)
 ended_same r e book bal fuel feed = record {
   goes = refl;
   told = refl;

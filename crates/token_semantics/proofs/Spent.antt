@@ -3,7 +3,7 @@ use Rattle.std.proofs.Common.{◌≡◌, refl, ap, ℕ, zero, suc, ◌+◌, ◌<
 use Rattle.std.proofs.Common.{Option, Some, None, slice_index_or}
 use Rattle.std.proofs.lemmas.Bool.Decides.{nat_tests}
 use Rattle.std.specs.Prelude.{All}
-use Rattle.source_events.specs.declared.MeaningEnd.TheVariants.{Fail}
+use Rattle.source_events.specs.declared.End.TheVariants.{Fail}
 use Rattle.source_events.specs.declared.Told.{Told}
 use Rattle.proc_language.specs.Limits.{Each}
 use Rattle.proc_semantics.specs.declared.value.Target.{Target}

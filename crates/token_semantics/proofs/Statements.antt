@@ -2,7 +2,7 @@
 use Rattle.std.proofs.Common.{◌≡◌, refl, sym, ◌∙◌, subst, ℕ, ◌+◌, arith, pos, if◌then◌else◌, List, [], ◌∷◌}
 use Rattle.std.proofs.Common.{length, map, Some, None, slice_get}
 use Rattle.std.specs.Prelude.{All}
-use Rattle.source_events.specs.declared.MeaningEnd.TheVariants.{Halt as Halted, Fail}
+use Rattle.source_events.specs.declared.End.TheVariants.{Halt as Halted, Fail}
 use Rattle.proc_language.specs.declared.tree.Name.{Name}
 use Rattle.proc_language.specs.declared.module.Proc.{Proc}
 use Rattle.proc_language.specs.declared.module.ModuleFields.{ModuleFields}

@@ -9,7 +9,7 @@ use Rattle.source_events.specs.declared.FeedBack.{FeedBack}
 use Rattle.source_events.specs.declared.FeedBack.TheVariants as way
 use Rattle.source_events.specs.declared.OutArg.TheVariants.{Int}
 use Rattle.source_events.specs.declared.OutEvent.TheVariants.{CallOut, LeaveOut}
-use Rattle.source_events.specs.declared.MeaningEnd.TheVariants.{Halt as Halted, OutOfFuel}
+use Rattle.source_events.specs.declared.End.TheVariants.{Halt as Halted, OutOfFuel}
 use Rattle.proc_language.specs.declared.tree.Name.{Name}
 use Rattle.proc_language.specs.declared.tree.Op.{Op}
 use Rattle.proc_language.specs.declared.module.Proc.{Proc}

@@ -3,8 +3,8 @@
 use Rattle.std.specs.Prelude.{ℕ, zero, suc, Bool, true, false, List, [], ◌∷◌, Option, Some, None}
 use Rattle.source_events.specs.declared.Item.{Item}
 use Rattle.source_events.specs.declared.OutEvent.{OutEvent}
-use Rattle.source_events.specs.declared.MeaningEnd.{MeaningEnd}
-use Rattle.source_events.specs.declared.MeaningEnd.TheVariants.{Fail, Waiting, OutOfFuel}
+use Rattle.source_events.specs.declared.End.{End}
+use Rattle.source_events.specs.declared.End.TheVariants.{Fail, Waiting, OutOfFuel}
 use Rattle.source_events.specs.declared.Told.{Told}
 use Rattle.proc_semantics.specs.Told as plain
 use Rattle.proc_semantics.specs.Told.{counted, said}
@@ -21,7 +21,7 @@ pub record TokensTold : Type 0 where
 abbrev pub Comp : Type 0
 Comp = Ledger → ℕ → List Item → TokensTold
 
-abbrev pub ends : MeaningEnd → Comp
+abbrev pub ends : End → Comp
 ends e book fuel feed = record { stuck = false; told = plain.ends e fuel feed; ledger = book }
 
 abbrev pub fails : Comp
