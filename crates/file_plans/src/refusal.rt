@@ -40,7 +40,7 @@ pub enum Refusal {
 }
 
 /// Why a call goes no further.
-#[derive(Clone, Copy, Debug, PartialEq, Eq)]
+#[derive(Clone, Copy, PartialEq, Eq)]
 pub enum Stop {
     /// It is refused.
     Refused(Refusal),
