@@ -11,8 +11,10 @@ ghost use Rattle.proc_sources.specs.Sources.{compile_answer};
 ghost use Rattle.module_rules.specs.Rules.{ruled, stack_base_of};
 ghost use Rattle.alike_modules.specs.Alike.{AreAlike, IsParsedBack, IsSourceOf};
 
-/// Modules that are alike have the same text, run as the same program, and have the same component or the
-/// same fault of compiling. Where the names of one are resolved, so are those of the other.
+/// Modules that are alike, the same but for their places, are printed and compiled alike.
+///
+/// They have the same text and the same program, and the same component or the same fault of compiling. If
+/// the names of the one are resolved, so are those of the other.
 #[tactic(auto, using(crate::proofs::Same::of_modules))]
 pub fn alike_modules_are_compiled_alike()
     ensures text { (a b : ModuleFields) → IsAlike a b → printed a ≡ printed b }
@@ -21,8 +23,10 @@ pub fn alike_modules_are_compiled_alike()
     ensures names { (a b : ModuleFields) → IsAlike a b → name_faults a ≡ [] → name_faults b ≡ [] }
 {}
 
-/// Lists of modules that are alike keep the same rules or break the same first one, have the same stack base,
-/// and run as the same programs: so they have the same meaning.
+/// Lists of alike modules keep the same rules and mean the same.
+///
+/// They keep the same rules or break the same first one. They have the same stack base, and run as the same
+/// programs.
 #[tactic(auto, using(crate::proofs::Same::of_lists))]
 pub fn alike_modules_mean_the_same()
     ensures rules { (ms ns : List ModuleFields) (size : ℕ) → AreAlike ms ns → ruled ms size ≡ ruled ns size }
@@ -30,8 +34,9 @@ pub fn alike_modules_mean_the_same()
     ensures programs { (ms ns : List ModuleFields) → AreAlike ms ns → map part_of ms ≡ map part_of ns }
 {}
 
-/// The text of a module whose names are resolved is a source of a module that is alike, and of the same
-/// component, where that text is parsed at all.
+/// A resolved module's text, if it is parsed, is a source with the same component.
+///
+/// The module of that source is alike.
 pub fn printed_modules_are_sources()
     ensures { (m : ModuleFields) → IsModule m → name_faults m ≡ [] → IsParsedBack m
         → IsSourceOf (printed m) m }

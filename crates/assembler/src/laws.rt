@@ -4,7 +4,7 @@ ghost use Rattle.component_file.specs.declared.component.ComponentFields.{Compon
 ghost use Rattle.component_file.specs.Limits.{IsComponent};
 ghost use Rattle.assembler.specs.Assembled.{assembled};
 
-/// What a text spells keeps the limits of components.
+/// What an assembler text spells keeps the limits of components.
 pub fn what_is_spelled_keeps_the_limits()
     ensures { (text : List ℕ) (c : ComponentFields) → assembled text ≡ Ok c → IsComponent c }
 {}

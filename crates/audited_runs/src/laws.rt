@@ -6,16 +6,19 @@ ghost use Rattle.audited_runs.specs.Spelling.{LinesAreRead, FittingHaveTexts};
 use overlay_machine::laws::{a_start_has_one_overlay, linked_starts_agree, starts_begin};
 use trace_tool::laws::{lines_are_bracketed, lines_fit, the_headline};
 
-/// An audit reads bytes as a line exactly where, with a newline, they are the text of a line of an event, or
-/// of an end line, and as what it is. Each line that fits has such a text.
+/// An audit reads a text as a line exactly if it spells that line.
+///
+/// Each line that fits has such a text. A text spells a line if, with a newline, it is the text of an event's
+/// line or of an end line.
 pub fn lines_are_read()
     ensures exact { LinesAreRead }
     ensures fitting { FittingHaveTexts }
 {}
 
-/// No line of a run from a linked start spoils it in an audit, however many instructions it makes: the ranges
-/// of calls and returns aren't empty, with a word for each address, each call lies below all that are open,
-/// and each return is that of the newest.
+/// A linked start's run has no line that an audit refuses.
+///
+/// The ranges of calls and returns aren't empty, and have a word for each address; each call lies below all
+/// that are open; each return is that of the newest. The run may make any number of instructions.
 pub fn lines_are_followed()
     ensures { LinesAreFollowed }
 {
@@ -26,7 +29,7 @@ pub fn lines_are_followed()
     the_headline();
 }
 
-/// The text of a run from a linked start passes an audit.
+/// The text of every run from a linked start, of under 2^64 instructions, passes the audit.
 pub fn runs_pass()
     ensures { RunsPass }
 {

@@ -11,16 +11,19 @@ ghost use Rattle.call_sequence.specs.SequenceWords.{CallWords, EntryWords, Retur
 
 use cap_words::MachineWord;
 
-/// `is_site` and `is_entry` answer true exactly where each word is its instruction's number.
+/// `is_site` and `is_entry` are true exactly if each word is its instruction's number.
 pub fn sequences_stand_word_by_word()
     ensures sites { (c : ComponentFields) (index : ℕ) → Decides (is_site c index) (SiteStands c index) }
     ensures entries { (c : ComponentFields) (at : ℕ) → Decides (is_entry c at) (EntryStands c at) }
 {}
 
-/// What a call's words do: `data` is stored where stk stands, the stack is split behind that, the
-/// two halves of the return are sealed, and the last word is an `xjmp`. With stk at its base or
-/// outside its range they fail. Whatever comes of them, but for the code of their part they touch stk's
-/// range alone, where that lies outside the code.
+/// Above the stack's base a call's words save `data`, split the stack, seal the return's halves and reach an
+/// `xjmp`; at the base they fail.
+///
+/// The word in `data` must not be linear. `data` is stored where stk stands, in a cell that is there and
+/// isn't of the part's code, and the stack is split below that cell. With stk outside its range the first
+/// word fails. Whatever comes of them, but for the code of their part the words touch stk's range alone, if
+/// that lies outside the code.
 pub fn calls_run<W: MachineWord>()
     ensures above { CallRuns W.look W.plain }
     ensures jumps { CallJumps W.look W.plain }
@@ -29,10 +32,12 @@ pub fn calls_run<W: MachineWord>()
     ensures words { CallWords W.look W.plain }
 {}
 
-/// What a return's words do: stk and `data` are joined, and `data` is read back from the first cell of
-/// its stretch. Where they can't be joined, or what is joined doesn't begin at the stack's base, they
-/// fail. But for the code of their part only the word that loads and the one that wipes touch memory; of
-/// the last word that is said where stk and `data` are joined.
+/// A return's words join stk and `data`, then load and wipe the first cell of `data`; unless the two join
+/// from the stack's base on, they fail.
+///
+/// The word that is loaded must not be linear, and its cell not be of the part's code. But for that code only
+/// the word that loads and the one that wipes touch memory; of the last word that is said if stk and `data`
+/// are joined.
 pub fn returns_run<W: MachineWord>()
     ensures joint { ReturnRuns W.look W.plain }
     ensures apart { ReturnApartFails W.look W.plain }
@@ -41,9 +46,9 @@ pub fn returns_run<W: MachineWord>()
     ensures joint_words { JointReturnWords W.look W.plain }
 {}
 
-/// What an entry's words do: stk is set to its end, where it is a linear capability with rw that
-/// begins at the stack's base, and else they end at the part's `fail`. They touch the code of their part
-/// alone.
+/// An entry's words set stk to its end if it is a linear `rw` capability from the stack's base on, else fail.
+///
+/// They fail by F4, at the part's `fail`. They touch the code of their part alone.
 pub fn entries_run<W: MachineWord>()
     ensures stack { EntryRuns W.look W.plain }
     ensures others { EntryFails W.look W.plain }

@@ -5,8 +5,7 @@ ghost use Rattle.command_words.specs.declared.command.Command.{Command};
 ghost use Rattle.command_words.specs.Action.{asked_in};
 ghost use Rattle.command_words.specs.Fits.{Fits};
 
-/// Names, numbers and counts of what words ask for are within their bounds, and what `mean` and `erase` take
-/// are sources.
+/// Names, numbers and counts in a command are within bounds, and `mean` and `erase` take sources.
 pub fn commands_fit()
     ensures { (words : List Text) (c : Command) → asked_in words ≡ Some c → Fits c }
 {}

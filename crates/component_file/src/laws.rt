@@ -6,24 +6,24 @@ ghost use Rattle.component_file.specs.Limits.{IsComponent};
 ghost use Rattle.component_file.specs.Spelling.{SpellsComponent, spelling};
 ghost use Rattle.component_file.specs.Reading.{decoded};
 
-/// A component has one spelling, a spelling is of one component, and no spelling begins another.
+/// Each component has one spelling, of no other component, and none begins another.
 pub fn one_spelling()
     ensures { (c d : ComponentFields) (a b x y : List ℕ) →
         SpellsComponent a c → SpellsComponent b d → a ++ x ≡ b ++ y → (c ≡ d) × (a ≡ b) × (x ≡ y) }
 {}
 
-/// The spelling of a component is read as that component.
+/// Decoding the spelling of a component gives that component.
 pub fn spelling_is_read()
     ensures { (c : ComponentFields) → IsComponent c → decoded (spelling c) ≡ Ok c }
 {}
 
-/// Bytes behind a component are too many, from the first of them on.
+/// Bytes after the spelling of a component are `Trailing`, at the first of them.
 pub fn no_more_is_read()
     ensures { (c : ComponentFields) (byte : ℕ) (more : List ℕ) →
         IsComponent c → decoded (spelling c ++ byte ∷ more) ≡ Err (Trailing (length (spelling c))) }
 {}
 
-/// A component that was cut anywhere is `Short`, at a field that begins before the cut or at it.
+/// A component's spelling, cut anywhere, is `Short`, at a field that begins at the cut or before.
 pub fn what_is_cut_is_short()
     ensures { (c : ComponentFields) (n : ℕ) → IsComponent c → n < length (spelling c) →
         (at : ℕ) × (at ≤ n) × (decoded (take n (spelling c)) ≡ Err (Short at)) }

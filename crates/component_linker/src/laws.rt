@@ -4,23 +4,24 @@ ghost use Rattle.component_linker.specs.Accepted.{accepted};
 ghost use Rattle.component_linker.specs.DataWords.{DataStands};
 ghost use Rattle.component_linker.specs.StartFits.{StartsFit};
 
-/// What is answered of a part, tried rule after rule, is right: the part where it breaks no rule, and
-/// else the first rule that it breaks, at its first place.
+/// A part is accepted unless it breaks a rule, and then the first that it breaks is told.
+///
+/// Rules C come before K, and each is told at its first place.
 pub fn first_rule_is_told()
     ensures { (p : PartSeen) → Accepts p (accepted p) }
 {}
 
-/// Where the data of parts stands at their start.
+/// At the start of accepted parts that keep L, each import's slot holds what the import names.
 ///
-/// Let parts have been accepted, and let them keep the rules L with some size of stack. Then at each
-/// start of them an import's slot has the code half of what it names, the word behind it has the data
-/// half, and every other word of a part's data is the part's own.
+/// The slot has the code half, and the word after it the data half. Every other word of a part's data is the
+/// part's own.
 pub fn data_words_stand()
     ensures { DataStands }
 {}
 
-/// All words of such a start, in registers and in cells, are words of the machine, and each has a
-/// spelling.
+/// All words of the start of accepted parts that keep L have spellings.
+///
+/// They are those in registers and in cells.
 pub fn start_words_fit()
     ensures { StartsFit }
 {}

@@ -5,7 +5,8 @@ use authority_report::laws::words_bound_runs;
 use overlay_machine::laws::{a_start_has_one_overlay, linked_starts_agree, starts_begin};
 use trace_tool::laws::{lines_are_bracketed, the_headline};
 
-/// Code outside is confined, told of the plain machine alone, of every linked start.
+/// From every linked start, code outside touches nothing of a trusted part and no open call's range, and
+/// enters trusted parts at exports and return points alone: isolation.
 ///
 /// An instruction that comes from an address in no trusted part's code touches addresses of untrusted parts
 /// and of the stack alone: none of a trusted part's code, data or linear area, and none in the range of a

@@ -15,26 +15,36 @@ use source_starts::laws::{
 };
 use trace_tool::laws::{cuts_are_greatest, the_headline};
 
-/// A step of code outside does the same in two runs of linked parts, from states that are alike to it: both
-/// halt, both fail, both stay outside in states that are alike again, or both come in, to twins of exports
-/// with the same words, or by a return to the newest call.
+/// From alike states, the next step of code outside does alike beside both lists of linked parts.
+///
+/// It halts in both, fails in both, stays outside in both, in states that are alike again, or comes in in
+/// both. It comes in to twins of exports with the same words, or by a return to the newest call.
 pub fn outside_steps_are_alike()
     ensures { (g h : Link) (names : SameNames g h) → OutsideStepsAlike g h names }
 {}
 
-/// Two runs of linked parts go in step: as long as the same is observed of their rounds, code outside makes
-/// the same steps in both, comes in alike, and is at the end in states that are alike to it, from which it
-/// ends alike.
+/// From alike states, as long as tidying trusted parts show it the same, code outside takes the same steps
+/// beside both.
+///
+/// It makes as many steps, comes in alike, and is at the end in states that are alike to it, from which it
+/// ends alike. What is shown is each crossing and the cells that it wiped. Parts that tidy leave each cell in
+/// reach as it was, or 0 on the stack.
 pub fn runs_go_in_step()
     ensures { RunInStep }
 {}
 
-/// Trusted parts of which the same is observed on each feed can't be told apart by any code outside.
+/// From alike states, code outside can't tell tidying trusted parts apart that show the same on each feed.
+///
+/// Whatever code outside does beside the one, it does beside the other.
 pub fn no_context_tells<I, O>()
     ensures { NoContextTells I O }
 {}
 
-/// So do two runs of linked sources, whatever the sources are and whatever untrusted parts are beside them.
+/// From alike states, as long as linked sources show it the same, code outside takes the same steps beside
+/// both.
+///
+/// It comes in alike and ends alike. So it is whatever the sources are and whatever untrusted parts are
+/// beside them.
 pub fn sources_go_in_step()
     ensures { SourcesInStep }
 {
@@ -43,7 +53,7 @@ pub fn sources_go_in_step()
     sources_leave_nothing();
 }
 
-/// Sources of which the same is observed on each feed can't be told apart by any code outside.
+/// From alike states, code outside can't tell sources apart that show the same on each feed.
 pub fn no_context_tells_sources<I, O>()
     ensures { SourcesAgainstContexts I O }
 {
@@ -52,20 +62,24 @@ pub fn no_context_tells_sources<I, O>()
     sources_leave_nothing();
 }
 
-/// Starts with one main are alike to code outside where their cells are.
+/// Starts with one main are alike to code outside if their cells are.
 pub fn starts_are_alike()
     ensures { StartsAlike }
 {}
 
-/// And so are starts of links beside each other, in which untrusted parts import the same exports, or twins.
+/// Starts of links beside each other with one main are alike, if untrusted parts import alike.
+///
+/// They import the same exports, or twins.
 pub fn placed_starts_are_alike()
     ensures { PlacedStartsAlike }
 {
     starts_begin();
 }
 
-/// Where main is trusted, and sources let go for the first time with the same observed, code outside comes to
-/// run in states that are alike to it.
+/// If linked sources first let go with the same shown, code outside arrives in alike states.
+///
+/// The links are beside each other, and main is trusted. Untrusted parts import the same exports, or twins,
+/// in both.
 pub fn first_arrivals_are_alike()
     ensures { FirstArrivalsAlike }
 {
@@ -74,8 +88,10 @@ pub fn first_arrivals_are_alike()
     sources_leave_nothing();
 }
 
-/// Whole runs of two links of sources, beside each other, where main is untrusted: from the start on code
-/// outside makes the same steps in both, as long as the same is observed.
+/// With an untrusted main code outside takes the same steps from the starts on, as long as sources show it
+/// the same.
+///
+/// The links are beside each other. Untrusted parts import the same exports, or twins, in both.
 pub fn whole_runs_go_in_step()
     ensures { WholeRunsInStep }
 {
@@ -84,7 +100,8 @@ pub fn whole_runs_go_in_step()
     sources_leave_nothing();
 }
 
-/// Sources that mean the same can't be told apart, whatever untrusted parts are linked beside them.
+/// Sources that mean the same can't be told apart by any untrusted parts linked beside both at the same
+/// addresses.
 ///
 /// Take two lists of modules, linked with the same untrusted parts at the same addresses, and one-to-one
 /// names for the calls of both. Let the refined meanings of both tell the same on each feed: of each call its
@@ -105,9 +122,11 @@ pub fn same_meanings_are_not_told_apart()
     sources_mean();
 }
 
-/// Of one direction alone: where the second sources tell as much as the first, whatever code outside does
-/// beside the first, it does beside the second; for any choice of which exports and sites stand for each
-/// other, as long as those do that have one name, and also where no part is untrusted.
+/// If linked sources tell as much as others, code outside does beside them whatever it does beside those.
+///
+/// Both are linked beside the same untrusted parts at the same addresses. So it is for any choice of which
+/// exports and sites stand for each other, as long as those do that have one name, and also if no part is
+/// untrusted.
 pub fn same_meanings_go_in_step()
     ensures { SameMeaningsGoInStep }
 {
@@ -119,8 +138,8 @@ pub fn same_meanings_go_in_step()
     sources_mean();
 }
 
-/// Sources that mean the same and end the same way can be put in each other's place: whole plain runs end
-/// alike.
+/// If sources mean the same and end the same way, plain runs beside the same untrusted parts at the same
+/// addresses end alike: contextual equivalence.
 ///
 /// Take two lists of modules, linked with the same untrusted parts at the same addresses, whichever part has
 /// main, and let the refined meanings of both tell the same on each feed whose integers have 64 bits, as
@@ -141,7 +160,7 @@ pub fn same_meanings_end_alike()
     cuts_are_greatest();
 }
 
-/// That it speaks of something: each state at which code outside runs is alike to itself.
+/// Each state of linked parts in which code outside runs is alike to itself.
 pub fn states_are_alike_to_themselves()
     ensures { AlikeToItself }
 {}

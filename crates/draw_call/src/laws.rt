@@ -7,7 +7,7 @@ ghost use Rattle.draw_call.specs.Causes.{Cause, StayAt, IsComplete};
 
 use run_audit::laws::traces_are_found;
 
-/// Each status has its cause.
+/// `stk_draw` ends with each status only for its cause.
 pub fn each_status_has_its_cause()
     ensures { (asked : Option DrawCall) (old : CallSeen) (status : DrawStatus) (new : CallSeen)
         → Answers asked old status new → Cause asked old status new }
@@ -15,14 +15,15 @@ pub fn each_status_has_its_cause()
     traces_are_found();
 }
 
-/// Where the files tell what they hold and nothing outside fails, the words and the bytes of the file of
-/// `--feed` alone determine the answer, unless memory is refused.
+/// Words and text determine what `stk_draw` answers, if nothing outside fails and memory isn't refused.
+///
+/// The files tell what they hold, and the text is that of the file of `--feed`.
 pub fn one_answer_is_due()
     ensures { (asked : Option DrawCall) (old : CallSeen) (status : DrawStatus) (new : CallSeen)
         → Answers asked old status new → IsComplete asked old status new }
 {}
 
-/// No file is changed but that of `--out`, and that one only where the status is Done or WriteFault.
+/// `stk_draw` changes no file but that of `--out`, and that only with Done or WriteFault.
 pub fn other_files_stay()
     ensures { (asked : Option DrawCall) (old : CallSeen) (status : DrawStatus) (new : CallSeen)
         → Answers asked old status new → StayAt asked old.files status new.files }

@@ -8,8 +8,9 @@ use run_audit::laws::traces_are_found;
 use run_picture::laws::{lines_and_addresses_are_seen, one_box_each, open_calls_are_seen};
 use trace_tool::laws::{lines_are_bracketed, lines_fit, open_calls_are_kept, the_headline};
 
-/// The text of every run from a linked start, of fewer than 2^64 instructions, is drawn: what is due of
-/// `draw` is its picture, or that it is too long, and never a fault of the audit.
+/// The text of every run of under 2^64 instructions is drawn, unless it is too long.
+///
+/// The run is from a linked start.
 pub fn runs_are_drawn()
     ensures { RunsAreDrawn }
 {
@@ -17,9 +18,10 @@ pub fn runs_are_drawn()
     runs_pass();
 }
 
-/// Behind any number of instructions of a run, the boxes that stand in its picture behind the last line
-/// that was written are those of the calls that are open there: one for each, over its range, in the order
-/// of the calls. So just those addresses are dark there that are of the range of an open call.
+/// After each instruction a run's picture has a box for each open call, and just their ranges are dark.
+///
+/// The run is from a linked start. The boxes are those that stand after the last line that was written by
+/// then: one for each call, over its range, in the order of the calls.
 pub fn boxes_are_open_calls()
     ensures boxes { BoxesAreOpenCalls }
     ensures dark { DarkIsOpen }
@@ -36,11 +38,11 @@ pub fn boxes_are_open_calls()
     open_calls_are_seen();
 }
 
-/// What is dark in the picture of a run wasn't touched while it was dark: no instruction of the run touches
-/// an address that is dark behind the last line that was written before it, but the two of the return of
-/// that box's own call that load and wipe the frame's first word.
+/// No instruction of a run touches what is dark in its picture, but two of that call's own return.
 ///
-/// There is such a use: in the run of the parts of the headline, which calls and comes back.
+/// The run is from a linked start. The two load the frame's first word and wipe it. Dark is what is so after
+/// the last line that was written before the instruction. There is such a use: in the run of the parts of the
+/// headline, which calls and comes back.
 pub fn dark_is_left_alone()
     ensures alone { DarkIsLeftAlone }
     ensures of_some { DarkThere }

@@ -11,8 +11,8 @@ use std::alloc::Global;
 
 /// The bytes of a file whose turn it is, at most [`LONGEST_FILE`] of them.
 ///
-/// `index` is what a refusal tells of it: the index of its part, 0 for an image, and the number of parts for
-/// a feed or a script.
+/// `index` is what a refusal tells of it: the index of its part, 0 for an image and for a text of `audit`,
+/// and the number of parts for a feed or a script.
 pub fn read<F: Files>(
     alloc: Global,
     files: &mut F,

@@ -11,36 +11,41 @@ ghost use Rattle.flow_check.specs.Walk.{RowAt, site_ready};
 ghost use Rattle.flow_check.specs.Verdict.{IsKept};
 ghost use Rattle.flow_check.specs.Local.{Leads, Judged};
 
-/// A word that has a row, and at which neither an entry nor a site begins, is an instruction whose
-/// kinds fit the row. The row after it is below the row at the next word, and where it may jump
-/// to, other than to the `fail`, there is a row that the one before it is below.
+/// In code that keeps K, words with rows, outside sequences, are instructions that fit them and lead to rows
+/// that allow their outcome.
+///
+/// The row after it is below the row at the next word, and if it may jump elsewhere than to the `fail`, there
+/// is a row there that the one before it is below.
 pub fn words_flow()
     ensures { (c : ComponentFields) → IsComponent c → IsKept c → (o : ℕ) (r : Row)
         → begins_entry c o ≡ false → begins_site c o ≡ false → RowAt c o r → Judged c o r }
 {}
 
-/// Where a site has a row, this is ready for the call. Behind a site stands the row after it, or
-/// one that this is below.
+/// In code that keeps K, a site's row is ready for its call, and the row after it allows what its return
+/// leaves.
 pub fn sites_flow()
     ensures { (c : ComponentFields) → IsComponent c → IsKept c → (o : ℕ) (r : Row)
         → begins_site c o ≡ true → RowAt c o r → (site_ready r ≡ true) × Leads c (o + SITE_WORDS) clean_row }
 {}
 
-/// Behind an entry stands the row after it, or one that this is below.
+/// In code that keeps K, the row after an entry allows what the entry leaves.
 pub fn entries_flow()
     ensures { (c : ComponentFields) → IsComponent c → IsKept c → (o : ℕ)
         → begins_entry c o ≡ true → Leads c (o + ENTRY_WORDS) clean_row }
 {}
 
-/// An offset has one row at most, and none inside a site or an entry, past its first word.
+/// An offset has one row at most and, in code that keeps K, none inside a sequence.
+///
+/// Inside is past the first word of a site or of an entry.
 pub fn rows_are_placed()
     ensures one { (c : ComponentFields) (o : ℕ) (r q : Row) → RowAt c o r → RowAt c o q → r ≡ q }
     ensures outside { (c : ComponentFields) → IsComponent c → IsKept c → (o : ℕ) (r : Row)
         → RowAt c o r → is_inside c o ≡ false }
 {}
 
-/// The words of a call and of a return stand at each site, and those of an entry at each export. Both
-/// lie within the code.
+/// In code that keeps K, each site and each export has the words of its sequence, within the code.
+///
+/// At a site stand those of a call and its return, at an export those of an entry.
 pub fn sequences_stand()
     ensures sites_within { (c : ComponentFields) → IsKept c → (i o : ℕ)
         → slice_get c.sites i ≡ Some o → o + SITE_WORDS ≤ length c.code }

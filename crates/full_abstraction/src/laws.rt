@@ -4,8 +4,8 @@ ghost use Rattle.full_abstraction.specs.Abstraction.{OverlayIsFullyAbstract, Run
 
 use trace_tool::laws::{cuts_are_greatest, the_headline};
 
-/// The overlay is fully abstract: two lists of parts can't be told apart on the plain machine if and only if
-/// they can't on the overlay.
+/// The overlay is fully abstract: two lists of parts are contextually equivalent on the plain machine if and
+/// only if they are on the overlay.
 ///
 /// A context is what stands around a list of parts: parts before and after them, and the size of the stack.
 /// Two lists are equivalent on a machine if each context that links with both halts with the ones if and only

@@ -10,31 +10,30 @@ ghost use Rattle.image_loader.specs.Image.{IsImage, image_bytes, SpellsImage};
 ghost use Rattle.image_loader.specs.Reading.{image_of};
 ghost use Rattle.image_loader.specs.Answer.{LinksRead, Loads};
 
-/// An image has one spelling, a spelling is of one image, and no spelling begins another.
+/// Each image has one spelling, of no other image, and none begins another.
 pub fn one_spelling()
     ensures { (i j : Image) (a b x y : List ℕ) →
         SpellsImage a i → SpellsImage b j → a ++ x ≡ b ++ y → (i ≡ j) × (a ≡ b) × (x ≡ y) }
 {}
 
-/// The spelling of an image is read as that image.
+/// Reading the spelling of an image gives that image.
 pub fn spelling_is_read()
     ensures { (i : Image) → IsImage i → image_of (image_bytes i) ≡ Ok i }
 {}
 
-/// What was written is loaded as `link` answers of the same parts and the same size, unless memory
-/// is refused.
+/// A written image is loaded as `link` answers of it, unless memory is refused.
 pub fn what_was_written_is_linked()
     ensures { (i : Image) (answer : Result StartSeen ImageFault) → IsImage i →
         Loads (image_bytes i) answer → LinksRead (Ok i) answer ⊎ (answer ≡ Err NoMemory) }
 {}
 
-/// Bytes behind an image are too many, from the first of them on.
+/// Bytes after the spelling of an image are `Trailing`, at the first of them.
 pub fn no_more_is_read()
     ensures { (i : Image) (byte : ℕ) (more : List ℕ) → IsImage i →
         image_of (image_bytes i ++ byte ∷ more) ≡ Err (Trailing (length (image_bytes i))) }
 {}
 
-/// An image that was cut anywhere is `Short`, at a field that begins before the cut or at it.
+/// An image's spelling, cut anywhere, is `Short`, at a field that begins at the cut or before.
 pub fn what_is_cut_is_short()
     ensures { (i : Image) (n : ℕ) → IsImage i → n < length (image_bytes i) →
         (at : ℕ) × (at ≤ n) × (image_of (take n (image_bytes i)) ≡ Err (Short at)) }

@@ -21,14 +21,15 @@ use proc_program::laws::{calls_are_kept, programs_keep_limits};
 use proc_sources::laws::sources_are_modules;
 use proc_templates::laws::{components_keep_rules, names_differ};
 
-/// Parts together are refused for the first of the rules of linking that they break, in the first part and
-/// at the first place there, and for nothing else.
+/// Linked parts are refused for the first of the rules L that they break, and for nothing else.
+///
+/// It is told in the first part and at the first place there.
 pub fn first_rule_is_told()
     ensures { (parts : List PartSeen) (size : ℕ)
         → IsFirstBrokenIn rule_at (rules_of_link (placed parts size) size) (linked parts size) }
 {}
 
-/// The bytes of an image whose parts keep the rules of linking are loaded as just this image.
+/// An image whose parts keep the rules L is loaded from its bytes as just this image.
 pub fn linked_images_are_loaded()
     ensures { (i : ImageSeen) → IsImage i → linked i.parts i.stack ≡ Ok tt → loaded (image_bytes i) ≡ Ok i }
 {}
@@ -41,24 +42,29 @@ pub fn one_answer()
     reports_are_one();
 }
 
-/// `mean`, asked of the sources of a run over the text of that run, with the same size of stack, writes the
-/// text of the very meaning that the run's lines are told by, where it ends with 0, 1 or 2: with fuel enough
-/// it tells just the events that went out by that text, or, where trusted code was still running, begins with
-/// them. The run may be of the sources, of what was made of them, or of an image (`SourcesMean`). Neither the
-/// rules of a meaning nor the form of a feed refuse it; the length of the text may.
+/// If `mean` of a run's sources over its text, with its stack, ends with 0 to 2, it tells the meaning in the
+/// theorem of sources.
+///
+/// With fuel enough it tells just the events that went out by that text, or, if trusted code was still
+/// running, begins with them. The run may be of the sources, of what was made of them, or of an image
+/// (`SourcesMean`). Neither the rules of a meaning nor the form of a feed refuse it; the length of the text
+/// may.
 pub fn mean_tells_runs()
     ensures { MeanTellsRuns }
 {}
 
-/// All roads to a run are one. In place of a part that a command is asked of may stand, under any name, what
-/// gives the same component: the bytes that `compile` or `asm` puts of it, the text that `dis` writes of it,
-/// or, of a source with tokens, the text of its module without them; and in place of all of the parts the
-/// image that `link` puts of them. Any of them may be exchanged at once, over other files, and one after
-/// another, and back. Then whatever `run`, `trace`, `link`, `reach`, `debug`, `check`, `dis` and, of sources
-/// alone, `mean` are asked, the answer that is due over files that tell is the same: the text, the status,
-/// the file and the machine. Of what was put or written it is asked that it isn't too long to be read; of a
-/// text without its tokens also that it is parsed, and that the text with them isn't too long; and of a
-/// component file whose text `dis` wrote, that it holds bytes.
+/// A part's form makes no difference to the answer that is due, as far as each form can be read.
+///
+/// The forms are a source, an assembler text, a component file, and an image. In place of a part that a
+/// command is asked of may stand, under any name, what gives the same component: the bytes that `compile` or
+/// `asm` puts of it, the text that `dis` writes of it, or, of a source with tokens, the text of its module
+/// without them; and in place of all of the parts the image that `link` puts of them. Any of them may be
+/// exchanged at once, over other files, and one after another, and back. Then whatever `run`, `trace`,
+/// `link`, `reach`, `debug`, `check`, `dis` and, of sources alone, `mean` are asked, the answer that is due
+/// over files that tell is the same: the text, the status, the file and the machine. Of what was put or
+/// written it is asked that it isn't too long to be read; of a text without its tokens also that it is
+/// parsed, and that the text with them isn't too long; and of a component file whose text `dis` wrote, that
+/// it holds bytes.
 pub fn roads_are_one()
     ensures { RoadsAreOne }
 {
@@ -73,9 +79,11 @@ pub fn roads_are_one()
     names_differ();
 }
 
-/// Over an empty [`SafeSink`](outside_io::SafeSink) a `run` ends with WriteFault only if the text that is due
-/// of the bytes that it read has as many bytes as the sink has room for, or more. So if there is room for a
-/// byte more than that text, whatever the files hold and whether they tell it, `run` never does.
+/// A `run` over an empty `SafeSink` ends with WriteFault only if the due text fills the sink.
+///
+/// The text that is due of the bytes that it read has as many bytes as the sink has room for, or more. So if
+/// there is room for a byte more than that text, whatever the files hold and whether they tell it, `run`
+/// never ends so.
 pub fn safe_sinks_hold_runs()
     ensures { SafeSinksHoldRuns }
 {}

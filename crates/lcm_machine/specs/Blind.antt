@@ -28,7 +28,8 @@ EndsAlike apart s t halted halted = Unit {0}
 EndsAlike apart s t (failed c at) (failed d to) = (c ≡ d) × (at ≡ to)
 EndsAlike apart s t _ _ = ⊥
 
--- a step that touches none of these cells doesn't depend on their words, nor on whether they are there
+-- a step of the first state that touches none of these cells ends the same with other words in them, or
+-- without them
 abbrev pub StepsAreBlind : {W : Type 0} → (W → Word) → (Word → W) → Type 0
 StepsAreBlind {W} look plain =
     (test : ℕ → Bool) (s t : State W)

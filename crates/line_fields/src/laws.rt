@@ -2,18 +2,20 @@
 ghost use Rattle.line_fields.specs.Laws.{NumbersAreRead, IntegersAreRead, WordsAreRead, BacksAreRead};
 ghost use Rattle.line_fields.specs.Laws.{HandedAreRead};
 
-/// A number and an integer are each read of their decimal text alone.
+/// A text is read as a number, or an integer, exactly if it is its decimal text.
+///
+/// A number is read up to a bound of 64 bits; an integer has 64 bits.
 pub fn numbers_are_read()
     ensures naturals { NumbersAreRead }
     ensures integers { IntegersAreRead }
 {}
 
-/// A word is read of its text alone.
+/// A text is read as a word exactly if it is that word's text.
 pub fn words_are_read()
     ensures { WordsAreRead }
 {}
 
-/// What a return would do, and what two argument registers are, is each read of its text alone.
+/// A text is read as where a return leads, or as a pair, exactly if it is its text.
 pub fn jumps_are_read()
     ensures backs { BacksAreRead }
     ensures pairs { HandedAreRead }

@@ -3,8 +3,9 @@ ghost use Rattle.linked_modules.specs.Among.{LinkedModulesKeepRules};
 
 use proc_templates::laws::names_differ;
 
-/// Modules whose components are among linked parts, in their order, keep the rules that their meaning
-/// asks, with the size of stack with which the parts link.
+/// Resolved modules whose components are linked, in their order, keep the rules of modules.
+///
+/// The size of stack is that of the link.
 pub fn linked_modules_keep_rules()
     ensures { LinkedModulesKeepRules }
 {

@@ -4,8 +4,9 @@ ghost use Rattle.proc_language.specs.declared.module.ModuleFields.{ModuleFields}
 ghost use Rattle.proc_print.specs.Printed.{printed};
 ghost use Rattle.proc_again.specs.Reprint.{ReadAgain};
 
-/// What `parse` reads of what `print` gave is the module, but for its places, where that text has fewer
-/// than 2^32 bytes, no line above 512 bytes and no bracket opened inside 64 open ones.
+/// A printed module is parsed as an alike one, if text, lines and brackets are within bounds.
+///
+/// The text has fewer than 2^32 bytes, no line above 512 bytes and no bracket opened inside 64 open ones.
 pub fn what_is_printed_is_parsed()
     ensures { (m : ModuleFields) → length (printed m) < 2 ^ 32 → ReadAgain m }
 {

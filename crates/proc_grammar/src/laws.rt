@@ -13,13 +13,13 @@ ghost use Rattle.proc_grammar.specs.Stuck.{IsExpected, IsBeyond, StandsIn};
 
 use crate::language::Language;
 
-/// What is read is spelled, and what is spelled is read, with as much fuel as there are tokens; tokens
-/// spell one module at most.
+/// Tokens are read as a module exactly if they spell it; else a fault is told where they stop, or for a limit
+/// before.
 ///
-/// Where a token is told as unexpected, or the text's end, the tokens before it begin a module, limits
-/// passed over, and with it they begin none. Where they do so, it is told, or before it the fault of a
-/// limit. No other faults are told, and that of a limit stands at a token up to which, it included, the
-/// tokens begin a module.
+/// Tokens spell one module at most. There is as much fuel for reading as there are tokens. If a token is told
+/// as unexpected, or the text's end, the tokens before it begin a module, limits passed over, and with it
+/// they begin none. If they do so, it is told, or before it the fault of a limit. No other faults are told,
+/// and that of a limit stands at a token up to which, it included, the tokens begin a module.
 pub fn reading_keeps_the_grammar<L: Language>()
     ensures found { (n : ℕ) (tokens : List Lexeme) (end : ℕ) (m : L.Module) →
         parsed L.made n tokens end ≡ Ok m → IsText L.made tokens m }
@@ -38,7 +38,7 @@ pub fn reading_keeps_the_grammar<L: Language>()
         ((at : ℕ) × (fault ≡ Expected at)) ⊎ IsBeyond L.made tokens fault }
 {}
 
-/// What tokens spell that have the bytes of their kinds keeps the limits of a module.
+/// What tokens spell that have the bytes of their kinds keeps the limits of modules.
 pub fn what_is_spelled_keeps_the_limits()
     ensures { (tokens : List Lexeme) (m : ModuleFields) →
         All IsLexeme tokens → IsText plain_trees tokens m → IsModule m }

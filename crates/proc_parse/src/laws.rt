@@ -11,8 +11,10 @@ ghost use Rattle.proc_parse.specs.Texts as texts;
 use proc_grammar::laws::what_is_spelled_keeps_the_limits;
 use proc_grammar::{Language, Plain};
 
-/// What a text spells in a language is what is read of it, and so it spells one module at most; and what is
-/// read of it it spells. It is spelled by tokens that have the bytes of their kinds.
+/// In any language of the grammar a text under 2^64 bytes is read as a module exactly if it spells it, and
+/// spells one at most.
+///
+/// It is spelled by tokens that have the bytes of their kinds.
 pub fn spelled_texts_are_read<L: Language>()
     ensures one { (text : List ℕ) (m m' : L.Module) →
         texts.Spells L.made text m → texts.Spells L.made text m' → m ≡ m' }
@@ -27,8 +29,9 @@ pub fn spelled_texts_are_read<L: Language>()
     text_scan::laws::reading_keeps_the_grammar();
 }
 
-/// A text spells one module at most, which is what is read of it, and what it spells keeps the limits of a
-/// module.
+/// A plain source spells at most one module, the one read of it, within the limits.
+///
+/// To be read it has fewer than 2^64 bytes.
 pub fn texts_spell_modules()
     ensures one { (text : List ℕ) (m m' : ModuleFields) → Spells text m → Spells text m' → m ≡ m' }
     ensures within_limits { (text : List ℕ) (m : ModuleFields) → Spells text m → IsModule m }

@@ -7,14 +7,16 @@ ghost use Rattle.proc_program.specs.Calls.{part_calls};
 ghost use Rattle.proc_program.specs.Limits.{IsPart};
 ghost use Rattle.proc_program.specs.Lower.{part_of};
 
-/// The program of a module keeps the limits of programs: its rows, own procedures and imports are there,
-/// and its places and handles are within the bounds that all frames and words have.
+/// The program of a module within the limits keeps those of programs.
+///
+/// Its rows, own procedures and imports are there, and its places and handles are within the bounds that all
+/// frames and words have.
 #[tactic(auto, using(crate::proofs::Kept::part_fits))]
 pub fn programs_keep_limits()
     ensures { (m : ModuleFields) → IsModule m → IsPart (part_of m) }
 {}
 
-/// A program has as many calls as its module.
+/// The program of a module has as many calls as the module.
 #[tactic(auto, using(crate::proofs::Counted::calls_kept))]
 pub fn calls_are_kept()
     ensures { (m : ModuleFields) → part_calls (part_of m) ≡ module_calls m }

@@ -6,22 +6,26 @@ ghost use Rattle.proc_semantics.specs.Whole.{IsRecursive};
 ghost use Rattle.proc_semantics.specs.Fuel.{FuelLaws};
 ghost use Rattle.proc_semantics.specs.Leaves.{MeaningsLeaveIntegers};
 
-/// No more ticks are told than there is fuel, and as many where it ran out. With more fuel the same is
-/// told, or the fuel had run out after some of the same events; so a feed has one end, if it has any. That
-/// is told under each fuel that is at least its ticks, and each smaller one runs out.
+/// With more fuel a meaning goes on only if it had run out, so a feed has one end at most.
+///
+/// No more ticks are told than there is fuel, and as many if it ran out. The end of a feed is told under each
+/// fuel of at least its ticks, and each smaller one runs out.
 #[tactic(auto, using(crate::proofs::Fuelled::fuel_laws))]
 pub fn fuel_laws()
     ensures { FuelLaws }
 {}
 
-/// There is a meaning without levels that obeys the recursion, and the meaning begins with it: so no bound
-/// that stands in a definition is one of the meaning's.
+/// A meaning without bounds obeys the recursion, and the meaning begins with it.
+///
+/// So no bound that stands in a definition is one of the meaning's.
 #[tactic(auto, using(crate::proofs::Recursive::recursive))]
 pub fn recursion()
     ensures { (world : World) → IsRecursive world }
 {}
 
-/// What the refined meaning tells of a feed is what the meaning tells, once it is forgotten whence words are.
+/// The refined meaning tells what the meaning tells, if one forgets where words came from.
+///
+/// It tells the same events, end and ticks.
 #[tactic(auto, using(crate::proofs::Marked::mark_laws))]
 pub fn marks_are_beside()
     ensures { MarkLaws }
@@ -33,8 +37,9 @@ pub fn leaves_are_integers()
     ensures { MeaningsLeaveIntegers }
 {}
 
-/// The refined meaning tells more than the meaning: there are modules that tell the same events of a feed,
-/// and call by other words.
+/// There are modules that tell the same events of a feed and call with other words.
+///
+/// So the refined meaning tells more than the meaning.
 pub fn refined_meanings_tell_more()
     ensures { ToldApart }
 {}

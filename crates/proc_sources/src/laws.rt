@@ -14,8 +14,7 @@ ghost use Rattle.token_names.specs.TokenFaults.{IsTokenResolved};
 ghost use Rattle.token_check.specs.Typing.{IsTyped};
 ghost use Rattle.proc_sources.specs.Sources.{token_module_in, module_in, sourced};
 
-/// The module of a source keeps the limits of modules, and its names are resolved. The component that a
-/// source has is the compiled module.
+/// A source's module keeps the limits and has resolved names; compiled, it is the source's component.
 pub fn sources_are_modules()
     ensures limits { (d : Dialect) (text : List ℕ) (m : ModuleFields) → module_in d text ≡ Ok m → IsModule m }
     ensures resolved { (d : Dialect) (text : List ℕ) (m : ModuleFields)
@@ -28,8 +27,9 @@ pub fn sources_are_modules()
     token_names::laws::erased_modules_are_resolved();
 }
 
-/// The module of a source with tokens is what is left of one that keeps the limits, whose names are resolved
-/// and whose tokens have their typing.
+/// The module of a source with tokens is the erasure of a typed one.
+///
+/// That keeps the limits, and its names are resolved.
 pub fn tokens_are_erased()
     ensures { (text : List ℕ) (m : ModuleFields) → module_in Tokens text ≡ Ok m
         → (t : TokenModuleFields) × (token_module_in text ≡ Ok t) × IsTokenModule t × IsTokenResolved t

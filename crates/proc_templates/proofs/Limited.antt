@@ -26,7 +26,6 @@ use Rattle.proc_program.specs.declared.program.Program.{Program}
 use Rattle.proc_program.specs.declared.program.ProgramImport as program
 use Rattle.proc_program.specs.declared.program.Procedure.{Procedure}
 use Rattle.proc_language.specs.Limits as language
-
 use Rattle.proc_program.specs.StepView.{block_of}
 use Rattle.proc_language.specs.Words.{is_source_name}
 use Rattle.proc_program.specs.Limits as program_limits

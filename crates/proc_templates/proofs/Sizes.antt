@@ -23,7 +23,6 @@ use Rattle.proc_templates.specs.Templates.{pair_words, op_words, exp_words, args
 use Rattle.proc_templates.specs.Templates.{block_words, load_var, store_var, at_element, load_pair, op_code}
 use Rattle.proc_templates.specs.Templates.{arguments, load_args, zeros, code, args_code, step_code}
 use Rattle.proc_templates.specs.Templates.{block_code, if_code}
-
 use Rattle.proc_templates.specs.Free.{behind, after}
 
 pub record Long (xs : List Item) (n : ℕ) : Type 0 where

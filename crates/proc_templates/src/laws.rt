@@ -10,8 +10,9 @@ ghost use Rattle.proc_program.specs.Lower.{part_of};
 ghost use Rattle.proc_templates.specs.Compiled.{component_of};
 ghost use Rattle.proc_templates.specs.Kept.{FitsComponent, NamesDiffer, KeepsOwnRules};
 
-/// The component of a program whose words aren't too many keeps the rules K1 to K10. If there is a
-/// return seal for each call, it keeps C4 to C12, and, if no two procedures have one name, the limits of
+/// A program's component, if not too large, keeps K1 to K10 and, with a seal for each call, C4 to C12.
+///
+/// The seal is a return seal. If besides no two procedures have one name, the component keeps the limits of
 /// components.
 #[tactic(auto, using(crate::proofs::Readies::keeps_flow, crate::proofs::Readies::keeps_own, crate::proofs::Limited::limits_kept))]
 pub fn components_keep_rules()
@@ -22,13 +23,13 @@ pub fn components_keep_rules()
         → IsComponent (component_of m) }
 {}
 
-/// No two procedures of a module have one name, if none of its names stands twice.
+/// No two procedures of a resolved module have one name.
 #[tactic(auto, using(crate::proofs::Apart::names_differ))]
 pub fn names_differ()
     ensures { (m : ModuleFields) → name_faults m ≡ [] → NamesDiffer (part_of m).procs }
 {}
 
-/// A component has a site for each call of its program.
+/// The component of a program has a site for each of its calls.
 #[tactic(auto, using(crate::proofs::Counted::component_sites))]
 pub fn sites_are_counted()
     ensures { (m : Program) → length (component_of m).sites ≡ part_calls m }

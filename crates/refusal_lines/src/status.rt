@@ -24,7 +24,8 @@ pub enum Status {
     TooLong,
     /// An assembler text spells no component.
     AsmRefused,
-    /// A source is refused: for its text, for a name, or for the size of what it is compiled to.
+    /// A source is refused: for its text, for a name, for its tokens, or for the size of what it is compiled
+    /// to.
     SourceRefused,
     /// The bytes of a file are no component, no image, no feed, or no script.
     FileRefused,

@@ -3,8 +3,9 @@ ghost use Rattle.run_items.specs.Items.{TextsTellItems, TracesTellItems};
 
 use trace_tool::laws::{lines_fit, start_lines_agree};
 
-/// The text of a run from a linked start is a feed without a fault, whose items are those of the run's
-/// lines; and so is the text of a trace. Where stacks begin may be any address.
+/// The text of a run or trace from a linked start is a feed with its lines' items.
+///
+/// Where stacks begin may be any address.
 pub fn texts_tell_items()
     ensures runs { TextsTellItems }
     ensures traces { TracesTellItems }

@@ -3,8 +3,10 @@ ghost use Rattle.std.specs.Prelude.{◌≡◌, ◌+◌, ◌<◌, ◌≤◌, ℕ,
 ghost use Rattle.cap_words.specs.Stretch.{Stretch};
 ghost use Rattle.seal_space.specs.Seals.{next_of, after_draws};
 
-/// A lot gives its first seal, the one after it, and so on: after n draws that number more, as many
-/// as it counts, and then none. So no two draws from a lot give one seal.
+/// A lot gives its seals in ascending order, each once, and then none.
+///
+/// They are its first seal and those after it, as many as it counts. So no two draws from a lot give one
+/// seal.
 pub fn draws_ascend()
     ensures gives { (lot : Stretch) (n : ℕ) →
         n < lot.count → next_of (after_draws n lot) ≡ Some (lot.base + n) }

@@ -21,15 +21,15 @@ use trace_tool::laws::{
     cuts_are_greatest, lines_are_a_feed, pairs_are_the_overlays, steps_tell_so, the_headline,
 };
 
-/// A run of linked sources is what the sources mean, whatever untrusted parts are linked beside them.
+/// A run of linked sources does what they mean, with what code outside causes as input: a robust trace
+/// property.
 ///
-/// Let the trusted parts of a link be the components of some modules, in their order. Then at each
-/// matched point of the overlay's run from its start: where code that isn't trusted runs, the meaning of
-/// the modules waits, and has told the run's outgoing events; where trusted code is about to halt or to
-/// fail, the meaning ends so, with those events; where it goes on, the meaning's events begin with those;
-/// and the meaning spends a tick at least for each 200 instructions of the steps that began in trusted
-/// code. Each procedure that left gave an integer. The meaning is that of the items that came in so far,
-/// with the whole stack of the link.
+/// Let the trusted parts of a link be the components of some modules, in their order. Then at each matched
+/// point of the overlay's run from its start: if code that isn't trusted runs, the meaning of the modules
+/// waits, and has told the run's outgoing events; if trusted code is about to halt or to fail, the meaning
+/// ends so, with those events; if it goes on, the meaning's events begin with those; and the meaning spends a
+/// tick at least for each 200 instructions of the steps that began in trusted code. Each procedure that left
+/// gave an integer. The meaning is that of the items that came in so far, with the whole stack of the link.
 pub fn sources_mean()
     ensures { (modules : List ModuleFields) (parts : List PartSeen) (size : ℕ) (s : StartSeen)
         → IsStartOf parts size s → AreSources modules parts
@@ -39,8 +39,9 @@ pub fn sources_mean()
     pairs_are_the_overlays();
 }
 
-/// What the lines of a run tell of what goes out and of what comes in is what the overlay's steps show up to
-/// the cut point, and the cut point has the weight of those that began in trusted code.
+/// What a run's lines tell of its crossings is what the overlay's steps show up to the cut point.
+///
+/// The trusted weight of the cut point is that of the steps that began in trusted code.
 pub fn cuts_show()
     ensures { CutsShow }
 {
@@ -50,15 +51,14 @@ pub fn cuts_show()
     cuts_are_greatest();
 }
 
-/// The plain run of linked sources is what the sources mean, whatever untrusted parts are linked beside
-/// them.
+/// After any number of instructions the plain run of linked sources has done what they mean, by its lines.
 ///
-/// Let the plain run have made so many instructions, and take the events and items that its lines tell.
-/// At the cut point, the greatest matched point up to there: where code that isn't trusted runs, the meaning
-/// of these items waits, with these events; where trusted code runs, its events begin with these; and where
-/// the run has halted or failed from there, the meaning ends so, with these events and with the value of the
-/// run's a0. Each procedure that left gave an integer. The meaning spends a tick at least for each 200
-/// instructions of the steps that began in trusted code.
+/// Let the plain run have made so many instructions, and take the events and items that its lines tell. At
+/// the cut point, the greatest matched point up to there: if code that isn't trusted runs, the meaning of
+/// these items waits, with these events; if trusted code runs, its events begin with these; and if the run
+/// has halted or failed from there, the meaning ends so, with these events and with the value of the run's
+/// a0. Each procedure that left gave an integer. The meaning spends a tick at least for each 200 instructions
+/// of the steps that began in trusted code.
 pub fn runs_mean()
     ensures { RunsMean }
 {
@@ -68,7 +68,8 @@ pub fn runs_mean()
     cuts_show();
 }
 
-/// Code outside learns nothing from linked sources but what their refined meanings tell.
+/// When linked sources let go, the crossing tells all registers; cells in reach are as code outside left
+/// them, or 0 on the stack.
 ///
 /// Let the trusted parts of a link be the components of some modules, in their order. At each point of the
 /// overlay's run at which a step that began in trusted code arrives outside it, that step writes a `call out`
@@ -99,7 +100,7 @@ pub fn sources_tell_words()
     pairs_are_the_overlays();
 }
 
-/// The pairs by which linked sources call, and which they hand over, are those that they name.
+/// An import's pair is that of the export that it names, and an own procedure's that of its export.
 ///
 /// Let the trusted parts of a link be the components of some modules, in their order. Then the pair of an
 /// import of a module, which is the one that stands in its part's data at the start, is that of the export of
@@ -111,14 +112,14 @@ pub fn slots_are_named()
     starts_begin();
 }
 
-/// The cells that linked sources have wiped where they let go of control are those that their refined meaning
-/// tells of.
+/// When linked sources let go, the cells of stk from the one that their refined meaning tells on hold 0;
+/// others in reach are unchanged.
 ///
 /// Let the trusted parts of a link be the components of some modules, in their order, and let a run of the
 /// overlay from its start have shown so much and got so much up to a point at which the next step, from
 /// trusted code, arrives outside it. Under every large enough fuel the refined meaning of the items that came
-/// in has an event of the next number, and it tells of the lowest wiped cell. Behind the step stk is the
-/// stack up to an end, its cells from the lowest wiped one to that end hold 0, and each other cell that is no
+/// in has an event of the next number, and it tells of the lowest wiped cell. After the step stk is the stack
+/// up to an end, its cells from the lowest wiped one to that end hold 0, and each other cell that is no
 /// trusted part's own is as it was when code outside ran last, or at the start if it hasn't run.
 pub fn wiped_cells_are_told()
     ensures { WipedCellsAreTold }
@@ -127,11 +128,14 @@ pub fn wiped_cells_are_told()
     pairs_are_the_overlays();
 }
 
-/// The same of the plain machine: after so many instructions code outside ran last, or the run began in
-/// trusted code, and after so many it has let go of control. Then the registers are those that
-/// `sources_leave_nothing` tells, and each word in reach, which is that of a cell that is no trusted part's
-/// own and in no frame of an open call, was in reach after the first ones, in that cell, or is 0 in a cell of
-/// the stack. So no word of a frame whose call was closed since stays in reach.
+/// On the plain machine each word in reach when sources let go was in reach when code outside last ran, or is
+/// 0 on the stack.
+///
+/// After so many instructions code outside ran last, or the run began in trusted code, and after so many it
+/// has let go of control. Then the registers are those that `sources_leave_nothing` tells, and each word in
+/// reach, which is that of a cell that is no trusted part's own and in no frame of an open call, was in reach
+/// after the first ones, in that cell, or is 0 in a cell of the stack. So no word of a frame whose call was
+/// closed since stays in reach.
 pub fn plain_runs_leave_nothing()
     ensures { PlainRunsLeaveNothing }
 {
@@ -141,10 +145,12 @@ pub fn plain_runs_leave_nothing()
     sources_leave_nothing();
 }
 
-/// The same of the plain machine: after so many instructions code outside ran last, or the run began in
-/// trusted code, and after so many it has let go of control. Then stk is the stack up to an end, its cells
-/// from the lowest wiped one, of which the refined meaning tells, to that end hold 0, and each word in reach
-/// in another cell was in reach there after the first ones.
+/// On the plain machine the cells wiped when sources let go are those that their refined meaning tells.
+///
+/// After so many instructions code outside ran last, or the run began in trusted code, and after so many it
+/// has let go of control. Then stk is the stack up to an end, its cells from the lowest wiped one, of which
+/// the refined meaning tells, to that end hold 0, and each word in reach in another cell was in reach there
+/// after the first ones.
 pub fn plain_runs_wipe()
     ensures { PlainRunsWipe }
 {
@@ -154,10 +160,12 @@ pub fn plain_runs_wipe()
     wiped_cells_are_told();
 }
 
-/// The same of the plain machine: let a step of the overlay be a call out, before which so much had left and
-/// come. Then after so many instructions the plain machine's registers are the overlay's words, flattened;
-/// and under every large enough fuel the refined meaning's event of that number is this call: it tells the
-/// base of its frame, whence the pair is that stands in c1 and c2, and what stands in the argument registers.
+/// On the plain machine each call out of sources has the words that their refined meaning tells.
+///
+/// Let a step of the overlay be a call out, before which so much had left and come. Then after so many
+/// instructions the plain machine's registers are the overlay's words, flattened; and under every large
+/// enough fuel the refined meaning's event of that number is this call: it tells the base of its frame, where
+/// the pair came from that stands in c1 and c2, and what stands in the argument registers.
 pub fn plain_runs_tell_words()
     ensures { PlainRunsTellWords }
 {
@@ -165,7 +173,10 @@ pub fn plain_runs_tell_words()
     sources_tell_words();
 }
 
-/// All this in one: what code outside is shown of linked sources, wherever their code lets go of control.
+/// Code outside is shown nothing of linked sources but what their refined meaning tells.
+///
+/// All of this in one, wherever their code lets go of control: `sources_leave_nothing`, `sources_tell_words`,
+/// `slots_are_named` and the laws on plain runs.
 pub fn sources_show_nothing_else()
     ensures { SourcesShowNothingElse }
 {
@@ -177,7 +188,7 @@ pub fn sources_show_nothing_else()
     plain_runs_tell_words();
 }
 
-/// The stacks of linked sources begin where the sources say.
+/// The stack of linked sources begins where the first of them says.
 pub fn stacks_begin()
     ensures { StacksBegin }
 {

@@ -2,8 +2,8 @@
 //! their contracts are the laws.
 ghost use Rattle.template_runs.specs.Sharing.{SharedAloneIsEntered};
 
-/// Code outside enters a trusted part only where the part shares a procedure, or by a return to the newest
-/// open call.
+/// Code outside that was shown no private code enters trusted parts only by shared procedures or the newest
+/// call's return.
 ///
 /// Let parts be linked, let untrusted code run with registers that hold words that it may be shown, and let
 /// what is private be kept: in memory that it may read, and in the frames of open calls, there is no code

@@ -6,8 +6,9 @@ ghost use Rattle.text_scan.specs.declared.fault.ScanFault.{ScanFault};
 ghost use Rattle.text_scan.specs.Tokens.{scanned};
 ghost use Rattle.text_scan.specs.Grammar.{HasTokens, HasFault, Placed, IsSpelled};
 
-/// A text is read as the tokens that it has by the grammar, or else as the fault that it has. So each
-/// text has one list of tokens or one fault, and no text has both.
+/// By the grammar a text has just the tokens, or else the fault, that reading it gives.
+///
+/// It has one list of tokens or one fault, and not both.
 pub fn reading_keeps_the_grammar()
     ensures tokens { (text : List ℕ) (tokens : List Token) →
         HasTokens text tokens ↔ (scanned text ≡ Ok tokens) }
@@ -15,7 +16,7 @@ pub fn reading_keeps_the_grammar()
         HasFault text fault ↔ (scanned text ≡ Err fault) }
 {}
 
-/// The tokens that a text has stand one behind another in it, and have the bytes of their kinds.
+/// Tokens stand in their text one after another, with the bytes of their kinds.
 pub fn tokens_are_pieces()
     ensures placed { (text : List ℕ) (tokens : List Token) →
         HasTokens text tokens → Placed 0 (length text) tokens }

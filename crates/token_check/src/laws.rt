@@ -4,7 +4,7 @@ ghost use Rattle.token_language.specs.declared.module.TokenModuleFields.{TokenMo
 ghost use Rattle.token_check.specs.Walk.{module_walk};
 ghost use Rattle.token_check.specs.Typing.{IsTyped};
 
-/// The walk goes through a module exactly where the module is typed.
+/// The walk goes through a module exactly if the module is typed.
 #[tactic(auto, using(crate::proofs::TypingLemmas::walks))]
 pub fn walks_are_typed()
     ensures { (m : TokenModuleFields) → ((module_walk m ≡ Ok tt) ↔ IsTyped m) }

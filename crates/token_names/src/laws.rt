@@ -5,7 +5,7 @@ ghost use Rattle.token_language.specs.declared.module.TokenModuleFields.{TokenMo
 ghost use Rattle.token_language.specs.Erased.{erased};
 ghost use Rattle.token_names.specs.TokenFaults.{IsTokenResolved};
 
-/// Without its tokens a resolved module is resolved.
+/// If a module with tokens is resolved, so is its erasure.
 #[tactic(auto, using(crate::proofs::ErasedLemmas::erased_resolved))]
 pub fn erased_modules_are_resolved()
     ensures { (m : TokenModuleFields) → IsTokenResolved m → name_faults (erased m) ≡ [] }

@@ -12,14 +12,15 @@ ghost use Rattle.token_parse.specs.Text.{parsed_text, Spells};
 use crate::language::Tokens;
 use proc_parse::laws::spelled_texts_are_read;
 
-/// What tokens spell that have the bytes of their kinds keeps the limits of a module with tokens.
+/// What tokens spell that have the bytes of their kinds keeps the limits of modules with tokens.
 pub fn what_is_spelled_keeps_the_limits()
     ensures { (tokens : List Lexeme) (m : TokenModuleFields) →
         All IsLexeme tokens → IsText token_trees tokens m → IsTokenModule m }
 {}
 
-/// A text spells one module with tokens at most, which is what is read of it, and what it spells keeps the
-/// limits of a module with tokens.
+/// A source with tokens spells at most one module, the one read of it, within the limits.
+///
+/// To be read it has fewer than 2^64 bytes.
 pub fn texts_spell_modules()
     ensures one { (text : List ℕ) (m m' : TokenModuleFields) → Spells text m → Spells text m' → m ≡ m' }
     ensures within_limits { (text : List ℕ) (m : TokenModuleFields) → Spells text m → IsTokenModule m }

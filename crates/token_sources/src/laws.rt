@@ -5,14 +5,14 @@ ghost use Rattle.proc_language.specs.declared.dialect.Dialect.{Dialect};
 ghost use Rattle.proc_sources.specs.Sources.{module_in};
 ghost use Rattle.token_sources.specs.Law.{Source, IsLeft, module_of, AreLeft, MeanTheSame};
 
-/// Where a text in one of the two languages has a module, the text spells a module with tokens, whose names
-/// are resolved, and whose tokens have their typing where it has any; and the module of the source is what
-/// is left of it.
+/// A source spells an accepted module, whose erasure is its module, so the law of tokens holds of what it
+/// means.
 ///
-/// So, whatever sources are given to the program, what their modules mean with any stack, feed and fuel is
-/// what the spelled modules with tokens mean. These are never stuck, and no right of theirs is spent twice.
-/// Each right that a procedure got, which ended by `return` or behind its last statement, it spent once or
-/// handed on once, and it is spent: once, by this procedure or another that ended.
+/// The source may be in either language. So, whatever sources are given to the program, what their modules
+/// mean with any stack, feed and fuel is what the spelled modules with tokens mean. These are never stuck,
+/// and no right of theirs is spent twice. Each right that a procedure got, which ended by `return` or after
+/// its last statement, it spent once or handed on once, and it is spent: once, by this procedure or another
+/// that ended.
 pub fn sources_spend_their_tokens()
     ensures accepted { (d : Dialect) (text : List ℕ) (m : ModuleFields) → module_in d text ≡ Ok m
         → IsLeft d text m }

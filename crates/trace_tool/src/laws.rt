@@ -25,24 +25,24 @@ use overlay_machine::laws::{
     a_halt_weighs_one, a_start_has_one_overlay, linked_starts_agree, starts_begin,
 };
 
-/// The lines that a trace writes are those of the overlay's steps up to the greatest matched point that is
-/// at most its limit.
+/// A trace's lines are those of the overlay's steps up to the greatest matched point within its limit.
 pub fn traces_tell_steps()
     ensures { (o : OverlaySeen) → TracesSteps o }
 {}
 
-/// The matched point at which the steps of the overlay stop, where no more instructions are wanted, is the cut
-/// point: the greatest matched point that is at most so many instructions.
+/// The cut point of n instructions is the greatest matched point that is at most n.
+///
+/// It is where the overlay's steps stop, if no more instructions are wanted.
 pub fn cuts_are_greatest()
     ensures steps { CutsAreGreatest }
     ensures matched { StopsAreCuts }
 {}
 
-/// Call and ret lines are bracketed, where the invariant of linked parts holds.
+/// If the overlay's invariant holds, each ret line closes the newest open call line, and matches it.
 ///
-/// A call line is open until a ret line closes it, and each ret line closes the newest that is open,
-/// with its part, site, base, last and words. The lines of a run of the overlay so lead from the
-/// frames that are open at first to those that are open then, and so do those that a trace writes.
+/// It has its part, site, base, last and words. A call line is open until a ret line closes it. The lines of
+/// a run of the overlay so lead from the frames that are open at first to those that are open then, and so do
+/// those that a trace writes.
 pub fn lines_are_bracketed()
     ensures steps { (g : Link) (o : OState) (t : State Word) → Linked g → Invariant g o t
         → LinesAreBracketed g.layout o }
@@ -50,26 +50,25 @@ pub fn lines_are_bracketed()
         → HoldsFor parts size o t → TraceIsBracketed o }
 {}
 
-/// The range of a call line is private until a ret line closes it, where the invariant of linked parts
-/// holds.
+/// If the overlay's invariant holds, no plain instruction touches an open call line's range, nor does the
+/// `xjmp` back, up to each matched point.
 ///
-/// From the plain state behind the call's `xjmp` on, up to each matched point at which no ret line has
-/// closed the call line, no plain instruction touches an address of the range, and neither does the
-/// `xjmp` of the return that brings that ret line.
+/// From the plain state after the call's `xjmp` on, that is so up to each matched point at which no ret line
+/// has closed the call line.
 pub fn call_lines_are_private()
     ensures { (g : Link) (o : OState) (t : State Word) → Linked g → Invariant g o t
         → CallsArePrivate g.layout o t }
 {}
 
-/// The headline.
+/// From every linked start, at each matched point the plain machine halts, fails or goes on as the overlay
+/// does, with the same lines, brackets and private frames: simulation.
 ///
-/// For all trusted parts that keep the rules and every untrusted part that links with them: at each
-/// matched point the plain machine halts, fails or goes on as the overlay does; each return closes the
-/// newest open call; and up to each matched point before that, and at the `xjmp` of the return, no
-/// instruction touches that call's private frame.
+/// For all trusted parts that keep the rules and every untrusted part that links with them: each return to
+/// trusted code closes the newest open call; and up to each matched point before that, and at the `xjmp` of
+/// the return, no instruction touches that call's private frame.
 ///
-/// There are such parts: it holds of some, one of them trusted with a site and an entry and one not,
-/// whose run calls code that isn't trusted and comes back, with the lines of both.
+/// There are such parts: it holds of some, one of them trusted with a site and an entry and one not, whose
+/// run calls code that isn't trusted and comes back, with the lines of both.
 pub fn the_headline()
     ensures holds { HeadlineHolds }
     ensures of_some { (made : CallThere) × Headline made.there.start }
@@ -84,13 +83,13 @@ pub fn the_headline()
     call_lines_are_private();
 }
 
-/// What is told of the plain machine alone, of every linked start.
+/// From every linked start, each ret line closes the newest open call, and until then no instruction touches
+/// its range but two of its own return: well-bracketed calls.
 ///
-/// Each `ret` line closes the newest `call` line that is open, and has its part, site, base, last and
-/// words. While a `call` line is open, no instruction touches an address of its range, whether it is
-/// inside a sequence, fails, or is the last before the run was cut off; but for two that touch the
-/// first address alone: those of the return of the call's own site that load the call's first word and
-/// wipe it, behind an `xjmp` that opened the pair that the call sealed.
+/// The ret line has the call's part, site, base, last and words. While a call is open, no instruction touches
+/// an address of its range, whether it is inside a sequence, fails, or is the last before the run was cut
+/// off; but for two that touch the first address alone: those of the return of the call's own site that load
+/// the call's first word and wipe it, after an `xjmp` that opened the pair that the call sealed.
 ///
 /// There is such a use: in the run of the parts of the headline, which calls and comes back.
 pub fn open_calls_are_kept()
@@ -107,14 +106,15 @@ pub fn open_calls_are_kept()
     the_headline();
 }
 
-/// The words of open calls' frames are secret, and stay.
+/// From every linked start, while calls stay open and their own returns don't use their ranges, the machine
+/// runs the same whatever these hold: noninterference.
 ///
-/// Let some calls be open behind some instructions of a run from a linked start, and let their ranges
-/// hold any other words, or none. Then the plain machine goes on just the same: it ends alike, makes
-/// as many instructions, has the same words in all registers and all other cells, and writes the same
-/// lines; and the words of the ranges stay as they were, in the one run and in the other. So it is for
-/// any number of instructions, as long as these calls stay open and none of the instructions is one of
-/// the two of the own return of one of them that read its frame's first word and wipe it.
+/// Let some calls be open after some instructions of a run, and let their ranges hold any other words, or
+/// none. Then the plain machine goes on just the same: it ends alike, makes as many instructions, has the
+/// same words in all registers and all other cells, and writes the same lines; and the words of the ranges
+/// stay as they were, in the one run and in the other. So it is for any number of instructions, as long as
+/// these calls stay open and none of the instructions is one of the two of the own return of one of them that
+/// read its frame's first word and wipe it.
 pub fn frames_are_secret()
     ensures secret { OpenFramesAreSecret }
     ensures of_some { SecretThere }
@@ -128,19 +128,19 @@ pub fn frames_are_secret()
     open_calls_are_kept();
 }
 
-/// The plain run writes the lines of the overlay's steps, where the invariant of linked parts holds.
+/// If the overlay's invariant holds, the plain run writes the lines of the overlay's steps.
 ///
-/// At a matched point the plain run has written the lines of the steps up to there. Behind it, fewer
-/// instructions than the next step weighs write none; and where that step ends the overlay, there are
-/// no more lines at all.
+/// At a matched point the plain run has written the lines of the steps up to there. After it, fewer
+/// instructions than the next step weighs write none; and if that step ends the overlay, there are no more
+/// lines at all.
 pub fn linked_lines_agree()
     ensures { LinkedLinesAgree }
 {}
 
-/// Equal lines.
+/// From every linked start the plain run writes the overlay's lines, and a trace those of as many
+/// instructions.
 ///
-/// The plain run from a linked start writes the lines of the steps of its overlay; and a trace up to a
-/// limit writes the same event lines as a run of so many instructions.
+/// The overlay's lines are those of its steps; a trace has the event lines alone.
 pub fn start_lines_agree()
     ensures agree { StartLinesAgree }
     ensures traces { TracesAlike }
@@ -150,9 +150,10 @@ pub fn start_lines_agree()
     linked_lines_agree();
 }
 
-/// The words that a run from a linked start comes to are words of a machine: integers and addresses of
-/// 64 bits, ranges in order, and seals that there are. So are the words of its lines, whose names are
-/// names and whose numbers have 32 bits.
+/// All words of a run from a linked start, and of its lines, have spellings.
+///
+/// They are words of a machine: integers and addresses of 64 bits, ranges in order, and seals that there are.
+/// Names in lines are names, and numbers have 32 bits.
 pub fn lines_fit()
     ensures runs { RunsFit }
     ensures lines { StartLinesFit }
@@ -160,29 +161,28 @@ pub fn lines_fit()
 
 /// What a `pass` line tells of plain words is what the overlay's own words say.
 ///
-/// There a RetCode counts as a sealed word that isn't linear, with which no `xjmp` of another such word
-/// goes, and a RetData as a linear one. So it is of any two words that untrusted code may hold, and of
-/// the argument registers at each `enter` line, where the invariant of linked parts holds.
+/// That is so of any two words that untrusted code may hold. There a RetCode counts as a sealed word that
+/// isn't linear, with which no `xjmp` of another such word goes, and a RetData as a linear one. So it is of
+/// the argument registers at each `enter` line, if the invariant of linked parts holds.
 pub fn pairs_are_the_overlays()
     ensures words { PairsAreOwn }
     ensures entries { PassesAreOwn }
 {}
 
-/// A step has no line, one line that is no `pass` line, or an `enter` line with a `pass` line right
-/// behind it. The lines of a plain run are those of steps, one behind the other, and so are those of a
-/// run of the overlay.
+/// A step has no line, one, or an `enter` line with its `pass` line; a run's lines are those of its steps.
+///
+/// The one isn't a `pass` line. So it is of the plain run and of the overlay's.
 pub fn steps_tell_so()
     ensures step { StepsTellSo }
     ensures runs { RunsAreOfSteps }
     ensures told { ToldAreOfSteps }
 {}
 
-/// What goes out of trusted code and what comes in is told step by step.
+/// What goes out and what comes in is told step by step, entries with the state's pairs.
 ///
-/// What goes out by some lines and then others is what goes out by the first and then by the others.
-/// So it is of what comes in, where the others are lines of steps: no `enter` line is parted from its
-/// `pass` line. An entry comes in with the pairs of the state after its `xjmp`, whether a `pass` line
-/// tells them or not.
+/// What goes out by some lines and then others is what goes out by the first and then by the others. So it is
+/// of what comes in, if the others are lines of steps: no `enter` line is parted from its `pass` line. An
+/// entry comes in with the pairs of the state after its `xjmp`, whether a `pass` line tells them or not.
 pub fn lines_are_a_feed()
     ensures outs { OutsJoin }
     ensures items { ItemsJoin }

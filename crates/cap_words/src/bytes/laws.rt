@@ -3,8 +3,9 @@ ghost use Rattle.std.specs.Prelude.{◌≡◌, ◌++◌, List, ℕ};
 ghost use Rattle.cap_words.specs.declared.Word.{Word};
 ghost use Rattle.cap_words.specs.WordBytes.{SpellsWord};
 
-/// A word has one spelling, a spelling is of one word, and no spelling begins another, so that
-/// words can stand one after another with nothing between.
+/// Each word has one spelling, of no other word, and none begins another.
+///
+/// So words can stand one after another with nothing between.
 pub fn one_spelling()
     ensures { (v w : Word) (a b x y : List ℕ) →
         SpellsWord a v → SpellsWord b w → a ++ x ≡ b ++ y → (v ≡ w) × (a ≡ b) × (x ≡ y) }
