@@ -3,7 +3,7 @@ use Rattle.std.proofs.Common.{◌≡◌, refl, ◌∙◌, ap, sym, ℕ, ◌+◌,
 use Rattle.std.proofs.Common.{List, [], ◌∷◌, map, take, Option, Some, None, codes}
 use Rattle.std.specs.Prelude.{slice_get, option_map, is_none, nat_le}
 use Rattle.cap_words.specs.declared.TheConstants.{LAST_PLACE}
-use Rattle.component_linker.specs.Regions.{is_stack_size}
+use Rattle.linked_starts.specs.Regions.{is_stack_size}
 use Rattle.std.specs.List.{list_any, take-map}
 use Rattle.std.specs.Str.{bytes_eq}
 use Rattle.std.proofs.lemmas.List.{length-map}
@@ -11,8 +11,8 @@ use Rattle.std.proofs.lemmas.Option.{slice_get-map}
 use Rattle.component_check.specs.Places.{Test, plainly}
 use Rattle.component_check.specs.Verdict.{check_from}
 use Rattle.component_file.specs.Limits.{name_lt}
-use Rattle.component_linker.specs.Pairs.{by_part, never, once, passes, at_each, within_or, each_part}
-use Rattle.component_linker.specs.Pairs.{each_part_then}
+use Rattle.linked_starts.specs.Pairs.{by_part, never, once, passes, at_each, within_or, each_part}
+use Rattle.linked_starts.specs.Pairs.{each_part_then}
 use Rattle.proc_language.specs.declared.module.Proc.{Proc}
 use Rattle.proc_language.specs.declared.module.ModuleFields.{ModuleFields}
 use Rattle.proc_language.specs.Unplaced.{unplaced_import, unplaced_proc, unplaced}

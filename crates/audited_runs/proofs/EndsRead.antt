@@ -16,7 +16,7 @@ use Rattle.lcm_machine.specs.Places.{reg}
 use Rattle.lcm_machine.specs.Fitting.{MapsFit}
 use Rattle.lcm_machine.specs.Run.{Run, plain}
 use Rattle.lcm_machine.proofs.Offers.{plain_count}
-use Rattle.trace_tool.specs.EndLines.{cause_text, pc_text}
+use Rattle.run_lines.specs.EndLines.{cause_text, pc_text}
 use Rattle.line_fields.specs.Cuts.{behind}
 use Rattle.line_fields.specs.Numbers.{number_in}
 use Rattle.line_fields.specs.Words.{HasText}

@@ -17,8 +17,8 @@ use Rattle.lcm_isa.specs.declared.Reg.TheVariants.{Pc, A0}
 use Rattle.lcm_machine.specs.declared.FailCause.{FailCause}
 use Rattle.lcm_machine.specs.declared.FailCause.TheVariants.{F1, F2, F3, F4, F5, F6, F7, F8, F9, F10}
 use Rattle.lcm_machine.specs.declared.FailCause.TheVariants.{F11, F12, F13, F14}
-use Rattle.trace_tool.specs.Views.{View}
-use Rattle.trace_tool.specs.EndLines.{cause_text, pc_text}
+use Rattle.run_lines.specs.Views.{View}
+use Rattle.run_lines.specs.EndLines.{cause_text, pc_text}
 use Rattle.line_fields.specs.Cuts.{behind}
 use Rattle.line_fields.specs.Numbers.{number_in, integer_in}
 use Rattle.line_fields.specs.Words.{HasText, is_word}

@@ -14,16 +14,16 @@ use Rattle.overlay_machine.specs.Flat.{flat}
 use Rattle.overlay_machine.specs.Invariant.{FrameLies, LiesBelow, FramesLie}
 use Rattle.overlay_machine.specs.Runs.{Reached, goes_on}
 use Rattle.overlay_machine.specs.Brackets.{frame_told, Brackets, at_end, one_opens, one_closes}
-use Rattle.trace_tool.specs.Views.{flat_view}
+use Rattle.run_lines.specs.Views.{flat_view}
 use Rattle.source_events.specs.declared.FeedPair.{FeedPair}
-use Rattle.trace_tool.specs.Lines.{Line, call, ret, enter, pass, leave, feed_pair, pass_lines}
-use Rattle.trace_tool.specs.Lines.{line_of, lines_for}
-use Rattle.trace_tool.specs.Pairs.{pairs_of, none_paired}
+use Rattle.run_lines.specs.Lines.{Line, call, ret, enter, pass, leave, feed_pair, pass_lines}
+use Rattle.run_lines.specs.Lines.{line_of, lines_for}
+use Rattle.run_lines.specs.Pairs.{pairs_of, none_paired}
 use Rattle.trusted_border.specs.declared.events.Event.TheVariants.{Called, Returned, Entered, Left}
-use Rattle.trace_tool.specs.Told.{step_lines, Told, none_yet, and_then}
-use Rattle.trace_tool.specs.OpenCalls.{LineTold}
-use Rattle.trace_tool.specs.Brackets.{mark_of, marks_in, line_told, lines_told, LinesAreBracketed}
-use Rattle.trace_tool.proofs.Offers.{reached_by}
+use Rattle.run_lines.specs.Told.{step_lines, Told, none_yet, and_then}
+use Rattle.headline.specs.OpenCalls.{LineTold}
+use Rattle.headline.specs.Brackets.{mark_of, marks_in, line_told, lines_told, LinesAreBracketed}
+use Rattle.run_lines.proofs.Offers.{reached_by}
 use Rattle.run_audit.specs.declared.line.Line.TheVariants.{Call, Ret, Enter}
 use Rattle.run_audit.specs.Traces.{IsWide}
 use Rattle.run_audit.specs.Audit.{OpenSeen, below_newest, stepped, audit_on as goes_on_with, followed}

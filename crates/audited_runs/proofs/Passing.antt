@@ -1,9 +1,9 @@
 -- A text of lines that fit and spoil nothing, and of an end line, is a trace.
 use Rattle.std.proofs.Common.{◌≡◌, ℕ, ◌+◌, false, List, [], ◌∷◌, ◌++◌, Some, Ok, refl, ap, ◌∙◌, arith}
 use Rattle.std.specs.Prelude.{map}
-use Rattle.trace_tool.specs.Lines.{Line, call, ret, enter, pass, leave}
-use Rattle.trace_tool.specs.Texts.{lines_text}
-use Rattle.trace_tool.specs.Fits.{LinesFit}
+use Rattle.run_lines.specs.Lines.{Line, call, ret, enter, pass, leave}
+use Rattle.run_lines.specs.Texts.{lines_text}
+use Rattle.run_lines.specs.Fits.{LinesFit}
 use Rattle.line_fields.specs.Fields.{lines}
 use Rattle.run_items.proofs.Offers.{body, IsPassedOver, lines_are, end_line_is}
 use Rattle.run_audit.specs.declared.line.Line.TheVariants.{End}

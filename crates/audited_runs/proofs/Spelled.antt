@@ -9,9 +9,9 @@ use Rattle.cap_words.specs.Names.{is_name}
 use Rattle.source_events.specs.declared.FeedBack.{FeedBack}
 use Rattle.source_events.specs.declared.FeedPair.{FeedPair}
 use Rattle.source_events.specs.Forms.{IsName, back_text, pair_text, is_pair}
-use Rattle.trace_tool.specs.Lines.{Args, Line, call, ret, enter, pass, leave}
-use Rattle.trace_tool.specs.Texts.{direction, field, words_text, args_text, place_text}
-use Rattle.trace_tool.specs.Fits.{AllOf, ArgsOf, LineFits}
+use Rattle.run_lines.specs.Lines.{Args, Line, call, ret, enter, pass, leave}
+use Rattle.run_lines.specs.Texts.{direction, field, words_text, args_text, place_text}
+use Rattle.run_lines.specs.Fits.{AllOf, ArgsOf, LineFits}
 use Rattle.line_fields.specs.Words.{HasText, is_word}
 use Rattle.line_fields.specs.Fields.{meant, tested, whole}
 use Rattle.line_fields.proofs.Offers.{fits_has_text, text_is_back, text_is_handed, text_is_word}

@@ -4,10 +4,10 @@ use Rattle.std.specs.Prelude.{codes, decimal, map, ◌||◌}
 use Rattle.std.specs.Str.{bytes_eq}
 use Rattle.cap_words.specs.Names.{is_name}
 use Rattle.cap_words.specs.Text.{word_text_of}
-use Rattle.trace_tool.specs.Lines.{Line, call, ret, enter, pass, leave}
+use Rattle.run_lines.specs.Lines.{Line, call, ret, enter, pass, leave}
 use Rattle.source_events.specs.Forms.{pair_text, is_pair}
-use Rattle.trace_tool.specs.Fits.{PlaceFits, AllOf}
-use Rattle.trace_tool.specs.OpenCalls.{LineTold}
+use Rattle.run_lines.specs.Fits.{PlaceFits, AllOf}
+use Rattle.headline.specs.OpenCalls.{LineTold}
 use Rattle.line_fields.specs.Options.{where_true}
 use Rattle.line_fields.specs.Numbers.{natural_in}
 use Rattle.line_fields.specs.Words.{is_word, HasText}

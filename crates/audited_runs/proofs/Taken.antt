@@ -13,7 +13,7 @@ use Rattle.cap_words.specs.Text.{word_text_of}
 use Rattle.source_events.specs.declared.FeedBack.{FeedBack}
 use Rattle.source_events.specs.declared.FeedPair.{FeedPair}
 use Rattle.source_events.specs.Forms.{IsName, BackFits, PairFits, back_text, pair_text}
-use Rattle.trace_tool.specs.Lines.{Args}
+use Rattle.run_lines.specs.Lines.{Args}
 use Rattle.line_fields.specs.Options.{where_true}
 use Rattle.line_fields.specs.Cuts.{parts}
 use Rattle.line_fields.specs.Numbers.{number_in}
@@ -24,7 +24,7 @@ use Rattle.line_fields.proofs.Offers.{number_is, chosen, word_is, back_is, hande
 use Rattle.run_items.proofs.Offers.{spaced}
 use Rattle.run_audit.specs.Lines.{is_direction, registers, words_left}
 use Rattle.audited_runs.proofs.Spelled.{dir_text}
-use Rattle.trace_tool.specs.Fits.{AllOf, ArgsOf}
+use Rattle.run_lines.specs.Fits.{AllOf, ArgsOf}
 
 abbrev pub Fields : Type 0
 Fields = List (List ℕ)

@@ -1,13 +1,13 @@
 -- The lines of a run, as an audit sees them; and that an audit passes the text of a run.
 use Rattle.std.specs.Prelude.{◌≡◌, ℕ, ◌<◌, ◌^◌, List, map, Ok}
 use Rattle.cap_words.specs.Text.{word_text_of}
-use Rattle.component_linker.specs.Parts.{PartSeen}
-use Rattle.component_linker.specs.Started.{StartSeen}
-use Rattle.component_linker.specs.LinkedStarts.{IsLinkedStart}
-use Rattle.trace_tool.specs.Layout.{layout}
-use Rattle.trace_tool.specs.Lines.{Line, call, ret, enter, pass, leave}
-use Rattle.trace_tool.specs.OpenCalls.{LineTold}
-use Rattle.trace_tool.specs.Runs.{run_text, written}
+use Rattle.linked_starts.specs.Parts.{PartSeen}
+use Rattle.linked_starts.specs.Started.{StartSeen}
+use Rattle.linked_starts.specs.LinkedStarts.{IsLinkedStart}
+use Rattle.run_lines.specs.Layout.{layout}
+use Rattle.run_lines.specs.Lines.{Line, call, ret, enter, pass, leave}
+use Rattle.headline.specs.OpenCalls.{LineTold}
+use Rattle.run_lines.specs.Runs.{run_text, written}
 use Rattle.run_audit.specs.declared.line.Line.{Line as AuditLine}
 use Rattle.run_audit.specs.declared.line.Line.TheVariants.{Call, Ret, Enter, Pass, Leave}
 use Rattle.run_audit.specs.Told.{ToldSeen}

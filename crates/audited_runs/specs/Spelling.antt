@@ -2,11 +2,11 @@
 use Rattle.std.specs.Prelude.{◌≡◌, ◌↔◌, ◌<◌, ◌^◌, ◌++◌, ℕ, List, Some, codes}
 use Rattle.lcm_isa.specs.declared.Reg.{Reg}
 use Rattle.lcm_machine.specs.declared.FailCause.{FailCause}
-use Rattle.trace_tool.specs.Views.{View}
-use Rattle.trace_tool.specs.Lines.{Line}
-use Rattle.trace_tool.specs.Texts.{line_text}
-use Rattle.trace_tool.specs.EndLines.{halted_text, running_text, failed_by_text}
-use Rattle.trace_tool.specs.Fits.{LineOf, LineFits}
+use Rattle.run_lines.specs.Views.{View}
+use Rattle.run_lines.specs.Lines.{Line}
+use Rattle.run_lines.specs.Texts.{line_text}
+use Rattle.run_lines.specs.EndLines.{halted_text, running_text, failed_by_text}
+use Rattle.run_lines.specs.Fits.{LineOf, LineFits}
 use Rattle.line_fields.specs.Words.{HasText}
 use Rattle.run_audit.specs.declared.line.Line.{Line as AuditLine}
 use Rattle.run_audit.specs.declared.line.Line.TheVariants.{End}

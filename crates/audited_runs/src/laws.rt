@@ -3,8 +3,9 @@
 ghost use Rattle.audited_runs.specs.Audited.{LinesAreFollowed, RunsPass};
 ghost use Rattle.audited_runs.specs.Spelling.{LinesAreRead, FittingHaveTexts};
 
+use headline::laws::{lines_are_bracketed, the_headline};
 use overlay_machine::laws::{a_start_has_one_overlay, linked_starts_agree, starts_begin};
-use trace_tool::laws::{lines_are_bracketed, lines_fit, the_headline};
+use run_lines::laws::lines_fit;
 
 /// An audit reads a text as a line exactly if it spells that line.
 ///

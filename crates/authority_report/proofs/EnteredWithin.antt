@@ -7,12 +7,12 @@ use Rattle.lcm_isa.specs.declared.Reg.TheVariants.{A0, A1, A2, A3, G0, G1, G2}
 use Rattle.lcm_machine.specs.Maps.{Regs}
 use Rattle.lcm_machine.specs.Run.{Run}
 use Rattle.lcm_machine.specs.Places.{reg}
-use Rattle.component_linker.specs.declared.owners.Owner.{Owner}
-use Rattle.component_linker.specs.declared.owners.Entry.{Entry}
-use Rattle.component_linker.specs.Started.{StartSeen}
-use Rattle.component_linker.specs.Parts.{PartSeen}
-use Rattle.component_linker.specs.Owners.{owner_of}
-use Rattle.component_linker.specs.Start.{Exported, start_regs}
+use Rattle.linked_starts.specs.declared.owners.Owner.{Owner}
+use Rattle.linked_starts.specs.declared.owners.Entry.{Entry}
+use Rattle.linked_starts.specs.Started.{StartSeen}
+use Rattle.linked_starts.specs.Parts.{PartSeen}
+use Rattle.linked_starts.specs.Owners.{owner_of}
+use Rattle.linked_starts.specs.Start.{Exported, start_regs}
 use Rattle.authority_report.specs.Reaches.{its_code, its_data, the_stack}
 use Rattle.authority_report.specs.declared.reach.Reach.{Reach}
 use Rattle.authority_report.specs.Report.{told_authority, owner_of_part, IsReport, Reports}

@@ -17,7 +17,7 @@ use Rattle.lcm_isa.specs.declared.Reg.TheVariants.{Stk}
 use Rattle.lcm_machine.specs.Maps.{State}
 use Rattle.lcm_machine.specs.Places.{reg}
 use Rattle.lcm_machine.specs.Cells.{cell}
-use Rattle.component_linker.specs.declared.owners.Owner.{Owner}
+use Rattle.linked_starts.specs.declared.owners.Owner.{Owner}
 use Rattle.place_sets.specs.declared.set.Stretch.{Stretch}
 use Rattle.place_sets.specs.Has.{has}
 use Rattle.place_sets.specs.Takes.{is_left}

@@ -3,8 +3,8 @@ use Rattle.std.proofs.Common.{◌≡◌, ◌⊎◌, inl, inr, ◌↔◌, ℕ, �
 use Rattle.std.proofs.Common.{ap, subst, ◌∙◌, arith}
 use Rattle.std.specs.Prelude.{Some}
 use Rattle.cap_words.specs.Stretch.{Stretch}
-use Rattle.component_linker.specs.declared.owners.Owner.{Owner}
-use Rattle.component_linker.specs.Started.{StartSeen}
+use Rattle.linked_starts.specs.declared.owners.Owner.{Owner}
+use Rattle.linked_starts.specs.Started.{StartSeen}
 use Rattle.place_sets.specs.declared.spans.ReachSpan.{ReachSpan}
 use Rattle.place_sets.proofs.Offers.{one_spans}
 use Rattle.authority_report.specs.declared.reach.Reach.{Reach}

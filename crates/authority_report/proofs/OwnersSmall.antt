@@ -5,11 +5,11 @@ use Rattle.std.specs.Prelude.{◌==◌, find, slice_get, IsSome}
 use Rattle.std.specs.List.{Contains, position_or_len}
 use Rattle.std.proofs.lemmas.Bool.{cases_Bool}
 use Rattle.cap_words.specs.declared.TheConstants.{LAST_PLACE}
-use Rattle.component_linker.specs.declared.owners.Owner.{Owner}
-use Rattle.component_linker.specs.Owners.{owner_of, IsOwner}
-use Rattle.component_linker.specs.Started.{StartSeen}
-use Rattle.component_linker.specs.Linked.{Linked}
-use Rattle.component_linker.proofs.Offers.{are_linked, found, listed_at, part_of}
+use Rattle.linked_starts.specs.declared.owners.Owner.{Owner}
+use Rattle.linked_starts.specs.Owners.{owner_of, IsOwner}
+use Rattle.linked_starts.specs.Started.{StartSeen}
+use Rattle.linked_starts.specs.Linked.{Linked}
+use Rattle.linked_starts.proofs.Offers.{are_linked, found, listed_at, part_of}
 use Rattle.authority_report.specs.Entered.{IsLinked}
 use Rattle.authority_report.specs.Report.{owner_of_part}
 use Rattle.component_file.proofs.Offers.{inside}

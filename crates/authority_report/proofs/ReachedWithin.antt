@@ -11,7 +11,7 @@ use Rattle.lcm_isa.specs.declared.Reg.TheVariants.{Stk}
 use Rattle.lcm_machine.specs.Maps.{State}
 use Rattle.lcm_machine.specs.Places.{reg}
 use Rattle.lcm_machine.specs.Cells.{cell}
-use Rattle.component_linker.specs.declared.owners.Owner.{Owner}
+use Rattle.linked_starts.specs.declared.owners.Owner.{Owner}
 use Rattle.authority_report.specs.Reaches.{is_seal_of, whole_code, whole_data, bare, Reaches, its_code}
 use Rattle.authority_report.specs.Reaches.{its_data, the_stack, in_cell, opened}
 use Rattle.authority_report.specs.Within.{Authority, CapWithin, SealsWithin, IsWithin}

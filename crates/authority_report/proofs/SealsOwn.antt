@@ -19,18 +19,18 @@ use Rattle.lcm_isa.specs.declared.Reg.TheVariants.{Stk}
 use Rattle.lcm_machine.specs.Regions.{Region}
 use Rattle.lcm_machine.specs.Places.{reg}
 use Rattle.lcm_machine.specs.Cells.{cell}
-use Rattle.component_linker.specs.declared.owners.Owner.{Owner}
-use Rattle.component_linker.specs.Owners.{owner_of}
-use Rattle.component_linker.specs.Parts.{PartSeen}
-use Rattle.component_linker.specs.Regions.{part_regions, region, stack_span, in_region, in_regions}
-use Rattle.component_linker.specs.Start.{Exported, code_half, data_half, stack_base_of, start_regs}
-use Rattle.component_linker.specs.Started.{StartSeen}
-use Rattle.component_linker.specs.Linked.{HasRange}
-use Rattle.component_linker.specs.SealsApart.{is_seal_of as is_seal}
-use Rattle.component_linker.proofs.Offers.{whole, code_in, data_in, linear_in, stack_in, in_regions_is}
-use Rattle.component_linker.proofs.Offers.{apart_parts, apart_stack, size_bounds, IsExport, CellIs, of_code}
-use Rattle.component_linker.proofs.Offers.{of_data, of_slot, of_none, cell_is, OwnCap, over_code, over_data}
-use Rattle.component_linker.proofs.Offers.{over_linear, OwnWord, no_overlap, own_code, own_data, parts_apart}
+use Rattle.linked_starts.specs.declared.owners.Owner.{Owner}
+use Rattle.linked_starts.specs.Owners.{owner_of}
+use Rattle.linked_starts.specs.Parts.{PartSeen}
+use Rattle.linked_starts.specs.Regions.{part_regions, region, stack_span, in_region, in_regions}
+use Rattle.linked_starts.specs.Start.{Exported, code_half, data_half, stack_base_of, start_regs}
+use Rattle.linked_starts.specs.Started.{StartSeen}
+use Rattle.linked_starts.specs.Linked.{HasRange}
+use Rattle.linked_starts.specs.SealsApart.{is_seal_of as is_seal}
+use Rattle.linked_starts.proofs.Offers.{whole, code_in, data_in, linear_in, stack_in, in_regions_is}
+use Rattle.linked_starts.proofs.Offers.{apart_parts, apart_stack, size_bounds, IsExport, CellIs, of_code}
+use Rattle.linked_starts.proofs.Offers.{of_data, of_slot, of_none, cell_is, OwnCap, over_code, over_data}
+use Rattle.linked_starts.proofs.Offers.{over_linear, OwnWord, no_overlap, own_code, own_data, parts_apart}
 use Rattle.authority_report.specs.Reaches.{is_seal_of, whole_code, whole_data}
 use Rattle.authority_report.specs.Within.{Authority, CapWithin, IsWithin}
 use Rattle.authority_report.specs.Entered.{IsLinked}

@@ -8,14 +8,14 @@ use Rattle.lcm_isa.specs.declared.Reg.TheVariants.{Pc, Dat}
 use Rattle.lcm_machine.specs.declared.Place.TheVariants.{R}
 use Rattle.lcm_machine.specs.Maps.{State}
 use Rattle.lcm_machine.specs.Row.{put}
-use Rattle.component_linker.specs.declared.owners.Owner.{Owner}
-use Rattle.component_linker.specs.declared.owners.Entry.{Entry}
-use Rattle.component_linker.specs.Owners.{placed_entry, owner_of}
-use Rattle.component_linker.specs.Start.{Exported, code_half, data_half}
-use Rattle.component_linker.specs.Started.{StartSeen, Starts}
-use Rattle.component_linker.specs.Parts.{PartSeen, IsPart}
-use Rattle.component_linker.specs.Pairs.{NoneIsBroken}
-use Rattle.component_linker.specs.Links.{rules_l}
+use Rattle.linked_starts.specs.declared.owners.Owner.{Owner}
+use Rattle.linked_starts.specs.declared.owners.Entry.{Entry}
+use Rattle.linked_starts.specs.Owners.{placed_entry, owner_of}
+use Rattle.linked_starts.specs.Start.{Exported, code_half, data_half}
+use Rattle.linked_starts.specs.Started.{StartSeen, Starts}
+use Rattle.linked_starts.specs.Parts.{PartSeen, IsPart}
+use Rattle.linked_starts.specs.Pairs.{NoneIsBroken}
+use Rattle.linked_starts.specs.Links.{rules_l}
 use Rattle.authority_report.specs.declared.reach.Reach.{Reach}
 use Rattle.authority_report.specs.Reaches.{whole_code, whole_data}
 use Rattle.authority_report.specs.SealRanges.{SealsAreOwn}

@@ -13,7 +13,7 @@ use Rattle.lcm_isa.specs.declared.Reg.TheVariants.{Stk}
 use Rattle.lcm_machine.specs.Maps.{State}
 use Rattle.lcm_machine.specs.Places.{reg}
 use Rattle.lcm_machine.specs.Cells.{cell}
-use Rattle.component_linker.specs.declared.owners.Owner.{Owner}
+use Rattle.linked_starts.specs.declared.owners.Owner.{Owner}
 use Rattle.place_sets.specs.Has.{has}
 use Rattle.place_sets.specs.Free.{free_below}
 use Rattle.cap_words.specs.declared.TheConstants.{LAST_PLACE}

@@ -5,9 +5,9 @@ use Rattle.std.specs.List.{list_any, Contains}
 use Rattle.cap_words.specs.declared.Word.{Word}
 use Rattle.lcm_machine.specs.Maps.{State}
 use Rattle.lcm_machine.specs.Blind.{SameBut, EndsAlike}
-use Rattle.component_linker.specs.declared.owners.Owner.{Owner}
-use Rattle.component_linker.specs.declared.owners.Entry.{Entry}
-use Rattle.component_linker.specs.Started.{StartSeen}
+use Rattle.linked_starts.specs.declared.owners.Owner.{Owner}
+use Rattle.linked_starts.specs.declared.owners.Entry.{Entry}
+use Rattle.linked_starts.specs.Started.{StartSeen}
 use Rattle.place_sets.specs.Spans.{span_has}
 use Rattle.authority_report.specs.declared.reach.Reach.{Reach}
 use Rattle.authority_report.specs.Within.{Authority}

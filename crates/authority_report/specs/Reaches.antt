@@ -14,7 +14,7 @@ use Rattle.cap_words.specs.Faces.{may_read}
 use Rattle.lcm_isa.specs.declared.Reg.TheVariants.{Stk}
 use Rattle.lcm_machine.specs.Places.{reg}
 use Rattle.lcm_machine.specs.Cells.{cell}
-use Rattle.component_linker.specs.declared.owners.Owner.{Owner}
+use Rattle.linked_starts.specs.declared.owners.Owner.{Owner}
 use Rattle.lcm_machine.specs.Maps.{State}
 
 -- the seal of the part's entries, or one of its return points

@@ -6,7 +6,7 @@ use Rattle.cap_words.specs.declared.TheConstants.{LAST_PLACE, LONGEST_STRETCH}
 use Rattle.cap_words.specs.Stretch.{Stretch}
 use Rattle.seal_space.specs.Seals.{has_seal}
 use Rattle.lcm_machine.specs.Maps.{State}
-use Rattle.component_linker.specs.declared.owners.Owner.{Owner}
+use Rattle.linked_starts.specs.declared.owners.Owner.{Owner}
 use Rattle.place_sets.specs.declared.set.Stretch.{Stretch as FromTo}
 use Rattle.authority_report.specs.Reaches.{SealsWith}
 

@@ -4,10 +4,10 @@ use Rattle.std.specs.Prelude.{if◌then◌else◌}
 use Rattle.std.specs.List.{flat_map}
 use Rattle.cap_words.specs.Text.{field_text, newline}
 use Rattle.cap_words.specs.Stretch.{Stretch}
-use Rattle.component_linker.specs.declared.owners.Owner.{Owner}
-use Rattle.component_linker.specs.declared.owners.CalledEntry.{CalledEntry}
-use Rattle.component_linker.specs.Start.{same_name}
-use Rattle.component_linker.specs.Started.{StartSeen}
+use Rattle.linked_starts.specs.declared.owners.Owner.{Owner}
+use Rattle.linked_starts.specs.declared.owners.CalledEntry.{CalledEntry}
+use Rattle.linked_starts.specs.Start.{same_name}
+use Rattle.linked_starts.specs.Started.{StartSeen}
 use Rattle.place_sets.specs.declared.spans.ReachSpan.{ReachSpan}
 use Rattle.authority_report.specs.declared.reach.Reach.{Reach}
 use Rattle.authority_report.specs.Report.{owner_of_part, IsReport}

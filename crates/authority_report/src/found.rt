@@ -7,9 +7,9 @@ ghost use Rattle.cap_words.specs.Face.{FaceInOrder, ContentInOrder};
 ghost use Rattle.authority_report.specs.Found.{bared, bare_word, opened_word, Adds, IsClosedBut, unread};
 
 use cap_words::{CapFields, Content, Face, LAST_PLACE, Lin, Opened, Perm, SealFields, Word};
-use component_linker::Owner;
 use lcm_isa::Reg;
 use lcm_machine::LcmState;
+use linked_starts::Owner;
 use place_sets::{PlaceSet, Stretch};
 use std::alloc::{AllocError, Global};
 

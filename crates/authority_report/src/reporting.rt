@@ -9,8 +9,8 @@ use crate::found::Found;
 use crate::reach::Reach;
 use crate::seals::ranges_of;
 use cap_words::{LAST_PLACE, LONGEST_STRETCH};
-use component_linker::{Owner, Start};
 use lcm_machine::LcmState;
+use linked_starts::{Owner, Start};
 use place_sets::spans_of;
 use std::alloc::{AllocError, Global};
 

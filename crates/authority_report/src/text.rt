@@ -10,8 +10,8 @@ ghost use Rattle.authority_report.specs.Text.{exit_line, part_text, IsReachText}
 use crate::reach::Reach;
 use crate::reporting::{owner_at, report_of};
 use cap_words::{Items, SealRange};
-use component_linker::{CalledEntry, Owner, Start};
 use itoa::Buffer;
+use linked_starts::{CalledEntry, Owner, Start};
 use place_sets::ReachSpan;
 use std::alloc::{AllocError, Global};
 

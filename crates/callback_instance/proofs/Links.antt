@@ -7,15 +7,15 @@ use Rattle.component_check.specs.RuleText.{broken_at}
 use Rattle.component_check.specs.Verdict.{check_from}
 use Rattle.component_check.specs.Rules.{rules_c, c1, c2, c3, c4, c5, c6, c7, c8, c9, c10, c11, c12}
 use Rattle.call_sequence.specs.Sequences.{call_code, return_code, entry_code}
-use Rattle.component_linker.specs.Pairs.{IsFirstBrokenIn, by_part}
-use Rattle.component_linker.specs.Links.{rules_l, rule_at, l1, l2, l3, l4, l5, l6, l7, l8, l9, l10}
-use Rattle.component_linker.specs.Regions.{regions_of}
-use Rattle.component_linker.specs.Standing.{placed}
-use Rattle.component_linker.specs.Start.{main_of}
-use Rattle.component_linker.specs.Started.{StartSeen}
-use Rattle.component_linker.specs.LinkedStarts.{IsStartOf}
-use Rattle.component_linker.specs.declared.owners.Site.{Site}
-use Rattle.component_linker.proofs.Offers.{first_broken_in, no_rule, site_of, sites_are}
+use Rattle.linked_starts.specs.Pairs.{IsFirstBrokenIn, by_part}
+use Rattle.linked_starts.specs.Links.{rules_l, rule_at, l1, l2, l3, l4, l5, l6, l7, l8, l9, l10}
+use Rattle.linked_starts.specs.Regions.{regions_of}
+use Rattle.linked_starts.specs.Standing.{placed}
+use Rattle.linked_starts.specs.Start.{main_of}
+use Rattle.linked_starts.specs.Started.{StartSeen}
+use Rattle.linked_starts.specs.LinkedStarts.{IsStartOf}
+use Rattle.linked_starts.specs.declared.owners.Site.{Site}
+use Rattle.linked_starts.proofs.Offers.{first_broken_in, no_rule, site_of, sites_are}
 use Rattle.proc_names.specs.Names.{variable_named, callee_named}
 use Rattle.proc_program.specs.Lower.{part_of}
 use Rattle.proc_program.proofs.Offers.{part_fits}

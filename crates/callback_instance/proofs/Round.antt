@@ -8,9 +8,9 @@ use Rattle.lcm_machine.specs.declared.cells.Span.{Span}
 use Rattle.lcm_machine.specs.Row.{faces, opens}
 use Rattle.lcm_machine.specs.Table as table
 use Rattle.call_sequence.specs.Sequences.{call_code, return_code, entry_code}
-use Rattle.component_linker.specs.Owners.{owner_of}
-use Rattle.component_linker.specs.Regions.{regions_of}
-use Rattle.component_linker.specs.Start.{start_cell, start_regs, part_word}
+use Rattle.linked_starts.specs.Owners.{owner_of}
+use Rattle.linked_starts.specs.Regions.{regions_of}
+use Rattle.linked_starts.specs.Start.{start_cell, start_regs, part_word}
 use Rattle.lcm_isa.specs.Numbers as numbers
 use Rattle.lcm_isa.specs.Numbers.{number_of, decode_of, candidate, all_with}
 use Rattle.trusted_border.specs.declared.layout.Layout.{Layout}
@@ -24,9 +24,9 @@ use Rattle.overlay_machine.specs.Link.{Link}
 use Rattle.overlay_machine.specs.Events.{step_event, event_after, note_by}
 use Rattle.overlay_machine.specs.Flat.{flat}
 use Rattle.overlay_machine.specs.Starting.{overlay_at}
-use Rattle.trace_tool.specs.Cuts.{is_inside}
-use Rattle.trace_tool.specs.Layout.{part_name, entry_name, site_of}
-use Rattle.trace_tool.specs.Views.{flat_view}
+use Rattle.run_lines.specs.Cuts.{is_inside}
+use Rattle.run_lines.specs.Layout.{part_name, entry_name, site_of}
+use Rattle.run_lines.specs.Views.{flat_view}
 use Rattle.proc_names.specs.Names.{variable_named, callee_named}
 use Rattle.proc_templates.specs.Items as items
 use Rattle.proc_templates.specs.Items.{instrs}

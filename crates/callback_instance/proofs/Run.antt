@@ -13,10 +13,10 @@ use Rattle.lcm_machine.specs.Spans.{zero_regs}
 use Rattle.lcm_machine.specs.Row.{faces, opens, some, clear, perform}
 use Rattle.lcm_machine.specs.Table as table
 use Rattle.call_sequence.specs.Sequences.{call_code, return_code, entry_code}
-use Rattle.component_linker.specs.Parts.{PartSeen}
-use Rattle.component_linker.specs.Regions.{regions_of}
-use Rattle.component_linker.specs.Start.{start_cell, start_regs, part_word}
-use Rattle.component_linker.specs.Owners.{owner_of}
+use Rattle.linked_starts.specs.Parts.{PartSeen}
+use Rattle.linked_starts.specs.Regions.{regions_of}
+use Rattle.linked_starts.specs.Start.{start_cell, start_regs, part_word}
+use Rattle.linked_starts.specs.Owners.{owner_of}
 use Rattle.trusted_border.specs.declared.layout.Layout.{Layout}
 use Rattle.trusted_border.specs.declared.layout.SiteCode.{SiteCode}
 use Rattle.trusted_border.specs.Layout.{site_code}
@@ -26,7 +26,7 @@ use Rattle.overlay_machine.specs.declared.cases.Case.TheVariants.{Call, Back, Ot
 use Rattle.overlay_machine.specs.Copies.{plain_regs}
 use Rattle.overlay_machine.specs.State.{OpenFrame}
 use Rattle.overlay_machine.specs.Step.{entry_step, own_stack, need}
-use Rattle.trace_tool.specs.Layout.{layout}
+use Rattle.run_lines.specs.Layout.{layout}
 use Rattle.proc_names.specs.Names.{variable_named, callee_named}
 use Rattle.proc_templates.specs.Items as items
 use Rattle.proc_templates.specs.Items.{instrs}

@@ -1,8 +1,8 @@
 -- Two modules that have main themselves: it calls out, and halts with what is answered.
 use Rattle.std.specs.Prelude.{◌≡◌, ◌≢◌, ℕ, pos, true, [], ◌∷◌, map}
 use Rattle.overlay_machine.specs.Starting.{overlay_at}
-use Rattle.trace_tool.specs.Cuts.{is_inside}
-use Rattle.trace_tool.specs.Layout.{layout}
+use Rattle.run_lines.specs.Cuts.{is_inside}
+use Rattle.run_lines.specs.Layout.{layout}
 use Rattle.proc_language.specs.declared.tree.Op.TheVariants.{Plus}
 use Rattle.proc_language.specs.declared.module.ModuleFields.{ModuleFields}
 use Rattle.proc_language.specs.Tree.{Expr, number, op, call, value, no_args, halt}

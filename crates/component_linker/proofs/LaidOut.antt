@@ -5,18 +5,18 @@ use Rattle.std.specs.Prelude.{slice_get, option_map, IsTrue, ◌&&◌}
 use Rattle.std.specs.List.{Contains}
 use Rattle.std.proofs.lemmas.Option.{slice_get_within, get_or_from_slice_get, slice_get-map}
 use Rattle.std.proofs.lemmas.List.Elements.{Contains-get_or}
-use Rattle.component_linker.proofs.Found.{map_inv}
+use Rattle.linked_starts.proofs.Offers.{map_inv}
 use Rattle.cap_words.specs.declared.TheConstants.{LONGEST_NAME}
 use Rattle.component_file.specs.declared.component.ComponentFields.{ComponentFields}
 use Rattle.component_file.specs.declared.component.Export.{Export}
 use Rattle.cap_words.specs.Names.{is_name}
 use Rattle.component_file.specs.Limits.{Chain, ExportFits}
-use Rattle.component_linker.specs.declared.owners.Site.{Site}
-use Rattle.component_linker.specs.declared.owners.Owner.{Owner}
-use Rattle.component_linker.specs.declared.owners.Entry.{Entry}
-use Rattle.component_linker.specs.Parts.{PartSeen}
-use Rattle.component_linker.specs.Linked.{Kept, AreClosed}
-use Rattle.component_linker.specs.Owners.{AreInOrder, placed_entry, owner_of, IsOwner, AreOwners, AreLaid}
+use Rattle.linked_starts.specs.declared.owners.Site.{Site}
+use Rattle.linked_starts.specs.declared.owners.Owner.{Owner}
+use Rattle.linked_starts.specs.declared.owners.Entry.{Entry}
+use Rattle.linked_starts.specs.Parts.{PartSeen}
+use Rattle.linked_starts.specs.Linked.{Kept, AreClosed}
+use Rattle.linked_starts.specs.Owners.{AreInOrder, placed_entry, owner_of, IsOwner, AreOwners, AreLaid}
 
 both_are : (a b : Bool) → IsTrue (a && b) → IsTrue a × IsTrue b
 both_are true true h = (h, h)

@@ -7,12 +7,11 @@ use Rattle.std.proofs.lemmas.Bool.{cases_lt, cases_order}
 use Rattle.std.proofs.lemmas.Option.{slice_get_within, slice_get-get_or}
 use Rattle.std.proofs.lemmas.List.{get_or_default}
 use Rattle.std.proofs.lemmas.List.Elements.{Contains-get_or}
-use Rattle.component_linker.specs.declared.owners.Site.{Site}
-use Rattle.component_linker.specs.Parts.{PartSeen}
-use Rattle.component_linker.specs.Linked.{AreClosed, AreSeparate}
-use Rattle.component_linker.specs.Owners.{IsSite, AreSites, Follows, AreInOrder}
-use Rattle.component_linker.proofs.ListedOwners.{sites_rise, meet_not, site_in, one_site, part_at}
-use Rattle.component_linker.proofs.SiteSearch.{up_to}
+use Rattle.linked_starts.specs.declared.owners.Site.{Site}
+use Rattle.linked_starts.specs.Parts.{PartSeen}
+use Rattle.linked_starts.specs.Linked.{AreClosed, AreSeparate}
+use Rattle.linked_starts.specs.Owners.{IsSite, AreSites, Follows, AreInOrder}
+use Rattle.linked_starts.proofs.Offers.{meet_not, one_site, part_at, site_in, sites_rise, up_to}
 
 module _ (parts : List PartSeen) (closed : AreClosed parts) where
   -- what is between two sites of a part is in its code, so it is of that part

@@ -1,6 +1,6 @@
 //! The right to the stack of a start.
 ghost use Rattle.std.specs.Prelude.{◌≡◌, ◌≤◌};
-ghost use Rattle.component_linker.specs.Start.{with_stack};
+ghost use Rattle.linked_starts.specs.Start.{with_stack};
 
 use cap_words::{Cap, Held, LAST_PLACE, Lin, Perm, Word};
 use lcm_isa::Reg;

@@ -1,15 +1,16 @@
 //! Rules L4 and L5: what imports name is there, and may be imported.
 ghost use Rattle.std.specs.Prelude.{◌≡◌, ◌<◌, ◌≤◌, ℕ, length, slice_get, is_none};
 ghost use Rattle.component_check.specs.Places.{first_place};
-ghost use Rattle.component_linker.specs.Start.{imported};
-ghost use Rattle.component_linker.specs.Pairs.{first_in, passes};
-ghost use Rattle.component_linker.specs.Links.{is_private, l4, l5};
+ghost use Rattle.linked_starts.specs.Start.{imported};
+ghost use Rattle.linked_starts.specs.Pairs.{first_in, passes};
+ghost use Rattle.linked_starts.specs.Links.{is_private, l4, l5};
 
 use crate::names::{Exported, imported};
-use crate::pairs::{PartPlace, first_in};
+use crate::pairs::first_in;
 use crate::placed::{Placed, PlacedParts};
 use component_check::first_place;
 use component_file::Import;
+use linked_starts::PartPlace;
 
 fn is_missing(parts: &PlacedParts, imports: &[Import], k: usize) -> bool
     requires { k < length imports.now }

@@ -1,11 +1,11 @@
 //! The words of parts, put into the cells of a new machine.
 ghost use Rattle.std.specs.Prelude.{◌≡◌, ◌≤◌, ◌+◌, length, slice_get, IsSome};
 ghost use Rattle.lcm_machine.specs.Cells.{cell};
-ghost use Rattle.component_linker.specs.Start.{from, first_given, part_word, code_of, data_of, code_half};
-ghost use Rattle.component_linker.specs.Start.{data_half};
-ghost use Rattle.component_linker.specs.Linked.{Kept, ImportsFound, AreClosed, AreSeparate};
-ghost use Rattle.component_linker.specs.Laying.{HasCells, HasCellsFor, HasCellsOf, Lays, halves};
-ghost use Rattle.component_linker.specs.Laying.{import_words};
+ghost use Rattle.linked_starts.specs.Start.{from, first_given, part_word, code_of, data_of, code_half};
+ghost use Rattle.linked_starts.specs.Start.{data_half};
+ghost use Rattle.linked_starts.specs.Linked.{Kept, ImportsFound, AreClosed, AreSeparate};
+ghost use Rattle.linked_starts.specs.Laying.{HasCells, HasCellsFor, HasCellsOf, Lays, halves};
+ghost use Rattle.linked_starts.specs.Laying.{import_words};
 
 use crate::names::{Exported, imported};
 use crate::placed::{Placed, PlacedParts, Words};

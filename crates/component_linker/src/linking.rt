@@ -1,28 +1,27 @@
 //! Linking.
 ghost use Rattle.std.specs.Prelude.{◌≡◌, ◌<◌, ◌^◌, ℕ, List, length, map, slice_get, Some, None, Ok, OnOk};
 ghost use Rattle.component_check.specs.Verdict.{check_from, kept_or};
-ghost use Rattle.component_linker.specs.Pairs.{by_part, first_in, IsFirstBrokenIn};
-ghost use Rattle.component_linker.specs.Links.{l10, rules_l, rules_of_link, number_of, rule_at};
+ghost use Rattle.linked_starts.specs.Pairs.{by_part, first_in, IsFirstBrokenIn};
+ghost use Rattle.linked_starts.specs.Links.{l10, rules_l, rules_of_link, number_of, rule_at};
 ghost use Rattle.lcm_machine.specs.Run.{Run};
-ghost use Rattle.component_linker.specs.Parts.{PartSeen, IsPart};
-ghost use Rattle.component_linker.specs.Linked.{Linked};
-ghost use Rattle.component_linker.specs.SealsApart.{PartsApart};
-ghost use Rattle.component_linker.specs.Start.{IsStart};
-ghost use Rattle.component_linker.specs.TrustedCode.{TrustedInCells};
-ghost use Rattle.component_linker.specs.Answer.{Answers, AnswersPlaced};
+ghost use Rattle.linked_starts.specs.Parts.{PartSeen, IsPart};
+ghost use Rattle.linked_starts.specs.Linked.{Linked};
+ghost use Rattle.linked_starts.specs.SealsApart.{PartsApart};
+ghost use Rattle.linked_starts.specs.Start.{IsStart};
+ghost use Rattle.linked_starts.specs.TrustedCode.{TrustedInCells};
+ghost use Rattle.linked_starts.specs.Answer.{Answers, AnswersPlaced};
 
-use crate::fault::{LinkFault, RuleAt};
 use crate::imports::{l4, l5};
-use crate::pairs::PartPlace;
 use crate::part::Part;
 use crate::parts::{l2, l3, l7};
 use crate::placed::PlacedParts;
 use crate::regions::l1;
-use crate::started::{Start, start_of};
+use crate::started::start_of;
 use crate::whole::{l6, l8, l9};
 use call_sequence::laws::sequences_stand_word_by_word;
 use component_check::{Group, Rule};
-use flow_check::laws::sequences_stand;
+use flow_rules::laws::sequences_stand;
+use linked_starts::{LinkFault, PartPlace, RuleAt, Start};
 use std::alloc::Global;
 
 // The number of the rule that is tried so many-th.

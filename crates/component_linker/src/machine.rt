@@ -4,9 +4,9 @@ ghost use Rattle.cap_words.specs.declared.Word.TheVariants.{Mem};
 ghost use Rattle.lcm_machine.specs.declared.Place.TheVariants.{R};
 ghost use Rattle.lcm_machine.specs.Row.{put};
 ghost use Rattle.lcm_machine.specs.Regions.{AreApart, HeldOnce};
-ghost use Rattle.component_linker.specs.Regions.{regions_of};
-ghost use Rattle.component_linker.specs.Start.{registered, IsStart};
-ghost use Rattle.component_linker.specs.Linked.{Kept, Linked};
+ghost use Rattle.linked_starts.specs.Regions.{regions_of};
+ghost use Rattle.linked_starts.specs.Start.{registered, IsStart};
+ghost use Rattle.linked_starts.specs.Linked.{Kept, Linked};
 
 use crate::grant::StackGrant;
 use crate::laying::{code_cap, data_cap};

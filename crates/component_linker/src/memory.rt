@@ -4,10 +4,10 @@ ghost use Rattle.std.specs.List.Sorted.{IsPermutation, IsNonDecreasingBy};
 ghost use Rattle.std.specs.Option.{option_to_list};
 ghost use Rattle.lcm_machine.specs.Cells.{cell};
 ghost use Rattle.lcm_machine.specs.Spans.{zero_regs};
-ghost use Rattle.component_linker.specs.Regions.{addresses, part_regions, region_span, spans_with};
-ghost use Rattle.component_linker.specs.Regions.{stack_span, AreSpansOf};
-ghost use Rattle.component_linker.specs.Linked.{Linked};
-ghost use Rattle.component_linker.specs.Start.{start_cell, stack_base_of};
+ghost use Rattle.linked_starts.specs.Regions.{addresses, part_regions, region_span, spans_with};
+ghost use Rattle.linked_starts.specs.Regions.{stack_span, AreSpansOf};
+ghost use Rattle.linked_starts.specs.Linked.{Linked};
+ghost use Rattle.linked_starts.specs.Start.{start_cell, stack_base_of};
 
 use crate::laying::lay_parts;
 use crate::placed::{Placed, PlacedParts};

@@ -1,8 +1,8 @@
 //! Who is meant by names.
 ghost use Rattle.std.specs.Prelude.{◌≡◌, ◌<◌, option_map, find};
 ghost use Rattle.std.specs.Option.{option_copied};
-ghost use Rattle.component_linker.specs.Start.{same_name, NamesAscend, exported_by, part_named, imported, is_main};
-ghost use Rattle.component_linker.specs.Start.{main_of};
+ghost use Rattle.linked_starts.specs.Start.{same_name, NamesAscend, exported_by, part_named, imported, is_main};
+ghost use Rattle.linked_starts.specs.Start.{main_of};
 
 use crate::placed::{Placed, PlacedParts};
 use component_file::{Export, Import};
@@ -18,7 +18,7 @@ pub(crate) struct Exported<'a> {
 }
 
 impl<'a> Model for Exported<'a> {
-    ghost use Rattle.component_linker.specs.Start.{Exported as ExportedSeen};
+    ghost use Rattle.linked_starts.specs.Start.{Exported as ExportedSeen};
 
     ghost Value = { ExportedSeen };
 

@@ -1,16 +1,9 @@
 //! The first part, and the first place in it, at which a rule is broken.
 ghost use Rattle.std.specs.Prelude.{◌≡◌, ◌<◌, ◌≤◌, ◌^◌, ℕ};
 ghost use Rattle.component_check.specs.Places.{first_place};
-ghost use Rattle.component_linker.specs.Pairs.{FirstInBy, once};
+ghost use Rattle.linked_starts.specs.Pairs.{FirstInBy, once};
 
-/// A place in a part.
-#[derive(Clone, Copy, PartialEq, Eq)]
-pub struct PartPlace {
-    /// The index of the part.
-    pub part: u32,
-    /// The place.
-    pub place: u32,
-}
+use linked_starts::PartPlace;
 
 /// The first of the parts of an index below `count` that has a place, and its place.
 pub(crate) fn first_in<F: Fn(usize) -> Option<u32>>(count: usize, within: F) -> Option<PartPlace>

@@ -1,8 +1,8 @@
 //! A part: a component that keeps its rules, and whether it is trusted.
 ghost use Rattle.std.specs.Prelude.{◌≡◌, Ok};
 ghost use Rattle.std.specs.Result.{result_and};
-ghost use Rattle.component_linker.specs.Parts.{PartSeen, IsPart, TriesFlow, Accepts};
-ghost use Rattle.component_linker.specs.Accepted.{accepted};
+ghost use Rattle.linked_starts.specs.Parts.{PartSeen, IsPart, TriesFlow, Accepts};
+ghost use Rattle.linked_starts.specs.Accepted.{accepted};
 
 use component_check::{Broken, check};
 use component_file::Component;
@@ -20,7 +20,7 @@ pub struct Part {
 }
 
 impl Model for Part {
-    ghost use Rattle.component_linker.specs.Parts.{PartSeen, IsPart};
+    ghost use Rattle.linked_starts.specs.Parts.{PartSeen, IsPart};
 
     ghost Value = { PartSeen };
 

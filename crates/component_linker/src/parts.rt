@@ -2,14 +2,15 @@
 ghost use Rattle.std.specs.Prelude.{◌≡◌, ◌<◌, ◌^◌, length, slice_get};
 ghost use Rattle.component_check.specs.Places.{first_place};
 ghost use Rattle.seal_space.specs.Seals.{has_seal};
-ghost use Rattle.component_linker.specs.Start.{same_name, stack_base_of};
-ghost use Rattle.component_linker.specs.Pairs.{first_in, passes};
-ghost use Rattle.component_linker.specs.Links.{share_seals, l2, l3, l7};
+ghost use Rattle.linked_starts.specs.Start.{same_name, stack_base_of};
+ghost use Rattle.linked_starts.specs.Pairs.{first_in, passes};
+ghost use Rattle.linked_starts.specs.Links.{share_seals, l2, l3, l7};
 
-use crate::pairs::{PartPlace, first_in, once};
+use crate::pairs::{first_in, once};
 use crate::placed::{Placed, PlacedParts};
 use cap_words::SealRange;
 use component_check::first_place;
+use linked_starts::PartPlace;
 use seal_space::disjoint;
 
 fn has_seal(range: &SealRange, seal: u32) -> bool

@@ -4,21 +4,19 @@ ghost use Rattle.std.specs.List.{list_all};
 ghost use Rattle.component_file.specs.Limits.{IsComponent};
 ghost use Rattle.component_check.specs.Places.{first_place};
 ghost use Rattle.component_check.specs.Areas.{is_past_end};
-ghost use Rattle.component_linker.specs.Parts.{PartSeen, IsPart};
-ghost use Rattle.component_linker.specs.Placing.{moved, moved_word, moved_by, lowest_address, lowest_seal};
-ghost use Rattle.component_linker.specs.Placing.{areas_end_late, seals_end_late, points_in_range};
-ghost use Rattle.component_linker.specs.Placing.{points_too_far};
-ghost use Rattle.component_linker.specs.Standing.{move_of, settled, behind, behind_stack, past_fixed};
-ghost use Rattle.component_linker.specs.Standing.{free_of};
-ghost use Rattle.component_linker.specs.Standing.{placed_part, past, placed_from};
-ghost use Rattle.component_linker.specs.Answer.{Places};
-ghost use Rattle.component_linker.specs.Links.{room_test, l10, part_spans, trusted_sites};
-ghost use Rattle.component_linker.specs.Pairs.{first_in};
-ghost use Rattle.component_linker.specs.Regions.{span_of, is_stack_size, stack_span};
-ghost use Rattle.component_linker.specs.Start.{NamesAscend, stack_base_of};
+ghost use Rattle.linked_starts.specs.Parts.{PartSeen, IsPart};
+ghost use Rattle.linked_starts.specs.Placing.{moved, moved_word, moved_by, lowest_address, lowest_seal};
+ghost use Rattle.linked_starts.specs.Placing.{areas_end_late, seals_end_late, points_in_range};
+ghost use Rattle.linked_starts.specs.Placing.{points_too_far};
+ghost use Rattle.linked_starts.specs.Standing.{move_of, settled, behind, behind_stack, past_fixed};
+ghost use Rattle.linked_starts.specs.Standing.{free_of};
+ghost use Rattle.linked_starts.specs.Standing.{placed_part, past, placed_from};
+ghost use Rattle.linked_starts.specs.Answer.{Places};
+ghost use Rattle.linked_starts.specs.Links.{room_test, l10, part_spans, trusted_sites};
+ghost use Rattle.linked_starts.specs.Pairs.{first_in};
+ghost use Rattle.linked_starts.specs.Regions.{span_of, is_stack_size, stack_span};
+ghost use Rattle.linked_starts.specs.Start.{NamesAscend, stack_base_of};
 
-use crate::moving::{Move, Shift, moved_word};
-use crate::pairs::PartPlace;
 use crate::part::Part;
 use cap_words::{LAST_PLACE, LONGEST_STRETCH, SealRange, Word};
 use component_file::{
@@ -26,6 +24,7 @@ use component_file::{
     MOST_WORDS,
 };
 use lcm_machine::Span;
+use linked_starts::{Free, Move, PartPlace, Shift, moved_word};
 use std::marker::Model;
 
 /// Parts that are to be linked with a stack of some size. A contract sees the parts as they stand.
@@ -41,8 +40,8 @@ pub(crate) struct PlacedParts<'a> {
 
 impl<'a> Model for PlacedParts<'a> {
     ghost use Rattle.std.specs.Prelude.{List, ℕ, Some, slice_get, ◌<◌, ◌≤◌, ◌^◌, ◌≡◌, length};
-    ghost use Rattle.component_linker.specs.Parts.{PartSeen, IsPart};
-    ghost use Rattle.component_linker.specs.Standing.{placed, free_of};
+    ghost use Rattle.linked_starts.specs.Parts.{PartSeen, IsPart};
+    ghost use Rattle.linked_starts.specs.Standing.{placed, free_of};
 
     ghost Value = { List PartSeen };
 
@@ -53,15 +52,6 @@ impl<'a> Model for PlacedParts<'a> {
         × (p.free ≡ free_of p.parts.now p.stack)
         × ((p.free.address ≤ 2 ^ 21) × (p.free.seal ≤ 2 ^ 21))
         × ((k : ℕ) (q : PartSeen) → slice_get (placed p.parts.now p.stack) k ≡ Some q → IsPart q) };
-}
-
-/// What is free: addresses from one on, and seals from one on.
-#[derive(Clone, Copy)]
-pub(crate) struct Free {
-    /// The first address.
-    pub(crate) address: u32,
-    /// The first seal.
-    pub(crate) seal: u32,
 }
 
 // The lowest address of a component.
@@ -423,8 +413,8 @@ pub(crate) struct Placed<'a> {
 }
 
 impl<'a> Model for Placed<'a> {
-    ghost use Rattle.component_linker.specs.Parts.{PartSeen};
-    ghost use Rattle.component_linker.specs.Placing.{words_at};
+    ghost use Rattle.linked_starts.specs.Parts.{PartSeen};
+    ghost use Rattle.linked_starts.specs.Placing.{words_at};
     ghost use Rattle.component_file.specs.Limits.{IsComponent};
 
     ghost Value = { PartSeen };
@@ -481,7 +471,7 @@ impl<'a> Model for Words<'a> {
     ghost use Rattle.cap_words.specs.declared.Word.{Word};
     ghost use Rattle.cap_words.specs.WordBytes.{WordFits, IsUnsealed};
     ghost use Rattle.component_file.specs.Limits.{Each};
-    ghost use Rattle.component_linker.specs.Placing.{words_at};
+    ghost use Rattle.linked_starts.specs.Placing.{words_at};
 
     ghost Value = { List Word };
 

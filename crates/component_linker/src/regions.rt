@@ -2,14 +2,15 @@
 ghost use Rattle.std.specs.Prelude.{◌≡◌, ◌<◌, ◌≤◌, ℕ, take, length, slice_index_or, None};
 ghost use Rattle.std.specs.List.{list_any};
 ghost use Rattle.component_check.specs.Places.{first_place};
-ghost use Rattle.component_linker.specs.Regions.{stack_span};
-ghost use Rattle.component_linker.specs.Pairs.{first_in};
-ghost use Rattle.component_linker.specs.Links.{near, near_part, near_before, l1};
+ghost use Rattle.linked_starts.specs.Regions.{stack_span};
+ghost use Rattle.linked_starts.specs.Pairs.{first_in};
+ghost use Rattle.linked_starts.specs.Links.{near, near_part, near_before, l1};
 
-use crate::pairs::{PartPlace, first_in, once};
+use crate::pairs::{first_in, once};
 use crate::placed::PlacedParts;
 use component_check::first_place;
 use lcm_machine::Span;
+use linked_starts::PartPlace;
 
 // Whether no address is between two spans, or they share one.
 fn near(a: Option<Span>, b: Option<Span>) -> bool

@@ -2,18 +2,18 @@
 ghost use Rattle.std.specs.Prelude.{◌≡◌, ◌<◌, ◌≤◌, ℕ, length, slice_get, take, ◌&&◌, sum_by};
 ghost use Rattle.std.specs.List.{list_any};
 ghost use Rattle.component_check.specs.Places.{first_place};
-ghost use Rattle.component_linker.specs.Start.{is_main};
-ghost use Rattle.component_linker.specs.Regions.{is_stack_size};
-ghost use Rattle.component_linker.specs.Pairs.{first_in, passes};
-ghost use Rattle.component_linker.specs.Links.{has_main, sites_upto, trusted_sites, l6, l8, l9};
+ghost use Rattle.linked_starts.specs.Start.{is_main};
+ghost use Rattle.linked_starts.specs.Regions.{is_stack_size};
+ghost use Rattle.linked_starts.specs.Pairs.{first_in, passes};
+ghost use Rattle.linked_starts.specs.Links.{has_main, sites_upto, trusted_sites, l6, l8, l9};
 
-use crate::MOST_PARTS;
 use crate::names::is_main;
-use crate::pairs::{PartPlace, first_in, once};
+use crate::pairs::{first_in, once};
 use crate::placed::{Placed, PlacedParts, is_stack_size};
 use cap_words::LAST_PLACE;
 use component_check::first_place;
 use component_file::{Export, MOST_SITES};
+use linked_starts::{MOST_PARTS, PartPlace};
 
 fn has_main(part: &Placed) -> bool
     ensures { result ≡ list_any is_main part.now.component.exports }

@@ -12,10 +12,10 @@ use Rattle.component_check.specs.Places.{Test}
 use Rattle.component_check.specs.Verdict.{rule}
 use Rattle.component_check.specs.Rules.{rules_c, c12}
 use Rattle.call_sequence.specs.SequenceWords.{IsInRange}
-use Rattle.component_linker.specs.Parts.{PartSeen, IsPart, rules_of}
-use Rattle.component_linker.specs.Regions.{region, code_span, data_span, linear_span, part_regions, in_region}
-use Rattle.component_linker.specs.Regions.{in_regions}
-use Rattle.component_linker.proofs.Offers.{in_regions_is, in_stretch, stretch_of}
+use Rattle.linked_starts.specs.Parts.{PartSeen, IsPart, rules_of}
+use Rattle.linked_starts.specs.Regions.{region, code_span, data_span, linear_span, part_regions, in_region}
+use Rattle.linked_starts.specs.Regions.{in_regions}
+use Rattle.linked_starts.proofs.Offers.{in_regions_is, in_stretch, stretch_of}
 use Rattle.overlay_machine.specs.Link.{Link, IsTrusted, IsUntrusted, IsUsable, own_code, own_data, own_linear}
 use Rattle.overlay_machine.specs.Link.{the_stack, IsOpenAt, code_region, data_region, regions, ranges_of}
 use Rattle.overlay_machine.specs.Linked.{Linked}

@@ -18,9 +18,9 @@ use Rattle.lcm_machine.specs.Run.{moved, next_by, next_state, plain, fresh}
 use Rattle.lcm_machine.specs.Touched.{Touches}
 use Rattle.lcm_machine.specs.Acts.{May}
 use Rattle.lcm_machine.proofs.Offers.{run_one, run_then, touched_by, writes_where_it_may}
-use Rattle.component_linker.specs.Owners.{AreSites}
-use Rattle.component_linker.specs.Parts.{PartSeen}
-use Rattle.component_linker.specs.Started.{StartSeen}
+use Rattle.linked_starts.specs.Owners.{AreSites}
+use Rattle.linked_starts.specs.Parts.{PartSeen}
+use Rattle.linked_starts.specs.Started.{StartSeen}
 use Rattle.overlay_machine.specs.Words.{look}
 use Rattle.overlay_machine.specs.Runs.{plain_run}
 use Rattle.overlay_machine.specs.Link.{Link, IsTrusted}
@@ -28,10 +28,10 @@ use Rattle.overlay_machine.specs.Safe.{IsSafeCap}
 use Rattle.overlay_machine.specs.Keeping.{link_of, HoldsFor}
 use Rattle.overlay_machine.specs.Starting.{overlay_at, AgreesFromStart}
 use Rattle.overlay_machine.proofs.Offers.{looks, mem_of_face, mem_safe, target_reg}
-use Rattle.trace_tool.specs.Layout.{layout}
-use Rattle.trace_tool.specs.Brackets.{LinesAreBracketed}
-use Rattle.trace_tool.specs.Headline.{Headline}
-use Rattle.trace_tool.specs.OpenCalls.{after}
+use Rattle.run_lines.specs.Layout.{layout}
+use Rattle.headline.specs.Brackets.{LinesAreBracketed}
+use Rattle.headline.specs.Headline.{Headline}
+use Rattle.headline.specs.OpenCalls.{after}
 use Rattle.authority_report.specs.Bounds.{RunsWithin}
 use Rattle.confinement.specs.Confined.{InPart, IsLeftToIt, TouchesNoMore, CodeStays, PartsStay}
 use Rattle.confinement.specs.Confined.{CodeOutsideIsConfined}

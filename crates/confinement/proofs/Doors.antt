@@ -26,14 +26,14 @@ use Rattle.lcm_machine.specs.Acts.{Fetches}
 use Rattle.lcm_machine.proofs.Offers.{after_went, fetch_mapped, fetched_row, row_keeps, run_one, fetch_normal}
 use Rattle.lcm_machine.proofs.Offers.{run_then, used_target}
 use Rattle.call_sequence.specs.declared.TheConstants.{CALL_WORDS, RETURN_WORDS}
-use Rattle.flow_check.specs.Holds.{code_at}
-use Rattle.flow_check.specs.Places.{begins_entry}
-use Rattle.component_linker.specs.declared.owners.Site.{Site}
-use Rattle.component_linker.specs.Owners.{AreSites}
-use Rattle.component_linker.specs.Parts.{PartSeen}
-use Rattle.component_linker.specs.Start.{data_of}
-use Rattle.component_linker.specs.Started.{StartSeen}
-use Rattle.component_linker.proofs.Offers.{sites_in}
+use Rattle.flow_rules.specs.Holds.{code_at}
+use Rattle.flow_rules.specs.Places.{begins_entry}
+use Rattle.linked_starts.specs.declared.owners.Site.{Site}
+use Rattle.linked_starts.specs.Owners.{AreSites}
+use Rattle.linked_starts.specs.Parts.{PartSeen}
+use Rattle.linked_starts.specs.Start.{data_of}
+use Rattle.linked_starts.specs.Started.{StartSeen}
+use Rattle.linked_starts.proofs.Offers.{sites_in}
 use Rattle.trusted_border.specs.declared.layout.Layout.{Layout}
 use Rattle.trusted_border.specs.declared.layout.SiteCode.{SiteCode}
 use Rattle.trusted_border.specs.Layout.{site_code}
@@ -56,9 +56,9 @@ use Rattle.overlay_machine.proofs.Offers.{any_of, beside-none, frame_in, frame_o
 use Rattle.overlay_machine.proofs.Offers.{leads_to, Leads_to, listed_at, looks, mem_of_face, mem_safe}
 use Rattle.overlay_machine.proofs.Offers.{one_part, open_safe, plain_is, ready, returned, safe_closed}
 use Rattle.overlay_machine.proofs.Offers.{target_bounds, target_reg, to_entry, to_safe, went_other}
-use Rattle.trace_tool.specs.Layout.{layout, part_name}
-use Rattle.trace_tool.specs.Brackets.{lines_told, LinesAreBracketed}
-use Rattle.trace_tool.specs.Headline.{Headline}
+use Rattle.run_lines.specs.Layout.{layout, part_name}
+use Rattle.headline.specs.Brackets.{lines_told, LinesAreBracketed}
+use Rattle.headline.specs.Headline.{Headline}
 use Rattle.confinement.specs.Confined.{InCode, Enters, AtExport, AtReturnPoint}
 use Rattle.confinement.proofs.Jumping.{id, Jumped, xjmp_jumped, fetched_is, fetched_at, fetched_in}
 use Rattle.confinement.proofs.Pairs.{OfPair, of_pair}

@@ -10,8 +10,8 @@ use Rattle.lcm_machine.specs.Run.{Run, plain, fresh, EndsAs}
 use Rattle.lcm_machine.specs.Runs.{run_of}
 use Rattle.lcm_machine.specs.Acts.{Fetches}
 use Rattle.lcm_machine.proofs.Offers.{plain_ends, run_one, run_then}
-use Rattle.component_linker.specs.Parts.{PartSeen}
-use Rattle.component_linker.specs.Started.{StartSeen}
+use Rattle.linked_starts.specs.Parts.{PartSeen}
+use Rattle.linked_starts.specs.Started.{StartSeen}
 use Rattle.overlay_machine.specs.State.{OState}
 use Rattle.overlay_machine.specs.Step.{weight_of}
 use Rattle.overlay_machine.specs.Runs.{Reached, plain_run}
@@ -19,13 +19,13 @@ use Rattle.overlay_machine.specs.Link.{Link}
 use Rattle.overlay_machine.specs.Invariant.{Invariant}
 use Rattle.overlay_machine.specs.Keeping.{link_of, HoldsFor}
 use Rattle.overlay_machine.specs.Starting.{overlay_at, AgreesFromStart}
-use Rattle.trace_tool.specs.Layout.{layout}
-use Rattle.trace_tool.specs.Runs.{written}
-use Rattle.trace_tool.specs.Brackets.{lines_told, LinesAreBracketed}
-use Rattle.trace_tool.specs.OpenCalls.{open_behind, after}
-use Rattle.trace_tool.specs.Cuts.{cut, cut_overlay}
-use Rattle.trace_tool.specs.Headline.{WithinStep, Headline}
-use Rattle.trace_tool.proofs.Offers.{open_is}
+use Rattle.run_lines.specs.Layout.{layout}
+use Rattle.run_lines.specs.Runs.{written}
+use Rattle.headline.specs.Brackets.{lines_told, LinesAreBracketed}
+use Rattle.headline.specs.OpenCalls.{open_behind, after}
+use Rattle.run_lines.specs.Cuts.{cut, cut_overlay}
+use Rattle.headline.specs.Headline.{WithinStep, Headline}
+use Rattle.headline.proofs.Offers.{open_is}
 use Rattle.confinement.specs.Confined.{ComesFromOutside}
 use Rattle.confinement.proofs.Jumping.{id}
 use Rattle.confinement.proofs.Areas.{away}

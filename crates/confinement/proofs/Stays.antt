@@ -19,16 +19,16 @@ use Rattle.lcm_isa.specs.declared.Reg.TheVariants.{G0, G1, G2}
 use Rattle.lcm_machine.specs.Maps.{Regs}
 use Rattle.lcm_machine.specs.Places.{reg}
 use Rattle.lcm_machine.specs.Regions.{Region}
-use Rattle.component_linker.specs.Parts.{PartSeen, IsPart, rules_of}
-use Rattle.component_linker.specs.Regions.{code_span, region, in_regions, stack_span, is_stack_size}
-use Rattle.component_linker.specs.Start.{Exported, code_of, data_of, stack_of, start_regs, stack_base_of}
-use Rattle.component_linker.specs.Start.{start_cell}
-use Rattle.component_linker.specs.Started.{StartSeen}
-use Rattle.component_linker.specs.LinkedStarts.{IsLinkedStart}
-use Rattle.component_linker.proofs.Offers.{CellIs, of_code, of_data, of_slot, of_none, cell_is, main_is_there}
-use Rattle.component_linker.proofs.Offers.{OwnCap, over_code, over_data, over_linear, OwnWord}
-use Rattle.component_linker.proofs.Offers.{own_code as own_code_word, own_data as own_data_word, data_number}
-use Rattle.component_linker.proofs.Offers.{are_linked, stack_is, in_stretch, whole, listed_at}
+use Rattle.linked_starts.specs.Parts.{PartSeen, IsPart, rules_of}
+use Rattle.linked_starts.specs.Regions.{code_span, region, in_regions, stack_span, is_stack_size}
+use Rattle.linked_starts.specs.Start.{Exported, code_of, data_of, stack_of, start_regs, stack_base_of}
+use Rattle.linked_starts.specs.Start.{start_cell}
+use Rattle.linked_starts.specs.Started.{StartSeen}
+use Rattle.linked_starts.specs.LinkedStarts.{IsLinkedStart}
+use Rattle.linked_starts.proofs.Offers.{CellIs, of_code, of_data, of_slot, of_none, cell_is, main_is_there}
+use Rattle.linked_starts.proofs.Offers.{OwnCap, over_code, over_data, over_linear, OwnWord}
+use Rattle.linked_starts.proofs.Offers.{own_code as own_code_word, own_data as own_data_word, data_number}
+use Rattle.linked_starts.proofs.Offers.{are_linked, stack_is, in_stretch, whole, listed_at}
 use Rattle.overlay_machine.specs.Link.{Link, IsTrusted, IsUntrusted, IsUsable, own_code, own_data, own_linear}
 use Rattle.overlay_machine.specs.Link.{the_stack, code_region, data_region, stack_region}
 use Rattle.overlay_machine.specs.Linked.{Linked}

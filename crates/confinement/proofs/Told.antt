@@ -12,8 +12,8 @@ use Rattle.lcm_machine.specs.declared.Place.TheVariants.{R}
 use Rattle.lcm_machine.specs.Maps.{State}
 use Rattle.lcm_machine.specs.Places.{reg}
 use Rattle.lcm_machine.specs.Row.{faces}
-use Rattle.component_linker.specs.declared.owners.Owner.{Owner}
-use Rattle.component_linker.specs.declared.owners.Site.{Site}
+use Rattle.linked_starts.specs.declared.owners.Owner.{Owner}
+use Rattle.linked_starts.specs.declared.owners.Site.{Site}
 use Rattle.trusted_border.specs.declared.layout.Layout.{Layout}
 use Rattle.trusted_border.specs.declared.layout.SiteCode.{SiteCode}
 use Rattle.trusted_border.specs.Layout.{is_code, with_code, code_in, site_code}
@@ -27,8 +27,8 @@ use Rattle.overlay_machine.specs.Safe.{IsSafeCap, IsSafe}
 use Rattle.overlay_machine.specs.Invariant.{FramesLie, Invariant}
 use Rattle.overlay_machine.proofs.Offers.{below_all, contains_first, contains_rest, lies_of, has_word}
 use Rattle.overlay_machine.proofs.Offers.{framed_at, looks, mem_of_face, mem_safe, target_bounds}
-use Rattle.trace_tool.specs.OpenCalls.{LineTold}
-use Rattle.trace_tool.specs.Brackets.{line_told, lines_told}
+use Rattle.headline.specs.OpenCalls.{LineTold}
+use Rattle.headline.specs.Brackets.{line_told, lines_told}
 use Rattle.confinement.proofs.Jumping.{id}
 
 -- ---- frames and lines

@@ -14,17 +14,17 @@ use Rattle.lcm_machine.specs.Touched.{Touches}
 use Rattle.lcm_machine.specs.Acts.{Fetches}
 use Rattle.call_sequence.specs.declared.TheConstants.{CALL_WORDS, RETURN_WORDS}
 use Rattle.call_sequence.specs.SequenceRuns.{stack_cap}
-use Rattle.component_linker.specs.declared.owners.Site.{Site}
-use Rattle.component_linker.specs.Parts.{PartSeen}
-use Rattle.component_linker.specs.Regions.{code_span, region, part_regions, in_regions}
-use Rattle.component_linker.specs.Standing.{placed}
-use Rattle.component_linker.specs.Start.{data_of}
-use Rattle.component_linker.specs.Started.{StartSeen}
-use Rattle.component_linker.specs.LinkedStarts.{IsLinkedStart}
-use Rattle.trace_tool.specs.Layout.{layout, part_name}
-use Rattle.trace_tool.specs.Runs.{written}
-use Rattle.trace_tool.specs.OpenCalls.{LineTold, open_behind, after}
-use Rattle.trace_tool.specs.Secrecy.{InRanges}
+use Rattle.linked_starts.specs.declared.owners.Site.{Site}
+use Rattle.linked_starts.specs.Parts.{PartSeen}
+use Rattle.linked_starts.specs.Regions.{code_span, region, part_regions, in_regions}
+use Rattle.linked_starts.specs.Standing.{placed}
+use Rattle.linked_starts.specs.Start.{data_of}
+use Rattle.linked_starts.specs.Started.{StartSeen}
+use Rattle.linked_starts.specs.LinkedStarts.{IsLinkedStart}
+use Rattle.run_lines.specs.Layout.{layout, part_name}
+use Rattle.run_lines.specs.Runs.{written}
+use Rattle.headline.specs.OpenCalls.{LineTold, open_behind, after}
+use Rattle.headline.specs.Secrecy.{InRanges}
 
 -- ---- parts and their addresses
 

@@ -2,8 +2,8 @@
 ghost use Rattle.confinement.specs.Confined.{AllCodeOutsideIsConfined};
 
 use authority_report::laws::words_bound_runs;
+use headline::laws::{lines_are_bracketed, the_headline};
 use overlay_machine::laws::{a_start_has_one_overlay, linked_starts_agree, starts_begin};
-use trace_tool::laws::{lines_are_bracketed, the_headline};
 
 /// From every linked start, code outside touches nothing of a trusted part and no open call's range, and
 /// enters trusted parts at exports and return points alone: isolation.

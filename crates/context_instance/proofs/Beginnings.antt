@@ -14,20 +14,20 @@ use Rattle.component_file.specs.Limits.{IsComponent}
 use Rattle.component_check.specs.Verdict.{NoneBroken, check_from}
 use Rattle.component_check.specs.Rules.{rules_c}
 use Rattle.call_sequence.specs.Sequences.{call_code, return_code, entry_code}
-use Rattle.flow_check.specs.Verdict.{IsKept}
-use Rattle.component_linker.specs.Parts.{PartSeen, IsPart}
-use Rattle.component_linker.specs.Pairs.{NoneIsBroken, IsFirstBrokenIn, by_part}
-use Rattle.component_linker.specs.Links.{rules_l, rule_at, l10}
-use Rattle.component_linker.specs.Regions.{regions_of, region_span, stack_span}
-use Rattle.component_linker.specs.Standing.{placed}
-use Rattle.component_linker.specs.Start.{Exported, main_of, start_cell, start_regs, IsStart}
-use Rattle.component_linker.specs.Started.{StartSeen, Starts}
-use Rattle.component_linker.specs.Linked as linked
-use Rattle.component_linker.specs.LinkedStarts.{IsLinkedStart, IsStartOf}
-use Rattle.component_linker.specs.Owners.{AreSites, IsSite}
-use Rattle.component_linker.specs.declared.owners.Site.{Site}
-use Rattle.component_linker.proofs.Offers.{first_broken_in, are_linked, filled, cells_filled, owners_of}
-use Rattle.component_linker.proofs.Offers.{owners_are, no_rule}
+use Rattle.flow_rules.specs.Verdict.{IsKept}
+use Rattle.linked_starts.specs.Parts.{PartSeen, IsPart}
+use Rattle.linked_starts.specs.Pairs.{NoneIsBroken, IsFirstBrokenIn, by_part}
+use Rattle.linked_starts.specs.Links.{rules_l, rule_at, l10}
+use Rattle.linked_starts.specs.Regions.{regions_of, region_span, stack_span}
+use Rattle.linked_starts.specs.Standing.{placed}
+use Rattle.linked_starts.specs.Start.{Exported, main_of, start_cell, start_regs, IsStart}
+use Rattle.linked_starts.specs.Started.{StartSeen, Starts}
+use Rattle.linked_starts.specs.Linked as linked
+use Rattle.linked_starts.specs.LinkedStarts.{IsLinkedStart, IsStartOf}
+use Rattle.linked_starts.specs.Owners.{AreSites, IsSite}
+use Rattle.linked_starts.specs.declared.owners.Site.{Site}
+use Rattle.linked_starts.proofs.Offers.{first_broken_in, are_linked, filled, cells_filled, owners_of}
+use Rattle.linked_starts.proofs.Offers.{owners_are, no_rule}
 use Rattle.overlay_machine.specs.Link.{IsUntrusted}
 use Rattle.proc_names.specs.Names.{variable_named}
 use Rattle.proc_templates.specs.Items.{put, instrs}

@@ -1,10 +1,10 @@
 -- Sources that mean the same can't be told apart.
 use Rattle.std.proofs.Common.{◌≡◌, ℕ, [], map, true, sym, ap, ◌∙◌}
-use Rattle.component_linker.specs.Parts.{PartSeen}
-use Rattle.component_linker.specs.Started.{StartSeen}
+use Rattle.linked_starts.specs.Parts.{PartSeen}
+use Rattle.linked_starts.specs.Started.{StartSeen}
 use Rattle.overlay_machine.specs.Link.{IsUntrusted}
 use Rattle.overlay_machine.specs.Starting.{overlay_at, StartsBegin}
-use Rattle.trace_tool.specs.Layout.{layout}
+use Rattle.run_lines.specs.Layout.{layout}
 use Rattle.template_runs.specs.Runs.{is_inside}
 use Rattle.proc_program.specs.Lower.{part_of}
 use Rattle.proc_semantics.specs.Values.{World}

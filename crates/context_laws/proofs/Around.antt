@@ -11,16 +11,16 @@ use Rattle.lcm_machine.specs.declared.cells.Span.{Span}
 use Rattle.component_check.specs.Rules.{rules_c, c12}
 use Rattle.component_check.specs.Verdict.{rule}
 use Rattle.call_sequence.specs.SequenceRuns.{IsOutsideRange}
-use Rattle.component_linker.specs.Parts.{PartSeen, IsPart}
-use Rattle.component_linker.specs.Regions.{region, code_span, data_span, linear_span, stack_span}
-use Rattle.component_linker.specs.Regions.{part_regions, in_region, in_regions, region_span, is_stack_size}
-use Rattle.component_linker.specs.Regions.{addresses}
-use Rattle.component_linker.specs.Standing.{placed}
-use Rattle.component_linker.specs.Start.{stack_base_of}
-use Rattle.component_linker.specs.Started.{StartSeen}
-use Rattle.component_linker.specs.LinkedStarts.{IsStartOf}
-use Rattle.component_linker.proofs.Offers.{stack_bases, stack_fits, stack_is, region_cases, stretch_of}
-use Rattle.component_linker.proofs.Offers.{listed_at}
+use Rattle.linked_starts.specs.Parts.{PartSeen, IsPart}
+use Rattle.linked_starts.specs.Regions.{region, code_span, data_span, linear_span, stack_span}
+use Rattle.linked_starts.specs.Regions.{part_regions, in_region, in_regions, region_span, is_stack_size}
+use Rattle.linked_starts.specs.Regions.{addresses}
+use Rattle.linked_starts.specs.Standing.{placed}
+use Rattle.linked_starts.specs.Start.{stack_base_of}
+use Rattle.linked_starts.specs.Started.{StartSeen}
+use Rattle.linked_starts.specs.LinkedStarts.{IsStartOf}
+use Rattle.linked_starts.proofs.Offers.{stack_bases, stack_fits, stack_is, region_cases, stretch_of}
+use Rattle.linked_starts.proofs.Offers.{listed_at}
 use Rattle.overlay_machine.specs.Link.{Link, IsTrusted, IsUntrusted, IsUsable, own_code, own_data, own_linear}
 use Rattle.overlay_machine.specs.Link.{the_stack, regions, ranges_of, stack_region, code_region, data_region}
 use Rattle.overlay_machine.specs.Linked.{Linked}

@@ -1,13 +1,13 @@
 -- Sources that mean the same can't be told apart, where main is theirs.
 use Rattle.std.proofs.Common.{◌≡◌, ℕ, ◌+◌, [], ◌∷◌, map, Some, true, refl, sym, ap, ◌∙◌, subst, arith}
 use Rattle.std.specs.Prelude.{slice_get}
-use Rattle.component_linker.specs.Standing.{placed}
+use Rattle.linked_starts.specs.Standing.{placed}
 use Rattle.overlay_machine.specs.State.{OState}
 use Rattle.overlay_machine.specs.Events.{step_event}
 use Rattle.overlay_machine.specs.Link.{Link}
 use Rattle.overlay_machine.specs.Runs.{Reached, goes_on}
 use Rattle.overlay_machine.specs.Starting.{overlay_at}
-use Rattle.trace_tool.specs.Layout.{layout}
+use Rattle.run_lines.specs.Layout.{layout}
 use Rattle.template_runs.specs.Runs.{is_inside}
 use Rattle.template_runs.specs.Border.{Shows}
 use Rattle.proc_program.specs.Lower.{part_of}

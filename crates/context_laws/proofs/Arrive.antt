@@ -10,7 +10,7 @@ use Rattle.cap_words.specs.declared.Sealable.TheVariants.{Mem as MemIn, Seal as 
 use Rattle.cap_words.specs.declared.CapFields.{CapFields}
 use Rattle.cap_words.specs.Linear.{is_linear, left_of}
 use Rattle.call_sequence.specs.SequenceRuns.{stack_cap}
-use Rattle.component_linker.specs.Start.{Exported, code_of, data_of}
+use Rattle.linked_starts.specs.Start.{Exported, code_of, data_of}
 use Rattle.lcm_isa.specs.declared.Reg.{Reg}
 use Rattle.lcm_isa.specs.declared.Reg.TheVariants.{Pc, Rcode, Rdata, Stk, Dat, T1, T2, C1, C2, A0, A1, A2, A3}
 use Rattle.lcm_isa.specs.declared.Reg.TheVariants.{G0, G1, G2}
@@ -22,7 +22,7 @@ use Rattle.overlay_machine.specs.declared.words.OWord.TheVariants.{Plain}
 use Rattle.overlay_machine.specs.Words.{look}
 use Rattle.overlay_machine.specs.State.{OpenFrame, OState}
 use Rattle.overlay_machine.specs.Link.{Link, IsTrusted, ranges_of, regions}
-use Rattle.component_linker.specs.Regions.{in_regions}
+use Rattle.linked_starts.specs.Regions.{in_regions}
 use Rattle.overlay_machine.specs.Invariant.{Invariant}
 use Rattle.lcm_machine.specs.Maps.{State}
 use Rattle.std.proofs.lemmas.Bool.{and_parts}

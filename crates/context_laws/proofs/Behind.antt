@@ -7,9 +7,9 @@ use Rattle.std.specs.Prelude.{is_some}
 use Rattle.cap_words.specs.declared.Word.TheVariants.{Mem}
 use Rattle.call_sequence.specs.SequenceRuns.{IsOutsideRange, stack_cap}
 use Rattle.lcm_machine.specs.Cells.{cell}
-use Rattle.component_linker.specs.Parts.{PartSeen}
-use Rattle.component_linker.specs.Started.{StartSeen}
-use Rattle.component_linker.specs.LinkedStarts.{IsStartOf}
+use Rattle.linked_starts.specs.Parts.{PartSeen}
+use Rattle.linked_starts.specs.Started.{StartSeen}
+use Rattle.linked_starts.specs.LinkedStarts.{IsStartOf}
 use Rattle.overlay_machine.specs.declared.words.OWord.{OWord}
 use Rattle.overlay_machine.specs.declared.words.OWord.TheVariants.{Plain}
 use Rattle.overlay_machine.specs.State.{OpenFrame, OState, frame_of}
@@ -17,7 +17,7 @@ use Rattle.overlay_machine.specs.Link.{Link}
 use Rattle.overlay_machine.specs.Linked.{Linked}
 use Rattle.overlay_machine.specs.Runs.{Reached, goes_on}
 use Rattle.overlay_machine.specs.Starting.{overlay_at}
-use Rattle.trace_tool.specs.Layout.{layout}
+use Rattle.run_lines.specs.Layout.{layout}
 use Rattle.template_runs.specs.Public.{IsFreeAt}
 use Rattle.template_runs.specs.Border.{zero, Shows, Wiped, low_at}
 use Rattle.proc_language.specs.declared.module.ModuleFields.{ModuleFields}

@@ -9,13 +9,13 @@ use Rattle.std.proofs.lemmas.Option.{slice_get_within}
 use Rattle.component_file.specs.declared.component.Import.{Import}
 use Rattle.component_file.specs.declared.component.Export.{Export}
 use Rattle.component_file.proofs.Offers.{inside}
-use Rattle.component_linker.specs.Parts.{PartSeen}
-use Rattle.component_linker.specs.Standing.{placed}
-use Rattle.component_linker.specs.Start.{Exported, exported_by, export_that, part_named, imported, same_name}
-use Rattle.component_linker.specs.Started.{StartSeen}
-use Rattle.component_linker.specs.LinkedStarts.{IsStartOf}
-use Rattle.component_linker.specs.declared.owners.Site.{Site}
-use Rattle.component_linker.proofs.Offers.{listed_at}
+use Rattle.linked_starts.specs.Parts.{PartSeen}
+use Rattle.linked_starts.specs.Standing.{placed}
+use Rattle.linked_starts.specs.Start.{Exported, exported_by, export_that, part_named, imported, same_name}
+use Rattle.linked_starts.specs.Started.{StartSeen}
+use Rattle.linked_starts.specs.LinkedStarts.{IsStartOf}
+use Rattle.linked_starts.specs.declared.owners.Site.{Site}
+use Rattle.linked_starts.proofs.Offers.{listed_at}
 use Rattle.trusted_border.specs.declared.layout.Layout.{Layout}
 use Rattle.trusted_border.specs.declared.layout.SiteCode.{SiteCode}
 use Rattle.trusted_border.specs.Layout.{site_code, code_in}
@@ -30,7 +30,7 @@ use Rattle.context_laws.proofs.Sources.{StartsAgree, linked_is}
 use Rattle.overlay_machine.proofs.Offers.{contains_first, contains_rest, index_of, found_is}
 use Rattle.overlay_machine.proofs.Offers.{starts_tell_names}
 use Rattle.lcm_machine.proofs.Offers.{contains_cases, contains_none}
-use Rattle.trace_tool.specs.Layout.{layout, part_name, site_of}
+use Rattle.run_lines.specs.Layout.{layout, part_name, site_of}
 use Rattle.proc_language.specs.declared.module.ModuleFields.{ModuleFields}
 use Rattle.proc_program.specs.declared.program.Procedure.{Procedure}
 use Rattle.proc_program.specs.Lower.{part_of}

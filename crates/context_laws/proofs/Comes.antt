@@ -14,7 +14,7 @@ use Rattle.lcm_machine.specs.Maps.{State}
 use Rattle.lcm_machine.specs.Places.{reg}
 use Rattle.lcm_machine.specs.Row.{faces, opens, cell_faces, fetch, some}
 use Rattle.lcm_machine.proofs.Offers.{is_none}
-use Rattle.component_linker.specs.declared.owners.Owner.{Owner}
+use Rattle.linked_starts.specs.declared.owners.Owner.{Owner}
 use Rattle.trusted_border.specs.declared.events.Event.TheVariants.{Returned}
 use Rattle.trusted_border.specs.Reaches.{closure_owner}
 use Rattle.overlay_machine.specs.declared.cases.Case.TheVariants.{Back, Other}

@@ -5,7 +5,7 @@ use Rattle.std.specs.Prelude.{is_some, if◌then◌else◌, option_and_then}
 use Rattle.cap_words.specs.Faces.{address}
 use Rattle.lcm_isa.specs.declared.Reg.TheVariants.{Pc}
 use Rattle.lcm_machine.specs.Row.{faces}
-use Rattle.component_linker.specs.declared.owners.Owner.{Owner}
+use Rattle.linked_starts.specs.declared.owners.Owner.{Owner}
 use Rattle.trusted_border.specs.declared.layout.Layout.{Layout}
 use Rattle.trusted_border.specs.declared.events.Event.{Event}
 use Rattle.trusted_border.specs.declared.events.Event.TheVariants.{Called, Left}

@@ -25,12 +25,12 @@ use Rattle.overlay_machine.specs.Link.{Link}
 use Rattle.overlay_machine.specs.Linked.{Linked}
 use Rattle.overlay_machine.specs.Safe.{IsOpenSeal, IsMet}
 use Rattle.overlay_machine.proofs.Offers.{map_get}
-use Rattle.trace_tool.specs.Layout.{part_name, site_of}
+use Rattle.run_lines.specs.Layout.{part_name, site_of}
 use Rattle.source_events.specs.declared.OutArg.TheVariants.{Int as IntArg, Half}
 use Rattle.source_events.specs.declared.OutEvent.{OutEvent}
 use Rattle.source_events.specs.declared.OutEvent.TheVariants.{LeaveOut}
 use Rattle.source_events.specs.Outs.{out_arg}
-use Rattle.trace_tool.specs.Feed.{integer_in}
+use Rattle.run_lines.specs.Feed.{integer_in}
 use Rattle.template_runs.specs.Border.{Opened, code_word, half_word, content_of, ShowsCall, ShowsLeave}
 use Rattle.template_runs.specs.Border.{ShowsBy, by_call, by_leave, Shows}
 use Rattle.proc_semantics.specs.Marked.{Arg, Number, OfPair, Event, Calls, Leaves, Whence, arg_to, event_to}

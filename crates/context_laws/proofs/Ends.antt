@@ -7,9 +7,9 @@ use Rattle.lcm_isa.specs.declared.Reg.TheVariants.{A0}
 use Rattle.lcm_machine.specs.declared.End.{End}
 use Rattle.lcm_machine.specs.declared.End.TheVariants.{Halted, Failed}
 use Rattle.lcm_machine.specs.Run.{plain, answer_by}
-use Rattle.component_linker.specs.Parts.{PartSeen}
-use Rattle.component_linker.specs.Standing.{placed}
-use Rattle.component_linker.specs.Started.{StartSeen}
+use Rattle.linked_starts.specs.Parts.{PartSeen}
+use Rattle.linked_starts.specs.Standing.{placed}
+use Rattle.linked_starts.specs.Started.{StartSeen}
 use Rattle.overlay_machine.specs.State.{OState}
 use Rattle.overlay_machine.specs.Link.{Link, IsUntrusted}
 use Rattle.overlay_machine.proofs.Offers.{any_is, any_of}
@@ -17,12 +17,12 @@ use Rattle.template_runs.specs.Runs.{is_inside}
 use Rattle.std.specs.Prelude.{not}
 use Rattle.std.specs.List.{list_any}
 use Rattle.overlay_machine.specs.Starting.{overlay_at, StartsBegin}
-use Rattle.trace_tool.specs.Layout.{layout}
-use Rattle.trace_tool.specs.Views.{flat_view}
-use Rattle.trace_tool.specs.Cuts.{cut, cut_overlay, StopsAreCuts}
-use Rattle.trace_tool.specs.Runs.{written}
-use Rattle.trace_tool.specs.Headline.{Matched, OverlayHalts, OverlayFails, Headline, HeadlineHolds}
-use Rattle.trace_tool.proofs.Offers.{reached_by}
+use Rattle.run_lines.specs.Layout.{layout}
+use Rattle.run_lines.specs.Views.{flat_view}
+use Rattle.run_lines.specs.Cuts.{Matched, cut, cut_overlay, StopsAreCuts}
+use Rattle.run_lines.specs.Runs.{written}
+use Rattle.headline.specs.Headline.{OverlayHalts, OverlayFails, Headline, HeadlineHolds}
+use Rattle.run_lines.proofs.Offers.{reached_by}
 use Rattle.proc_program.specs.Lower.{part_of}
 use Rattle.proc_semantics.specs.Values.{World}
 use Rattle.source_starts.specs.Sources.{linked_at, SourcesLeaveNothing}

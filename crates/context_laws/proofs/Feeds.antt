@@ -12,9 +12,9 @@ use Rattle.trusted_border.specs.declared.events.Event.TheVariants.{Called, Retur
 use Rattle.overlay_machine.specs.declared.words.OWord.{OWord}
 use Rattle.overlay_machine.specs.State.{OState}
 use Rattle.overlay_machine.specs.Events.{step_event}
-use Rattle.trace_tool.specs.Views.{View, flat_view}
-use Rattle.trace_tool.specs.Lines.{args_of}
-use Rattle.trace_tool.specs.Feed.{integer_in}
+use Rattle.run_lines.specs.Views.{View, flat_view}
+use Rattle.run_lines.specs.Lines.{args_of}
+use Rattle.run_lines.specs.Feed.{integer_in}
 use Rattle.source_events.specs.declared.Item.{Item}
 use Rattle.source_events.specs.declared.Item.TheVariants.{Enter, Ret}
 use Rattle.proc_semantics.specs.Values.{fits_64}

@@ -1,8 +1,8 @@
 -- Where sources let go for the first time.
 use Rattle.std.proofs.Common.{◌≤◌, ℕ, List, [], sym, ◌∙◌, subst, arith}
-use Rattle.component_linker.specs.Parts.{PartSeen}
-use Rattle.component_linker.specs.Started.{StartSeen}
-use Rattle.component_linker.specs.LinkedStarts.{IsStartOf}
+use Rattle.linked_starts.specs.Parts.{PartSeen}
+use Rattle.linked_starts.specs.Started.{StartSeen}
+use Rattle.linked_starts.specs.LinkedStarts.{IsStartOf}
 use Rattle.proc_language.specs.declared.module.ModuleFields.{ModuleFields}
 use Rattle.lcm_machine.specs.Cells.{cell}
 use Rattle.overlay_machine.specs.Link.{Link}

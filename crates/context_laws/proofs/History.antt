@@ -18,7 +18,7 @@ use Rattle.overlay_machine.specs.Events.{step_event}
 use Rattle.overlay_machine.specs.Link.{Link}
 use Rattle.overlay_machine.specs.Linked.{Linked}
 use Rattle.overlay_machine.specs.Names.{NamesTold}
-use Rattle.trace_tool.specs.Views.{flat_view}
+use Rattle.run_lines.specs.Views.{flat_view}
 use Rattle.source_events.specs.declared.Item.{Item}
 use Rattle.proc_semantics.specs.Marked.{Thing}
 use Rattle.source_laws.specs.Seen.{Back, thing_of, back_here, nothing_back}

@@ -10,9 +10,9 @@ use Rattle.component_file.specs.declared.component.Export.{Export}
 use Rattle.lcm_machine.specs.Places.{reg}
 use Rattle.lcm_machine.specs.Cells.{cell}
 use Rattle.lcm_machine.proofs.Offers.{contains_cases, contains_none}
-use Rattle.component_linker.specs.Parts.{PartSeen}
-use Rattle.component_linker.specs.Start.{Exported, code_half, data_half}
-use Rattle.component_linker.specs.declared.owners.Site.{Site}
+use Rattle.linked_starts.specs.Parts.{PartSeen}
+use Rattle.linked_starts.specs.Start.{Exported, code_half, data_half}
+use Rattle.linked_starts.specs.declared.owners.Site.{Site}
 use Rattle.trusted_border.specs.declared.layout.SiteCode.{SiteCode}
 use Rattle.trusted_border.specs.Layout.{site_code, code_in}
 use Rattle.overlay_machine.specs.declared.words.OWord.{OWord}

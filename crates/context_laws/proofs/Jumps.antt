@@ -22,8 +22,8 @@ use Rattle.lcm_machine.specs.Table.{need, ask, memory_content, runs_in, no_effec
 use Rattle.lcm_machine.specs.Runs.{code_cap}
 use Rattle.call_sequence.specs.SequenceRuns.{stack_cap}
 use Rattle.call_sequence.specs.declared.TheConstants.{CALL_WORDS}
-use Rattle.component_linker.specs.Parts.{PartSeen}
-use Rattle.component_linker.specs.Start.{Exported, code_half, data_half, code_of, data_of}
+use Rattle.linked_starts.specs.Parts.{PartSeen}
+use Rattle.linked_starts.specs.Start.{Exported, code_half, data_half, code_of, data_of}
 use Rattle.trusted_border.specs.declared.layout.SiteCode.{SiteCode}
 use Rattle.trusted_border.specs.Layout.{site_code}
 use Rattle.trusted_border.specs.Reaches.{jump_plan, plan_goes}

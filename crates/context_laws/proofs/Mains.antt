@@ -9,16 +9,16 @@ use Rattle.cap_words.specs.declared.Word.TheVariants.{Mem}
 use Rattle.cap_words.specs.declared.Perm.TheVariants.{Rx, Rwx}
 use Rattle.lcm_machine.specs.Row.{faces}
 use Rattle.component_file.specs.declared.component.Export.{Export}
-use Rattle.flow_check.specs.Holds.{code_at}
-use Rattle.component_linker.specs.Parts.{PartSeen}
-use Rattle.component_linker.specs.Standing.{placed}
-use Rattle.component_linker.specs.Links.{has_main}
-use Rattle.component_linker.specs.Start.{Exported, main_of, is_main, export_that, exported_by, start_regs}
-use Rattle.component_linker.specs.Start.{code_of}
-use Rattle.component_linker.specs.declared.owners.Owner.{Owner}
-use Rattle.component_linker.specs.Started.{StartSeen}
-use Rattle.component_linker.specs.LinkedStarts.{IsStartOf}
-use Rattle.component_linker.proofs.Offers.{given}
+use Rattle.flow_rules.specs.Holds.{code_at}
+use Rattle.linked_starts.specs.Parts.{PartSeen}
+use Rattle.linked_starts.specs.Standing.{placed}
+use Rattle.linked_starts.specs.Links.{has_main}
+use Rattle.linked_starts.specs.Start.{Exported, main_of, is_main, export_that, exported_by, start_regs}
+use Rattle.linked_starts.specs.Start.{code_of}
+use Rattle.linked_starts.specs.declared.owners.Owner.{Owner}
+use Rattle.linked_starts.specs.Started.{StartSeen}
+use Rattle.linked_starts.specs.LinkedStarts.{IsStartOf}
+use Rattle.linked_starts.proofs.Offers.{given}
 use Rattle.trusted_border.specs.Layout.{runs_part, trusted_owner}
 use Rattle.overlay_machine.specs.declared.words.OWord.TheVariants.{Plain}
 use Rattle.overlay_machine.specs.Words.{look}
@@ -26,7 +26,7 @@ use Rattle.overlay_machine.specs.Link.{Link, IsUntrusted, ranges_of}
 use Rattle.overlay_machine.specs.Linked.{any_pc}
 use Rattle.overlay_machine.specs.Starting.{overlay_at, StartsBegin}
 use Rattle.overlay_machine.proofs.Offers.{any_is, found_is, index_of, listed_at, crossing_code_is as code_is}
-use Rattle.trace_tool.specs.Layout.{layout}
+use Rattle.run_lines.specs.Layout.{layout}
 use Rattle.template_runs.specs.Runs.{is_inside}
 use Rattle.source_starts.specs.Sources.{linked_at, SourcesLeaveNothing}
 use Rattle.source_starts.proofs.Offers.{one_main}

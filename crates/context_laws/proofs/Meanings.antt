@@ -5,7 +5,7 @@ use Rattle.std.proofs.Common.{Some, None, true, false, refl, sym, ap, ◌∙◌,
 use Rattle.std.specs.Prelude.{slice_get, option_map, if◌then◌else◌}
 use Rattle.std.proofs.lemmas.Option.{slice_get-map, slice_get_within}
 use Rattle.std.proofs.lemmas.List.{append-nil, length-append, length-map, map-append}
-use Rattle.component_linker.specs.Standing.{placed}
+use Rattle.linked_starts.specs.Standing.{placed}
 use Rattle.overlay_machine.specs.declared.words.OWord.{OWord}
 use Rattle.overlay_machine.specs.State.{OState}
 use Rattle.overlay_machine.specs.Step.{Ending, goes, overlay_step}
@@ -15,8 +15,8 @@ use Rattle.overlay_machine.specs.Runs.{Reached, goes_on}
 use Rattle.overlay_machine.specs.Starting.{overlay_at}
 use Rattle.overlay_machine.proofs.Offers.{map_get}
 use Rattle.trusted_border.specs.declared.layout.Layout.{Layout}
-use Rattle.trace_tool.specs.Layout.{layout}
-use Rattle.trace_tool.specs.Views.{flat_view}
+use Rattle.run_lines.specs.Layout.{layout}
+use Rattle.run_lines.specs.Views.{flat_view}
 use Rattle.template_runs.specs.Runs.{is_inside}
 use Rattle.template_runs.proofs.Offers.{goes_same, halts_not, fails_not}
 use Rattle.proc_program.specs.Lower.{part_of}

@@ -9,13 +9,13 @@ use Rattle.std.proofs.lemmas.Option.{slice_get_within}
 use Rattle.cap_words.specs.declared.Word.{Word}
 use Rattle.lcm_machine.specs.Regions.{Region}
 use Rattle.lcm_machine.proofs.Offers.{contains_cases, contains_none}
-use Rattle.component_linker.specs.Parts.{PartSeen, IsPart}
-use Rattle.component_linker.specs.Pairs.{NoneIsBroken}
-use Rattle.component_linker.specs.Links.{rules_l}
-use Rattle.component_linker.specs.Regions.{part_regions}
-use Rattle.component_linker.specs.Start.{data_word, first_given, from, part_word}
-use Rattle.component_linker.proofs.Offers.{apart_parts, code_in, data_in, data_within, from_inv, given_by}
-use Rattle.component_linker.proofs.Offers.{is_kept, regions_apart, whole}
+use Rattle.linked_starts.specs.Parts.{PartSeen, IsPart}
+use Rattle.linked_starts.specs.Pairs.{NoneIsBroken}
+use Rattle.linked_starts.specs.Links.{rules_l}
+use Rattle.linked_starts.specs.Regions.{part_regions}
+use Rattle.linked_starts.specs.Start.{data_word, first_given, from, part_word}
+use Rattle.linked_starts.proofs.Offers.{apart_parts, code_in, data_in, data_within, from_inv, given_by}
+use Rattle.linked_starts.proofs.Offers.{is_kept, regions_apart, whole}
 use Rattle.overlay_machine.proofs.Offers.{contains_first, contains_rest, index_of}
 
 -- where a part has a word, there is a region of it

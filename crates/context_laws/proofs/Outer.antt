@@ -26,8 +26,8 @@ use Rattle.lcm_machine.specs.Row.{step_fetched, plan_in}
 use Rattle.lcm_machine.specs.Refusals.{HasFailed}
 use Rattle.lcm_machine.specs.Closed.{AllAre, OpensTo}
 use Rattle.lcm_machine.proofs.Offers.{fetch_normal, after_went, used_target, row_keeps}
-use Rattle.flow_check.specs.Holds.{PcAt}
-use Rattle.component_linker.specs.Parts.{PartSeen}
+use Rattle.flow_rules.specs.Holds.{PcAt}
+use Rattle.linked_starts.specs.Parts.{PartSeen}
 use Rattle.trusted_border.specs.declared.layout.SiteCode.{SiteCode}
 use Rattle.trusted_border.specs.Layout.{site_code}
 use Rattle.overlay_machine.specs.Invariant.{PcPart, at_fail, at_row, outside}
@@ -38,8 +38,8 @@ use Rattle.overlay_machine.specs.Words.{look}
 use Rattle.overlay_machine.specs.State.{OpenFrame, OState}
 use Rattle.overlay_machine.specs.Step.{case_of, case_fetched, step_by, other_step, overlay_step, with_frames}
 use Rattle.overlay_machine.specs.Step.{return_step}
-use Rattle.component_linker.specs.Regions.{in_regions}
-use Rattle.component_linker.proofs.Offers.{in_regions_is}
+use Rattle.linked_starts.specs.Regions.{in_regions}
+use Rattle.linked_starts.proofs.Offers.{in_regions_is}
 use Rattle.lcm_machine.specs.Cells.{cell}
 use Rattle.overlay_machine.specs.Link.{Link, IsTrusted, ranges_of, regions, data_region}
 use Rattle.overlay_machine.specs.Linked.{Linked}

@@ -9,8 +9,8 @@ use Rattle.lcm_isa.specs.declared.Reg.TheVariants.{Pc, A0}
 use Rattle.lcm_machine.specs.Row.{faces, cell_faces, fetch}
 use Rattle.lcm_machine.specs.Places.{reg}
 use Rattle.call_sequence.specs.declared.TheConstants.{CALL_WORDS, RETURN_WORDS}
-use Rattle.component_linker.specs.Started.{StartSeen}
-use Rattle.component_linker.specs.declared.owners.Owner.{Owner}
+use Rattle.linked_starts.specs.Started.{StartSeen}
+use Rattle.linked_starts.specs.declared.owners.Owner.{Owner}
 use Rattle.trusted_border.specs.declared.layout.Layout.{Layout}
 use Rattle.trusted_border.specs.declared.events.Event.{Event}
 use Rattle.trusted_border.specs.declared.events.Event.TheVariants.{Called, Returned, Entered, Left}
@@ -24,8 +24,8 @@ use Rattle.overlay_machine.specs.Step.{case_of}
 use Rattle.overlay_machine.specs.Events.{step_event, event_after, note_by, note_call, note_return, note_jump}
 use Rattle.overlay_machine.specs.Events.{called_event, site_opened, jump_seal, owner_now}
 use Rattle.overlay_machine.specs.Starting.{overlay_at}
-use Rattle.trace_tool.specs.Layout.{layout}
-use Rattle.trace_tool.specs.Views.{flat_view}
+use Rattle.run_lines.specs.Layout.{layout}
+use Rattle.run_lines.specs.Views.{flat_view}
 use Rattle.template_runs.specs.Runs.{is_inside}
 use Rattle.proc_semantics.specs.Values.{World}
 use Rattle.proc_semantics.specs.Meaning.{meaning}

@@ -7,13 +7,13 @@ use Rattle.lcm_isa.specs.declared.Reg.TheVariants.{Pc, Rcode, Rdata, Stk, Dat, T
 use Rattle.lcm_isa.specs.declared.Reg.TheVariants.{G0, G1, G2}
 use Rattle.lcm_machine.specs.Maps.{Regs}
 use Rattle.lcm_machine.specs.Places.{reg}
-use Rattle.component_linker.specs.Parts.{PartSeen}
-use Rattle.component_linker.specs.Standing.{placed}
-use Rattle.component_linker.specs.Start.{Exported, stack_base_of, start_regs, code_of, data_of, stack_of}
-use Rattle.component_linker.proofs.Offers.{stack_begins}
+use Rattle.linked_starts.specs.Parts.{PartSeen}
+use Rattle.linked_starts.specs.Standing.{placed}
+use Rattle.linked_starts.specs.Start.{Exported, stack_base_of, start_regs, code_of, data_of, stack_of}
+use Rattle.linked_starts.proofs.Offers.{stack_begins}
 use Rattle.lcm_machine.specs.Spans.{zero_regs}
-use Rattle.component_linker.specs.Started.{StartSeen}
-use Rattle.component_linker.specs.LinkedStarts.{IsStartOf, IsLinkedStart}
+use Rattle.linked_starts.specs.Started.{StartSeen}
+use Rattle.linked_starts.specs.LinkedStarts.{IsStartOf, IsLinkedStart}
 use Rattle.proc_language.specs.declared.module.ModuleFields.{ModuleFields}
 use Rattle.overlay_machine.specs.declared.words.OWord.TheVariants.{Plain}
 use Rattle.overlay_machine.specs.Copies.{plain_regs}

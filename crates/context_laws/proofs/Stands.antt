@@ -8,8 +8,9 @@ use Rattle.overlay_machine.specs.Step.{goes, halts, fails, overlay_step}
 use Rattle.overlay_machine.specs.Link.{Link}
 use Rattle.overlay_machine.specs.Runs.{Reached, goes_on}
 use Rattle.overlay_machine.specs.Starting.{overlay_at}
-use Rattle.trace_tool.specs.Layout.{layout}
-use Rattle.trace_tool.specs.Headline.{Matched, OverlayHalts, OverlayFails}
+use Rattle.run_lines.specs.Layout.{layout}
+use Rattle.run_lines.specs.Cuts.{Matched}
+use Rattle.headline.specs.Headline.{OverlayHalts, OverlayFails}
 use Rattle.template_runs.specs.Runs.{is_inside}
 use Rattle.template_runs.specs.Border.{Shows}
 use Rattle.proc_program.specs.Lower.{part_of}

@@ -10,15 +10,15 @@ use Rattle.cap_words.specs.declared.Word.TheVariants.{Int, Mem, Seal, Sealed}
 use Rattle.component_file.specs.declared.component.Import.{Import}
 use Rattle.call_sequence.specs.SequenceRuns.{IsOutsideRange}
 use Rattle.lcm_machine.specs.Cells.{cell}
-use Rattle.component_linker.specs.Parts.{PartSeen}
-use Rattle.component_linker.specs.Standing.{placed}
-use Rattle.component_linker.specs.Started.{StartSeen}
-use Rattle.component_linker.specs.LinkedStarts.{IsStartOf}
-use Rattle.component_linker.specs.Regions.{in_regions, regions_of}
-use Rattle.component_linker.specs.Start.{Exported, imported, code_half, data_half, slot_word, data_word, from}
-use Rattle.component_linker.specs.Start.{part_word, first_given, start_cell}
-use Rattle.component_linker.proofs.Offers.{given, given_by, is_kept, from_inv, data_within, imported_there}
-use Rattle.component_linker.proofs.Offers.{listed_at, OwnWord, own_code, own_data}
+use Rattle.linked_starts.specs.Parts.{PartSeen}
+use Rattle.linked_starts.specs.Standing.{placed}
+use Rattle.linked_starts.specs.Started.{StartSeen}
+use Rattle.linked_starts.specs.LinkedStarts.{IsStartOf}
+use Rattle.linked_starts.specs.Regions.{in_regions, regions_of}
+use Rattle.linked_starts.specs.Start.{Exported, imported, code_half, data_half, slot_word, data_word, from}
+use Rattle.linked_starts.specs.Start.{part_word, first_given, start_cell}
+use Rattle.linked_starts.proofs.Offers.{given, given_by, is_kept, from_inv, data_within, imported_there}
+use Rattle.linked_starts.proofs.Offers.{listed_at, OwnWord, own_code, own_data}
 use Rattle.overlay_machine.specs.declared.words.OWord.{OWord}
 use Rattle.overlay_machine.specs.declared.words.OWord.TheVariants.{Plain}
 use Rattle.overlay_machine.specs.Link.{Link, IsTrusted, IsUntrusted}

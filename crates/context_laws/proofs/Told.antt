@@ -13,9 +13,9 @@ use Rattle.lcm_isa.specs.declared.Reg.{Reg}
 use Rattle.lcm_isa.specs.declared.Reg.TheVariants.{Stk, Rcode, Rdata, A0, A1, A2, A3}
 use Rattle.lcm_machine.specs.Places.{reg}
 use Rattle.lcm_machine.specs.Row.{faces}
-use Rattle.flow_check.specs.Holds.{PcAt}
-use Rattle.component_linker.specs.Owners.{owner_of}
-use Rattle.component_linker.specs.Start.{Exported, code_of}
+use Rattle.flow_rules.specs.Holds.{PcAt}
+use Rattle.linked_starts.specs.Owners.{owner_of}
+use Rattle.linked_starts.specs.Start.{Exported, code_of}
 use Rattle.trusted_border.specs.declared.layout.SiteCode.{SiteCode}
 use Rattle.trusted_border.specs.declared.events.Event.TheVariants.{Entered}
 use Rattle.trusted_border.specs.declared.events.Back.{Back}
@@ -30,11 +30,11 @@ use Rattle.overlay_machine.specs.Linked.{Linked}
 use Rattle.overlay_machine.specs.Names.{NamesTold, PartNamed, EntryNamed}
 use Rattle.overlay_machine.specs.Safe.{IsOpenSeal, IsMet}
 use Rattle.overlay_machine.proofs.Offers.{entry_begins, crossing_code_is as code_is, index_of}
-use Rattle.trace_tool.specs.Layout.{entry_name}
-use Rattle.trace_tool.specs.Views.{View, flat_view}
-use Rattle.trace_tool.specs.Pairs.{if_normal, content_linear, pair_to, pair_if, pair_of, pair_under, pairs_of}
-use Rattle.trace_tool.specs.Lines.{args_of, feed_back, feed_pair}
-use Rattle.trace_tool.specs.Feed.{integer_in, integers_in, feed_pairs}
+use Rattle.run_lines.specs.Layout.{entry_name}
+use Rattle.run_lines.specs.Views.{View, flat_view}
+use Rattle.run_lines.specs.Pairs.{if_normal, content_linear, pair_to, pair_if, pair_of, pair_under, pairs_of}
+use Rattle.run_lines.specs.Lines.{args_of, feed_back, feed_pair}
+use Rattle.run_lines.specs.Feed.{integer_in, integers_in, feed_pairs}
 use Rattle.source_events.specs.Left.{left_in, left_by}
 use Rattle.source_events.specs.declared.FeedBack.{FeedBack}
 use Rattle.source_events.specs.declared.FeedBack.TheVariants as way

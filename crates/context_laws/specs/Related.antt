@@ -9,8 +9,8 @@ use Rattle.lcm_isa.specs.declared.Reg.TheVariants.{Pc, Dat, A0}
 use Rattle.lcm_machine.specs.Maps.{State}
 use Rattle.lcm_machine.specs.Places.{reg}
 use Rattle.lcm_machine.specs.Cells.{cell}
-use Rattle.flow_check.specs.Holds.{PcAt}
-use Rattle.component_linker.specs.Start.{Exported, code_half, data_half}
+use Rattle.flow_rules.specs.Holds.{PcAt}
+use Rattle.linked_starts.specs.Start.{Exported, code_half, data_half}
 use Rattle.trusted_border.specs.declared.layout.Layout.{Layout}
 use Rattle.trusted_border.specs.declared.events.Event.{Event}
 use Rattle.trusted_border.specs.declared.events.Event.TheVariants.{Returned}
@@ -21,7 +21,7 @@ use Rattle.overlay_machine.specs.declared.words.OWord.TheVariants.{Plain, RetCod
 use Rattle.overlay_machine.specs.Words.{look}
 use Rattle.overlay_machine.specs.State.{OpenFrame, OState}
 use Rattle.overlay_machine.specs.Step.{goes, halts, fails, overlay_step}
-use Rattle.component_linker.specs.Regions.{in_regions}
+use Rattle.linked_starts.specs.Regions.{in_regions}
 use Rattle.overlay_machine.specs.Link.{Link, IsTrusted, ranges_of, regions}
 use Rattle.overlay_machine.specs.Linked.{Linked}
 use Rattle.overlay_machine.specs.Safe.{IsOpenSeal}

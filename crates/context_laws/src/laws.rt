@@ -9,11 +9,12 @@ ghost use Rattle.context_laws.specs.Related.{SameNames, OutsideStepsAlike};
 ghost use Rattle.context_laws.specs.Sources.{FirstArrivalsAlike, PlacedStartsAlike, SourcesAgainstContexts};
 ghost use Rattle.context_laws.specs.Sources.{SourcesInStep, StartsAlike, WholeRunsInStep};
 
+use headline::laws::the_headline;
 use overlay_machine::laws::{linked_starts_agree, starts_begin};
+use run_lines::laws::cuts_are_greatest;
 use source_starts::laws::{
     sources_leave_nothing, sources_mean, sources_tell_words, wiped_cells_are_told,
 };
-use trace_tool::laws::{cuts_are_greatest, the_headline};
 
 /// From alike states, the next step of code outside does alike beside both lists of linked parts.
 ///

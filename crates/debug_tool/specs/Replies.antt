@@ -9,7 +9,7 @@ use Rattle.lcm_isa.specs.declared.Reg.TheVariants.{Pc}
 use Rattle.lcm_machine.specs.Places.{reg}
 use Rattle.lcm_machine.specs.Cells.{cell}
 use Rattle.lcm_machine.specs.Run.{Run}
-use Rattle.trace_tool.specs.EndLines.{pc_text, steps_text, end_line}
+use Rattle.run_lines.specs.EndLines.{pc_text, steps_text, end_line}
 use Rattle.step_back.specs.declared.debugger.Stop.{Stop}
 use Rattle.step_back.specs.declared.debugger.Stop.TheVariants.{Break, Ended, Spent}
 use Rattle.step_back.specs.declared.debugger.TheConstants.{MOST_DEPTH}

@@ -8,8 +8,8 @@ ghost use Rattle.debug_tool.specs.Replies.{debug_replies, debug_text};
 ghost use Rattle.debug_tool.specs.Faults.{FailsBy, StopsAtReply};
 
 use crate::reply::reply;
-use component_linker::Start;
 use debug_script::{DebugCommand, Script};
+use linked_starts::Start;
 use outside_io::{Failed, Sink};
 use std::alloc::{AllocError, Global};
 use step_back::{Debugger, MOST_DEPTH};

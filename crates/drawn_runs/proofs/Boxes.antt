@@ -5,8 +5,8 @@ use Rattle.std.specs.Prelude.{nat_le, if◌then◌else◌, filter, flat_map, rev
 use Rattle.std.specs.List.{AllZip}
 use Rattle.std.proofs.lemmas.List.{reverse-append}
 use Rattle.std.proofs.lemmas.List.Elements.{filter-append}
-use Rattle.trace_tool.specs.Lines.{Line, call, ret, enter, pass, leave}
-use Rattle.trace_tool.specs.OpenCalls.{LineTold, open_behind}
+use Rattle.run_lines.specs.Lines.{Line, call, ret, enter, pass, leave}
+use Rattle.headline.specs.OpenCalls.{LineTold, open_behind}
 use Rattle.run_picture.specs.declared.turn.Side.{Side}
 use Rattle.run_picture.specs.declared.turn.Extent.{Extent}
 use Rattle.run_picture.specs.declared.turn.Turn.{Turn}

@@ -8,8 +8,8 @@ use Rattle.std.proofs.lemmas.Bool.{cases_lt, lt-ltb, le-ltb}
 use Rattle.std.proofs.lemmas.List.{reverse-append, reverse-reverse}
 use Rattle.std.proofs.lemmas.List.Elements.{Contains-push_cases}
 use Rattle.overlay_machine.proofs.Offers.{contains_first, contains_rest}
-use Rattle.trace_tool.specs.Lines.{Line, call, ret, enter, pass, leave}
-use Rattle.trace_tool.specs.OpenCalls.{LineTold, open_behind}
+use Rattle.run_lines.specs.Lines.{Line, call, ret, enter, pass, leave}
+use Rattle.headline.specs.OpenCalls.{LineTold, open_behind}
 use Rattle.run_picture.specs.declared.turn.Side.{Side}
 use Rattle.run_picture.specs.declared.turn.Turn.TheVariants.{Call}
 use Rattle.run_picture.specs.Shapes.{Shape, box, line, label}

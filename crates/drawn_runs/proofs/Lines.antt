@@ -6,11 +6,11 @@ use Rattle.std.proofs.lemmas.Bool.{cases_lt}
 use Rattle.std.proofs.lemmas.List.{map-append}
 use Rattle.lcm_machine.specs.Run.{Run, plain}
 use Rattle.trusted_border.specs.declared.layout.Layout.{Layout}
-use Rattle.trace_tool.specs.Lines.{Line, call, ret, enter, pass, leave}
-use Rattle.trace_tool.specs.Texts.{lines_text}
-use Rattle.trace_tool.specs.EndLines.{end_line}
-use Rattle.trace_tool.specs.Fits.{LineFits, LinesFit}
-use Rattle.trace_tool.specs.Runs.{Watched, watched, begun, line_next, lines_of, run_text}
+use Rattle.run_lines.specs.Lines.{Line, call, ret, enter, pass, leave}
+use Rattle.run_lines.specs.Texts.{lines_text}
+use Rattle.run_lines.specs.EndLines.{end_line}
+use Rattle.run_lines.specs.Fits.{LineFits, LinesFit}
+use Rattle.run_lines.specs.Runs.{Watched, watched, begun, line_next, lines_of, run_text}
 use Rattle.line_fields.specs.Fields.{lines}
 use Rattle.run_items.proofs.Offers.{body, line_text_is, IsPassedOver, end_is, end_line_is, lines_are}
 use Rattle.run_audit.specs.Lines.{line_in}

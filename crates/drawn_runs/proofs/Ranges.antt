@@ -6,7 +6,7 @@ use Rattle.trusted_border.specs.declared.layout.Layout.{Layout}
 use Rattle.overlay_machine.specs.State.{OpenFrame, Cells}
 use Rattle.overlay_machine.specs.Invariant.{FramesLie}
 use Rattle.overlay_machine.specs.Brackets.{frame_told}
-use Rattle.trace_tool.specs.Brackets.{line_told, lines_told}
+use Rattle.headline.specs.Brackets.{line_told, lines_told}
 use Rattle.drawn_runs.proofs.Boxes.{has_range}
 
 pub frames_have_ranges : (l : Layout) (m : Cells) (n : ℕ) (fs : List OpenFrame) → FramesLie l m n fs

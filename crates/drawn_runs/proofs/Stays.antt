@@ -3,8 +3,8 @@ use Rattle.std.proofs.Common.{◌≡◌, ℕ, suc, ◌+◌, ◌-◌, ◌<◌, �
 use Rattle.std.proofs.Common.{Option, Some, None, refl, sym, ap, ◌∙◌, arith}
 use Rattle.std.specs.Prelude.{nat_eq}
 use Rattle.std.proofs.lemmas.Bool.{ne_eqb}
-use Rattle.trace_tool.specs.Lines.{Line, call, ret, enter, pass, leave}
-use Rattle.trace_tool.specs.OpenCalls.{LineTold, open_behind}
+use Rattle.run_lines.specs.Lines.{Line, call, ret, enter, pass, leave}
+use Rattle.headline.specs.OpenCalls.{LineTold, open_behind}
 use Rattle.run_picture.specs.declared.turn.Side.{Side}
 use Rattle.run_picture.specs.declared.turn.Extent.{Extent}
 use Rattle.run_picture.specs.declared.turn.Turn.{Turn}

@@ -4,12 +4,12 @@ use Rattle.std.specs.Prelude.{None, Ok, Err, if◌then◌else◌}
 use Rattle.std.specs.List.{AllZip, Contains}
 use Rattle.lcm_machine.specs.Run.{plain}
 use Rattle.lcm_machine.specs.Touched.{Touches}
-use Rattle.component_linker.specs.Parts.{PartSeen}
-use Rattle.component_linker.specs.Started.{StartSeen}
-use Rattle.component_linker.specs.LinkedStarts.{IsLinkedStart}
-use Rattle.trace_tool.specs.Layout.{layout}
-use Rattle.trace_tool.specs.Runs.{run_text, written}
-use Rattle.trace_tool.specs.OpenCalls.{LineTold, open_behind, after, ReadsOrWipes}
+use Rattle.linked_starts.specs.Parts.{PartSeen}
+use Rattle.linked_starts.specs.Started.{StartSeen}
+use Rattle.linked_starts.specs.LinkedStarts.{IsLinkedStart}
+use Rattle.run_lines.specs.Layout.{layout}
+use Rattle.run_lines.specs.Runs.{run_text, written}
+use Rattle.headline.specs.OpenCalls.{LineTold, open_behind, after, ReadsOrWipes}
 use Rattle.run_picture.specs.declared.fault.DrawFault.TheVariants.{TooLong}
 use Rattle.run_picture.specs.Shapes.{Shape}
 use Rattle.run_picture.specs.Picture.{picture, is_too_long, drawn}

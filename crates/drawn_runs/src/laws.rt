@@ -3,10 +3,11 @@ ghost use Rattle.drawn_runs.specs.Drawn.{RunsAreDrawn, BoxesAreOpenCalls, DarkIs
 ghost use Rattle.drawn_runs.specs.Drawn.{DarkThere};
 
 use audited_runs::laws::{lines_are_read, runs_pass};
+use headline::laws::{lines_are_bracketed, open_calls_are_kept, the_headline};
 use overlay_machine::laws::{a_start_has_one_overlay, linked_starts_agree, starts_begin};
 use run_audit::laws::traces_are_found;
+use run_lines::laws::lines_fit;
 use run_picture::laws::{lines_and_addresses_are_seen, one_box_each, open_calls_are_seen};
-use trace_tool::laws::{lines_are_bracketed, lines_fit, open_calls_are_kept, the_headline};
 
 /// The text of every run of under 2^64 instructions is drawn, unless it is too long.
 ///

@@ -4,8 +4,8 @@ ghost use Rattle.file_plans.specs.declared.refusal.Stop.TheVariants.{NoMemory};
 
 use assembler::AsmFault;
 use component_file::FileFault;
-use component_linker::RuleAt;
 use image_loader::ImageFault;
+use linked_starts::RuleAt;
 use proc_sources::SourceFault;
 use run_audit::AuditFault;
 use std::alloc::{AllocError, AllocFailed};

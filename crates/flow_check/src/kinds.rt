@@ -1,12 +1,10 @@
 //! Kinds and rows of kinds.
 ghost use Rattle.std.specs.Prelude.{◌≡◌};
-ghost use Rattle.flow_check.specs.Kinds.{kind_of, set_kind, below_any, kind_below, row_below};
+ghost use Rattle.flow_rules.specs.Kinds.{kind_of, set_kind, below_any, kind_below, row_below};
 
 use component_file::Kind;
+use flow_rules::Row;
 use lcm_isa::Reg;
-
-/// The kinds of the registers 1 to 15.
-pub(crate) type Row = [Kind; 15];
 
 /// At an entry, data is the part's, and nothing is known of the others.
 pub(crate) const ENTRY_ROW: Row = [
@@ -47,7 +45,7 @@ pub(crate) const CLEAN_ROW: Row = [
 ];
 
 /// The kind of a register other than pc.
-#[tactic(auto, unfolding(crate::specs::Kinds::kind_of))]
+#[tactic(auto, unfolding(flow_rules::specs::Kinds::kind_of))]
 pub(crate) fn kind_of(row: &Row, r: Reg) -> Kind
     ensures { result ≡ kind_of row.now r }
 {
@@ -55,7 +53,7 @@ pub(crate) fn kind_of(row: &Row, r: Reg) -> Kind
 }
 
 /// The row with another kind of a register other than pc.
-#[tactic(auto, unfolding(crate::specs::Kinds::set_kind))]
+#[tactic(auto, unfolding(flow_rules::specs::Kinds::set_kind))]
 pub(crate) fn set_kind(row: Row, r: Reg, kind: Kind) -> Row
     ensures { result ≡ set_kind row r kind }
 {

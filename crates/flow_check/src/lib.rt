@@ -1,12 +1,11 @@
-//! The rules of the flow of trusted code, K1 to K10, and the row of kinds that is current at each
-//! offset of the code.
+//! Whether a component keeps the rules of the flow of trusted code, K1 to K10, and the row of kinds that is
+//! current at each offset of its code.
 //!
 //! docs/RULES.md has the rules in words.
 #![tactic(auto)]
 
 mod judging;
 mod kinds;
-pub mod laws;
 mod lists;
 mod places;
 mod rows;

@@ -6,8 +6,8 @@ ghost use Rattle.component_check.specs.RuleText.{broken_at};
 ghost use Rattle.component_check.specs.Places.{first_place, first_of};
 ghost use Rattle.component_check.specs.Verdict.{check_from};
 ghost use Rattle.call_sequence.specs.Standing.{site_difference};
-ghost use Rattle.flow_check.specs.Lists.{k1, k2, k3, k4, site_is_bad, overlap, meets_entry, meets_site};
-ghost use Rattle.flow_check.specs.Lists.{entry_is_bad, least_of, row_offset, of_entry, is_misplaced, lists};
+ghost use Rattle.flow_rules.specs.Lists.{k1, k2, k3, k4, site_is_bad, overlap, meets_entry, meets_site};
+ghost use Rattle.flow_rules.specs.Lists.{entry_is_bad, least_of, row_offset, of_entry, is_misplaced, lists};
 
 use crate::places::in_site;
 use call_sequence::{ENTRY_WORDS, SITE_WORDS, is_entry, site_difference};
@@ -34,7 +34,7 @@ fn k1_site(c: &ComponentFields) -> Option<u32>
     first_place(c.sites.as_slice().len(), |i| site_is_bad(c, i))
 }
 
-#[tactic(auto, unfolding(crate::specs::Lists::k1))]
+#[tactic(auto, unfolding(flow_rules::specs::Lists::k1))]
 fn k1(c: &ComponentFields) -> Option<u32>
     requires { IsComponent c.now }
     ensures { result ≡ first_place (k1 c.now) }
@@ -100,7 +100,7 @@ fn meets_site(c: &ComponentFields, at: u32) -> bool
         .any(|s| overlap(*s, SITE_WORDS, at, ENTRY_WORDS))
 }
 
-#[tactic(auto, unfolding(crate::specs::Lists::entry_is_bad))]
+#[tactic(auto, unfolding(flow_rules::specs::Lists::entry_is_bad))]
 fn entry_is_bad(c: &Component, at: u32) -> bool
     ensures { result ≡ entry_is_bad c.now at }
 {
@@ -134,7 +134,7 @@ fn k3(c: &Component) -> Option<u32>
     least
 }
 
-#[tactic(auto, unfolding(crate::specs::Lists::of_entry))]
+#[tactic(auto, unfolding(flow_rules::specs::Lists::of_entry))]
 fn of_entry(c: &ComponentFields, at: u32) -> bool
     ensures { result ≡ of_entry c.now at }
 {
@@ -143,7 +143,7 @@ fn of_entry(c: &ComponentFields, at: u32) -> bool
     })
 }
 
-#[tactic(auto, unfolding(crate::specs::Lists::is_misplaced))]
+#[tactic(auto, unfolding(flow_rules::specs::Lists::is_misplaced))]
 fn is_misplaced(c: &ComponentFields, at: u32) -> bool
     requires { IsComponent c.now }
     ensures { result ≡ is_misplaced c.now at }
@@ -172,7 +172,7 @@ fn k4_row(c: &ComponentFields) -> Option<u32>
     )
 }
 
-#[tactic(auto, unfolding(crate::specs::Lists::k4))]
+#[tactic(auto, unfolding(flow_rules::specs::Lists::k4))]
 fn k4(c: &ComponentFields) -> Option<u32>
     requires { IsComponent c.now }
     ensures { result ≡ first_place (k4 c.now) }

@@ -4,15 +4,15 @@
 //! names: an entry is looked for among all of them, of which there are at most 1,024.
 ghost use Rattle.std.specs.Prelude.{◌≡◌, ◌<◌, ◌≤◌, ◌+◌, ◌^◌, length};
 ghost use Rattle.component_file.specs.Limits.{IsComponent};
-ghost use Rattle.flow_check.specs.Places.{begins_entry, begins_site, is_behind, in_site, declared};
-ghost use Rattle.flow_check.specs.Ascending.{IsSplitAt};
+ghost use Rattle.flow_rules.specs.Places.{begins_entry, begins_site, is_behind, in_site, declared};
+ghost use Rattle.flow_rules.specs.Ascending.{IsSplitAt};
 
-use crate::kinds::Row;
 use call_sequence::SITE_WORDS;
 use component_file::{ComponentFields, KindRow};
+use flow_rules::Row;
 
 /// Whether an export begins here.
-#[tactic(auto, unfolding(crate::specs::Places::begins_entry))]
+#[tactic(auto, unfolding(flow_rules::specs::Places::begins_entry))]
 pub(crate) fn begins_entry(c: &ComponentFields, at: u32) -> bool
     ensures { result ≡ begins_entry c.now at }
 {

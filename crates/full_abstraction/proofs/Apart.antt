@@ -6,8 +6,8 @@ use Rattle.lcm_machine.specs.declared.End.TheVariants.{Halted, Failed}
 use Rattle.lcm_machine.specs.Run.{Run}
 use Rattle.lcm_machine.proofs.Offers.{plain_ended}
 use Rattle.call_sequence.specs.declared.TheConstants.{ENTRY_WORDS}
-use Rattle.component_linker.specs.Started.{StartSeen}
-use Rattle.trace_tool.specs.Headline.{PlainEnds}
+use Rattle.linked_starts.specs.Started.{StartSeen}
+use Rattle.headline.specs.Headline.{PlainEnds}
 use Rattle.full_abstraction.specs.Contexts.{Context, halting, failing, OnPlain}
 use Rattle.full_abstraction.specs.Abstraction.{untrusted, Equivalent, RunsShowTheSame, OverlayIsFullyAbstract}
 use Rattle.full_abstraction.specs.Abstraction.{ToldApart}

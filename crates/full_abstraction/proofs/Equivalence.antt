@@ -1,11 +1,11 @@
 -- From what is observed of each run to contextual equivalence.
 use Rattle.std.proofs.Common.{List}
 use Rattle.std.specs.Prelude.{◌↔◌}
-use Rattle.component_linker.specs.Parts.{PartSeen}
-use Rattle.component_linker.specs.Started.{StartSeen}
-use Rattle.component_linker.specs.Standing.{placed}
-use Rattle.trace_tool.specs.Cuts.{StopsAreCuts}
-use Rattle.trace_tool.specs.Headline.{HeadlineHolds}
+use Rattle.linked_starts.specs.Parts.{PartSeen}
+use Rattle.linked_starts.specs.Started.{StartSeen}
+use Rattle.linked_starts.specs.Standing.{placed}
+use Rattle.run_lines.specs.Cuts.{StopsAreCuts}
+use Rattle.headline.specs.Headline.{HeadlineHolds}
 use Rattle.full_abstraction.specs.Contexts.{Context, plugged, LinksTo, Observation, OnPlain, OnOverlay}
 use Rattle.full_abstraction.specs.Abstraction.{Shows, RunsShowTheSame, IsFullyAbstractForAny}
 use Rattle.full_abstraction.specs.Abstraction.{IsFullyAbstractInAll}

@@ -5,13 +5,13 @@ use Rattle.lcm_machine.specs.declared.End.{End}
 use Rattle.lcm_machine.specs.declared.End.TheVariants.{Halted, Failed}
 use Rattle.lcm_machine.specs.Run.{Run, plain}
 use Rattle.lcm_machine.proofs.Offers.{plain_ended}
-use Rattle.component_linker.specs.Started.{StartSeen}
+use Rattle.linked_starts.specs.Started.{StartSeen}
 use Rattle.overlay_machine.specs.State.{OState}
 use Rattle.overlay_machine.specs.Step.{Ending, goes, halts, fails, overlay_step, weight_of}
 use Rattle.overlay_machine.specs.Runs.{Reached}
-use Rattle.trace_tool.specs.Layout.{layout}
-use Rattle.trace_tool.specs.Cuts.{cut, cut_overlay, StopsAreCuts}
-use Rattle.trace_tool.specs.Headline.{Matched, OverlayHalts, PlainEnds, Agrees}
+use Rattle.run_lines.specs.Layout.{layout}
+use Rattle.run_lines.specs.Cuts.{Matched, cut, cut_overlay, StopsAreCuts}
+use Rattle.headline.specs.Headline.{OverlayHalts, PlainEnds, Agrees}
 use Rattle.full_abstraction.specs.Contexts.{Observation, halting, halting_with, failing, running, OnPlain}
 use Rattle.full_abstraction.specs.Contexts.{OnOverlay}
 

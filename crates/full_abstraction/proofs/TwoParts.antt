@@ -23,16 +23,16 @@ use Rattle.component_check.proofs.Offers.{first_broken}
 use Rattle.call_sequence.specs.declared.TheConstants.{ENTRY_WORDS}
 use Rattle.call_sequence.specs.Sequences.{entry_code}
 use Rattle.call_sequence.specs.Standing.{sequence_difference, is_entry}
-use Rattle.flow_check.specs.Kinds.{kind_of, set_kind}
-use Rattle.flow_check.specs.Places.{begins_entry, begins_site, declared}
-use Rattle.flow_check.specs.Flow.{flow, ask}
-use Rattle.flow_check.specs.Lists.{k1, k2, k3, k4, lists, entry_is_bad}
-use Rattle.flow_check.specs.declared.walking.Walk.TheVariants.{Ended as ended}
-use Rattle.flow_check.specs.Walk.{instr_at, keep, site_ready, at_row, past, at_word, next_from, Comes}
-use Rattle.component_linker.specs.Parts.{PartSeen, IsPart}
-use Rattle.component_linker.specs.Pairs.{NoneIsBroken, IsFirstBrokenIn, BrokenIn, by_part}
-use Rattle.component_linker.specs.Links.{rules_l, rule_at, l1, l2, l3, l4, l5, l6, l7, l8, l9, l10}
-use Rattle.component_linker.proofs.Offers.{as_word, other, each as each_of_pair, no_rule, first_broken_in}
+use Rattle.flow_rules.specs.Kinds.{kind_of, set_kind}
+use Rattle.flow_rules.specs.Places.{begins_entry, begins_site, declared}
+use Rattle.flow_rules.specs.Flow.{flow, ask}
+use Rattle.flow_rules.specs.Lists.{k1, k2, k3, k4, lists, entry_is_bad}
+use Rattle.flow_rules.specs.declared.flow.Walk.TheVariants.{Ended as ended}
+use Rattle.flow_rules.specs.Walk.{instr_at, keep, site_ready, at_row, past, at_word, next_from, Comes}
+use Rattle.linked_starts.specs.Parts.{PartSeen, IsPart}
+use Rattle.linked_starts.specs.Pairs.{NoneIsBroken, IsFirstBrokenIn, BrokenIn, by_part}
+use Rattle.linked_starts.specs.Links.{rules_l, rule_at, l1, l2, l3, l4, l5, l6, l7, l8, l9, l10}
+use Rattle.linked_starts.proofs.Offers.{as_word, other, each as each_of_pair, no_rule, first_broken_in}
 
 -- ---- the trusted parts
 

@@ -12,9 +12,9 @@ use Rattle.lcm_machine.specs.Runs.{code_cap}
 use Rattle.lcm_machine.proofs.Offers.{fetch_at, step_row, halt_halts, fail_fails}
 use Rattle.call_sequence.specs.declared.TheConstants.{ENTRY_WORDS}
 use Rattle.call_sequence.specs.Sequences.{entry_code}
-use Rattle.component_linker.specs.Start.{start_cell, start_regs, part_word}
-use Rattle.component_linker.specs.Owners.{owner_of}
-use Rattle.component_linker.proofs.Offers.{as_word}
+use Rattle.linked_starts.specs.Start.{start_cell, start_regs, part_word}
+use Rattle.linked_starts.specs.Owners.{owner_of}
+use Rattle.linked_starts.proofs.Offers.{as_word}
 use Rattle.trusted_border.specs.declared.layout.Layout.{Layout}
 use Rattle.trusted_border.specs.Layout.{trusted_at}
 use Rattle.overlay_machine.specs.declared.words.OWord.TheVariants.{Plain}
@@ -27,9 +27,10 @@ use Rattle.overlay_machine.specs.Runs.{Reached}
 use Rattle.overlay_machine.specs.Seen.{IsOverlayOf}
 use Rattle.overlay_machine.specs.Starting.{overlay_at}
 use Rattle.overlay_machine.proofs.Offers.{is_overlay, start_word_is}
-use Rattle.trace_tool.specs.Layout.{layout}
-use Rattle.trace_tool.specs.Headline.{Matched, OverlayHalts, OverlayFails}
-use Rattle.trace_tool.proofs.Offers.{regs_with, zero_}
+use Rattle.run_lines.specs.Layout.{layout}
+use Rattle.run_lines.specs.Cuts.{Matched}
+use Rattle.headline.specs.Headline.{OverlayHalts, OverlayFails}
+use Rattle.headline.proofs.Offers.{regs_with, zero_}
 use Rattle.full_abstraction.proofs.TwoParts.{last_of, both}
 use Rattle.full_abstraction.proofs.TwoStarts.{start, spans, cells_are, is_linked}
 

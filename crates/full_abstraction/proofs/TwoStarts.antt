@@ -8,15 +8,15 @@ use Rattle.lcm_machine.specs.Cells.{cell}
 use Rattle.lcm_machine.specs.Spans.{AreSpans}
 use Rattle.lcm_machine.proofs.Offers.{bases_rise}
 use Rattle.call_sequence.specs.Sequences.{entry_code}
-use Rattle.component_linker.specs.declared.owners.Site.{Site}
-use Rattle.component_linker.specs.Parts.{PartSeen}
-use Rattle.component_linker.specs.Owners.{IsSite, AreSites}
-use Rattle.component_linker.specs.Regions.{regions_of, region_span}
-use Rattle.component_linker.specs.Start.{Exported, main_of, start_cell, start_regs, IsStart}
-use Rattle.component_linker.specs.Started.{StartSeen, Starts}
-use Rattle.component_linker.specs.LinkedStarts.{IsLinkedStart}
-use Rattle.component_linker.specs.Linked.{Linked}
-use Rattle.component_linker.proofs.Offers.{are_linked, filled, cells_filled, other, owners_of, owners_are}
+use Rattle.linked_starts.specs.declared.owners.Site.{Site}
+use Rattle.linked_starts.specs.Parts.{PartSeen}
+use Rattle.linked_starts.specs.Owners.{IsSite, AreSites}
+use Rattle.linked_starts.specs.Regions.{regions_of, region_span}
+use Rattle.linked_starts.specs.Start.{Exported, main_of, start_cell, start_regs, IsStart}
+use Rattle.linked_starts.specs.Started.{StartSeen, Starts}
+use Rattle.linked_starts.specs.LinkedStarts.{IsLinkedStart}
+use Rattle.linked_starts.specs.Linked.{Linked}
+use Rattle.linked_starts.proofs.Offers.{are_linked, filled, cells_filled, other, owners_of, owners_are}
 use Rattle.full_abstraction.proofs.TwoParts.{entered, trusted_one, adversary, both, each, keeps, has_room}
 
 abbrev pub main : Bool → Exported

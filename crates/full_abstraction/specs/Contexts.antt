@@ -6,13 +6,14 @@ use Rattle.lcm_machine.specs.declared.FailCause.{FailCause}
 use Rattle.lcm_machine.specs.declared.End.TheVariants.{Halted, Failed}
 use Rattle.lcm_machine.specs.Places.{reg}
 use Rattle.lcm_machine.specs.Run.{plain}
-use Rattle.component_linker.specs.Parts.{PartSeen}
-use Rattle.component_linker.specs.Started.{StartSeen}
-use Rattle.component_linker.specs.LinkedStarts.{IsStartOf}
+use Rattle.linked_starts.specs.Parts.{PartSeen}
+use Rattle.linked_starts.specs.Started.{StartSeen}
+use Rattle.linked_starts.specs.LinkedStarts.{IsStartOf}
 use Rattle.overlay_machine.specs.State.{OState}
-use Rattle.trace_tool.specs.Layout.{layout}
-use Rattle.trace_tool.specs.Views.{flat_view}
-use Rattle.trace_tool.specs.Headline.{Matched, OverlayHalts, OverlayFails, PlainEnds}
+use Rattle.run_lines.specs.Layout.{layout}
+use Rattle.run_lines.specs.Views.{flat_view}
+use Rattle.run_lines.specs.Cuts.{Matched}
+use Rattle.headline.specs.Headline.{OverlayHalts, OverlayFails, PlainEnds}
 
 -- ---- contexts
 

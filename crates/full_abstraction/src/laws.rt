@@ -2,7 +2,8 @@
 ghost use Rattle.full_abstraction.specs.Abstraction.{IsFullyAbstractForAny, IsFullyAbstractInAll};
 ghost use Rattle.full_abstraction.specs.Abstraction.{OverlayIsFullyAbstract, RunsShowTheSame, ToldApart};
 
-use trace_tool::laws::{cuts_are_greatest, the_headline};
+use headline::laws::the_headline;
+use run_lines::laws::cuts_are_greatest;
 
 /// The overlay is fully abstract: two lists of parts are contextually equivalent on the plain machine if and
 /// only if they are on the overlay.

@@ -12,8 +12,8 @@ use Rattle.readers.proofs.Offers as whole
 use Rattle.cap_words.proofs.Offers.{IsBytes, Reads, number_reads, within_reads}
 use Rattle.component_file.specs.Spelling.{u16_bytes, list_bytes}
 use Rattle.component_file.proofs.Offers.{four_read}
-use Rattle.component_linker.specs.declared.TheConstants.{MOST_PARTS}
-use Rattle.component_linker.specs.Parts.{IsPart}
+use Rattle.linked_starts.specs.declared.TheConstants.{MOST_PARTS}
+use Rattle.linked_starts.specs.Parts.{IsPart}
 use Rattle.image_loader.specs.declared.TheConstants.{VERSION}
 use Rattle.image_loader.specs.declared.fault.ImageFault.TheVariants.{Magic, Version, Short, Trailing}
 use Rattle.image_loader.specs.declared.reading.Image.{Image}

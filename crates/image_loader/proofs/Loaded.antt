@@ -4,13 +4,13 @@ use Rattle.std.specs.Prelude.{IsOk}
 use Rattle.cap_words.proofs.Offers.{IsBytes}
 use Rattle.readers.specs.Readers.{told_by}
 use Rattle.readers.specs.Answers.{Fails}
-use Rattle.component_linker.specs.declared.fault.LinkFault.{LinkFault}
-use Rattle.component_linker.specs.declared.fault.LinkFault.TheVariants as link_faults
-use Rattle.component_linker.specs.Standing.{placed}
-use Rattle.component_linker.specs.Pairs.{NoneIsBroken}
-use Rattle.component_linker.specs.Links.{rules_of_link}
-use Rattle.component_linker.specs.Started.{StartSeen}
-use Rattle.component_linker.specs.Answer.{Answers}
+use Rattle.linked_starts.specs.declared.fault.LinkFault.{LinkFault}
+use Rattle.linked_starts.specs.declared.fault.LinkFault.TheVariants as link_faults
+use Rattle.linked_starts.specs.Standing.{placed}
+use Rattle.linked_starts.specs.Pairs.{NoneIsBroken}
+use Rattle.linked_starts.specs.Links.{rules_of_link}
+use Rattle.linked_starts.specs.Started.{StartSeen}
+use Rattle.linked_starts.specs.Answer.{Answers}
 use Rattle.image_loader.specs.declared.fault.ImageFault.{ImageFault}
 use Rattle.image_loader.specs.declared.fault.ImageFault.TheVariants.{NoMemory}
 use Rattle.image_loader.specs.declared.reading.Image.{Image}

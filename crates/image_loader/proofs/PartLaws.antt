@@ -14,9 +14,9 @@ use Rattle.component_file.specs.declared.component.ComponentFields.{ComponentFie
 use Rattle.component_file.specs.Spelling.{spelling}
 use Rattle.component_file.specs.Reading.{next_flag, decoded}
 use Rattle.component_file.proofs.Offers.{flag_reads, found_whole, read_whole, spelling_length}
-use Rattle.component_linker.specs.Parts.{PartSeen, IsPart, Accepts}
-use Rattle.component_linker.specs.Accepted.{accepted}
-use Rattle.component_linker.proofs.Offers.{accepts_is, accepted_is}
+use Rattle.linked_starts.specs.Parts.{PartSeen, IsPart, Accepts}
+use Rattle.linked_starts.specs.Accepted.{accepted}
+use Rattle.linked_starts.proofs.Offers.{accepts_is, accepted_is}
 use Rattle.image_loader.specs.declared.fault.ImageFault.{ImageFault}
 use Rattle.image_loader.specs.declared.fault.ImageFault.TheVariants.{Short}
 use Rattle.image_loader.specs.Fault.{in_image, in_part, broken_in}

@@ -1,8 +1,8 @@
 -- What loading an image answers.
 use Rattle.std.specs.Prelude.{◌≡◌, ◌⊎◌, List, ℕ, Result, Ok, Err}
-use Rattle.component_linker.specs.declared.fault.LinkFault.{LinkFault}
-use Rattle.component_linker.specs.Started.{StartSeen}
-use Rattle.component_linker.specs.Answer.{Answers}
+use Rattle.linked_starts.specs.declared.fault.LinkFault.{LinkFault}
+use Rattle.linked_starts.specs.Started.{StartSeen}
+use Rattle.linked_starts.specs.Answer.{Answers}
 use Rattle.image_loader.specs.declared.fault.ImageFault.{ImageFault}
 use Rattle.image_loader.specs.declared.fault.ImageFault.TheVariants.{NoMemory}
 use Rattle.image_loader.specs.declared.reading.Image.{Image}

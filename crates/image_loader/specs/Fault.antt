@@ -5,8 +5,8 @@ use Rattle.cap_words.specs.declared.bytes.cursor.FieldFault.TheVariants as field
 use Rattle.component_file.specs.declared.fault.FileFault.{FileFault}
 use Rattle.component_file.specs.declared.fault.FileFault.TheVariants as file_faults
 use Rattle.component_check.specs.declared.rule.Broken.{Broken}
-use Rattle.component_linker.specs.declared.fault.LinkFault.{LinkFault}
-use Rattle.component_linker.specs.declared.fault.LinkFault.TheVariants as link_faults
+use Rattle.linked_starts.specs.declared.fault.LinkFault.{LinkFault}
+use Rattle.linked_starts.specs.declared.fault.LinkFault.TheVariants as link_faults
 use Rattle.image_loader.specs.declared.fault.ImageFault.{ImageFault}
 use Rattle.image_loader.specs.declared.fault.ImageFault.TheVariants.{Magic, Version, Short, BadField}
 use Rattle.image_loader.specs.declared.fault.ImageFault.TheVariants.{Trailing, File, Rule, NoMemory}

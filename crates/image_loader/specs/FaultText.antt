@@ -1,7 +1,7 @@
 -- How the faults of an image print.
 use Rattle.std.specs.Prelude.{ℕ, ◌++◌, List, codes, decimal}
 use Rattle.component_file.specs.FaultText.{file_fault_text}
-use Rattle.component_linker.specs.FaultText.{rule_at_text}
+use Rattle.linked_starts.specs.FaultText.{rule_at_text}
 use Rattle.image_loader.specs.declared.fault.ImageFault.{ImageFault}
 use Rattle.image_loader.specs.declared.fault.ImageFault.TheVariants.{Magic, Version, Short, BadField}
 use Rattle.image_loader.specs.declared.fault.ImageFault.TheVariants.{Trailing, File, Rule, NoMemory}

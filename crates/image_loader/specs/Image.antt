@@ -2,8 +2,8 @@
 use Rattle.std.specs.Prelude.{◌≡◌, ℕ, ◌<◌, ◌≤◌, ◌^◌, ◌++◌, List, ◌∷◌, length, codes}
 use Rattle.std.specs.List.{AllByRecursion}
 use Rattle.component_file.specs.Spelling.{u16_bytes, u32_bytes, flag_byte, list_bytes, spelling}
-use Rattle.component_linker.specs.declared.TheConstants.{MOST_PARTS}
-use Rattle.component_linker.specs.Parts.{PartSeen, IsPart}
+use Rattle.linked_starts.specs.declared.TheConstants.{MOST_PARTS}
+use Rattle.linked_starts.specs.Parts.{PartSeen, IsPart}
 use Rattle.image_loader.specs.declared.TheConstants.{VERSION}
 use Rattle.image_loader.specs.declared.reading.Image.{Image}
 

@@ -8,9 +8,9 @@ use Rattle.readers.specs.Places.{read_whole}
 use Rattle.cap_words.specs.Reading.{Input, meant, within, next_bytes, next_number}
 use Rattle.component_file.specs.declared.component.ComponentFields.{ComponentFields}
 use Rattle.component_file.specs.Reading.{next_flag, decoded}
-use Rattle.component_linker.specs.declared.TheConstants.{MOST_PARTS}
-use Rattle.component_linker.specs.Parts.{PartSeen}
-use Rattle.component_linker.specs.Accepted.{accepted}
+use Rattle.linked_starts.specs.declared.TheConstants.{MOST_PARTS}
+use Rattle.linked_starts.specs.Parts.{PartSeen}
+use Rattle.linked_starts.specs.Accepted.{accepted}
 use Rattle.image_loader.specs.declared.TheConstants.{VERSION}
 use Rattle.image_loader.specs.declared.fault.ImageFault.{ImageFault}
 use Rattle.image_loader.specs.declared.fault.ImageFault.TheVariants.{Magic, Version, Trailing}

@@ -1,7 +1,7 @@
 //! What holds of the spelling of images. These functions do nothing; their contracts are the laws.
 ghost use Rattle.std.specs.Prelude.{◌≡◌, ◌<◌, ◌≤◌, ◌⊎◌, ◌∷◌, ◌++◌, List, ℕ, length, take};
 ghost use Rattle.std.specs.Prelude.{Result, Ok, Err};
-ghost use Rattle.component_linker.specs.Started.{StartSeen};
+ghost use Rattle.linked_starts.specs.Started.{StartSeen};
 ghost use Rattle.image_loader.specs.declared.fault.ImageFault.{ImageFault};
 ghost use Rattle.image_loader.specs.declared.fault.ImageFault.TheVariants.{Short, Trailing};
 ghost use Rattle.image_loader.specs.declared.fault.ImageFault.TheVariants.{NoMemory};

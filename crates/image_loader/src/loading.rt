@@ -1,9 +1,9 @@
 //! Loading an image.
 ghost use Rattle.std.specs.Prelude.{◌≡◌, ◌<◌, ◌^◌, ◌⊎◌, length, IsOk, IfOk, Ok, Err};
-ghost use Rattle.component_linker.specs.Standing.{placed};
-ghost use Rattle.component_linker.specs.Pairs.{NoneIsBroken};
-ghost use Rattle.component_linker.specs.Links.{rules_of_link};
-ghost use Rattle.component_linker.specs.Answer.{Answers};
+ghost use Rattle.linked_starts.specs.Standing.{placed};
+ghost use Rattle.linked_starts.specs.Pairs.{NoneIsBroken};
+ghost use Rattle.linked_starts.specs.Links.{rules_of_link};
+ghost use Rattle.linked_starts.specs.Answer.{Answers};
 ghost use Rattle.image_loader.specs.declared.fault.ImageFault.TheVariants.{NoMemory};
 ghost use Rattle.image_loader.specs.declared.reading.Image.{Image};
 ghost use Rattle.image_loader.specs.Image.{SpellsImage};

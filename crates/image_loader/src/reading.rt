@@ -3,7 +3,7 @@ ghost use Rattle.std.specs.Prelude.{◌≡◌, ◌<◌, ◌^◌, length};
 ghost use Rattle.readers.specs.Answers.{Gives, AnswersUnlessRefused, GivesUnlessRefused};
 ghost use Rattle.readers.specs.Readers.{told_by};
 ghost use Rattle.component_file.specs.Reading.{next_flag, decoded};
-ghost use Rattle.component_linker.specs.Accepted.{accepted};
+ghost use Rattle.linked_starts.specs.Accepted.{accepted};
 ghost use Rattle.image_loader.specs.Fault.{in_part, broken_in, is_refusal};
 ghost use Rattle.image_loader.specs.Reading.{next_header, next_count, part_in_bytes, next_part};
 ghost use Rattle.image_loader.specs.Reading.{next_parts, next_image, image_of};

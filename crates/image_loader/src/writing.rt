@@ -1,7 +1,7 @@
 //! Images to bytes.
 ghost use Rattle.std.specs.Prelude.{◌≡◌, ◌≤◌, ◌++◌, length, OnOk, IfOk};
 ghost use Rattle.std.specs.List.{flat_map, AllByRecursion};
-ghost use Rattle.component_linker.specs.Parts.{IsPart};
+ghost use Rattle.linked_starts.specs.Parts.{IsPart};
 ghost use Rattle.image_loader.specs.Image.{part_bytes, SpellsImage};
 
 use crate::VERSION;

@@ -1,10 +1,10 @@
 -- What is known of memory at a start.
 use Rattle.std.proofs.Common.{ℕ, List, [], ap, ◌∙◌}
 use Rattle.std.specs.Prelude.{option_map}
-use Rattle.component_linker.specs.Parts.{PartSeen}
-use Rattle.component_linker.specs.Start.{start_cell}
-use Rattle.component_linker.specs.Started.{StartSeen}
-use Rattle.component_linker.specs.LinkedStarts.{IsLinkedStart}
+use Rattle.linked_starts.specs.Parts.{PartSeen}
+use Rattle.linked_starts.specs.Start.{start_cell}
+use Rattle.linked_starts.specs.Started.{StartSeen}
+use Rattle.linked_starts.specs.LinkedStarts.{IsLinkedStart}
 use Rattle.overlay_machine.specs.declared.words.OWord.TheVariants.{Plain}
 use Rattle.overlay_machine.specs.Starting.{overlay_at}
 use Rattle.overlay_machine.proofs.Offers.{is_overlay, start_word_is}

@@ -17,7 +17,7 @@ use Rattle.overlay_machine.specs.Events.{step_event, event_after, note_by, note_
 use Rattle.overlay_machine.specs.Words.{look}
 use Rattle.overlay_machine.specs.State.{OpenFrame, OState, Cells}
 use Rattle.overlay_machine.specs.Step.{goes, halts, overlay_step, step_by, other_step, with_frames}
-use Rattle.trace_tool.specs.Cuts.{is_inside}
+use Rattle.run_lines.specs.Cuts.{is_inside}
 use Rattle.known_steps.specs.Known.{Known, AreIn, Partly, blank, knows, fetched, at_blank, case_by, at_pc}
 use Rattle.known_steps.specs.Known.{known_step, is_or_not, known_run, Stays, here, on}
 use Rattle.known_steps.proofs.Known.{with_cells, whole, case_known, fetch_known, step_known}

@@ -32,7 +32,7 @@ use Rattle.overlay_machine.specs.Words.{look}
 use Rattle.overlay_machine.specs.State.{OpenFrame, OState, Cells}
 use Rattle.overlay_machine.specs.Step.{Ending, goes, case_fetched, case_trusted, entry_step, at_call}
 use Rattle.overlay_machine.specs.Step.{state_resumed, rest_words, overlay_step}
-use Rattle.trace_tool.specs.Cuts.{is_inside}
+use Rattle.run_lines.specs.Cuts.{is_inside}
 
 -- ---- what is known
 

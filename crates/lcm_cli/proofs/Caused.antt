@@ -10,17 +10,17 @@ use Rattle.command_words.specs.declared.command.Command.{Command}
 use Rattle.command_words.specs.Fits.{Fits}
 use Rattle.asm_fields.specs.declared.fault.AsmFault.{AsmFault}
 use Rattle.component_file.specs.declared.fault.FileFault.{FileFault}
-use Rattle.component_linker.specs.declared.fault.RuleAt.{RuleAt}
+use Rattle.linked_starts.specs.declared.fault.RuleAt.{RuleAt}
 use Rattle.image_loader.specs.declared.fault.ImageFault.{ImageFault}
 use Rattle.image_loader.specs.declared.fault.ImageFault.TheVariants as image
 use Rattle.image_loader.specs.Image.{ImageSeen}
-use Rattle.component_linker.specs.Started.{StartSeen}
-use Rattle.component_linker.specs.LinkedStarts.{IsStartOf}
+use Rattle.linked_starts.specs.Started.{StartSeen}
+use Rattle.linked_starts.specs.LinkedStarts.{IsStartOf}
 use Rattle.overlay_machine.specs.Seen.{OverlaySeen, IsOverlayOf, next_overlay, answer_of}
-use Rattle.trace_tool.specs.declared.run.RunEnd.{RunEnd}
-use Rattle.trace_tool.specs.declared.run.RunEnd.TheVariants as run_end
-use Rattle.trace_tool.specs.Runs.{end_of}
-use Rattle.trace_tool.specs.Traces.{Traced, stopped, weight_with, traced_by, traced as traced_upto, trace_of}
+use Rattle.run_lines.specs.declared.run.RunEnd.{RunEnd}
+use Rattle.run_lines.specs.declared.run.RunEnd.TheVariants as run_end
+use Rattle.run_lines.specs.Runs.{end_of}
+use Rattle.run_lines.specs.Traces.{Traced, stopped, weight_with, traced_by, traced as traced_upto, trace_of}
 use Rattle.overlay_machine.specs.declared.overlay.OStep.{OStep}
 use Rattle.overlay_machine.specs.declared.overlay.OStep.TheVariants.{Went as WentOn, Halted as HaltedThere}
 use Rattle.overlay_machine.specs.declared.overlay.OStep.TheVariants.{Failed as FailedThere}

@@ -8,12 +8,12 @@ use Rattle.command_words.specs.declared.command.Linked.{Linked}
 use Rattle.command_words.specs.declared.command.Linked.TheVariants as what
 use Rattle.command_words.specs.declared.command.Command.{Command}
 use Rattle.command_words.specs.declared.command.Command.TheVariants as asked
-use Rattle.component_linker.specs.declared.TheConstants.{MOST_PARTS}
-use Rattle.component_linker.specs.declared.fault.RuleAt.{RuleAt}
-use Rattle.component_linker.specs.Parts.{PartSeen}
-use Rattle.component_linker.specs.Standing.{free_of, placed}
-use Rattle.component_linker.specs.Started.{StartSeen}
-use Rattle.component_linker.proofs.Offers.{are_linked, as_many}
+use Rattle.linked_starts.specs.declared.TheConstants.{MOST_PARTS}
+use Rattle.linked_starts.specs.declared.fault.RuleAt.{RuleAt}
+use Rattle.linked_starts.specs.Parts.{PartSeen}
+use Rattle.linked_starts.specs.Standing.{free_of, placed}
+use Rattle.linked_starts.specs.Started.{StartSeen}
+use Rattle.linked_starts.proofs.Offers.{are_linked, as_many}
 use Rattle.debug_script.specs.declared.command.DebugCommand.{DebugCommand as Line}
 use Rattle.debug_script.specs.declared.fault.ScriptFault.{ScriptFault}
 use Rattle.debug_script.specs.Script.{scripted}
@@ -25,7 +25,7 @@ use Rattle.file_plans.specs.declared.refusal.Refusal.TheVariants as refusal
 use Rattle.file_plans.specs.declared.refusal.Stop.{Stop}
 use Rattle.file_plans.specs.Plans.{Plan, Made, ◌>>=◌, unless, Comes, Follows}
 use Rattle.file_plans.proofs.Offers.{comes_bind, comes_made, follows_bind, follows_end}
-use Rattle.component_linker.specs.LinkedStarts.{IsStartOf}
+use Rattle.linked_starts.specs.LinkedStarts.{IsStartOf}
 use Rattle.lcm_cli.specs.declared.ready.ReadyTask.TheVariants as ready
 use Rattle.lcm_cli.specs.ReadyTasks.{FollowsTask}
 use Rattle.lcm_cli.specs.Commands.{Task, Debug, debug_plan}

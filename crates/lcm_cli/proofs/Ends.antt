@@ -8,9 +8,9 @@ use Rattle.command_words.specs.declared.part.PartWord.{PartWord}
 use Rattle.component_file.specs.declared.component.ComponentFields.{ComponentFields}
 use Rattle.component_file.specs.Reading.{decoded}
 use Rattle.assembler.specs.Assembled.{assembled}
-use Rattle.component_linker.specs.declared.fault.RuleAt.{RuleAt}
-use Rattle.component_linker.specs.Accepted.{accepted}
-use Rattle.component_linker.specs.Parts.{PartSeen}
+use Rattle.linked_starts.specs.declared.fault.RuleAt.{RuleAt}
+use Rattle.linked_starts.specs.Accepted.{accepted}
+use Rattle.linked_starts.specs.Parts.{PartSeen}
 use Rattle.image_loader.specs.Image.{ImageSeen}
 use Rattle.file_plans.specs.declared.refusal.Refusal.{Refusal}
 use Rattle.file_plans.specs.declared.refusal.Refusal.TheVariants as refusal

@@ -2,8 +2,8 @@
 use Rattle.std.proofs.Common.{◌≡◌, ℕ, [], ◌∷◌, refl, sym, ap, subst, ◌∙◌, inl, inr, true, false}
 use Rattle.std.specs.Prelude.{Result, Ok, Err}
 use Rattle.outside_io.specs.FilesSeen.{FilesSeen}
-use Rattle.component_linker.specs.Accepted.{accepted}
-use Rattle.component_linker.specs.Started.{StartSeen}
+use Rattle.linked_starts.specs.Accepted.{accepted}
+use Rattle.linked_starts.specs.Started.{StartSeen}
 use Rattle.image_loader.specs.Image.{ImageSeen}
 use Rattle.generated_load.specs.declared.TheConstants.{LOAD_STACK}
 use Rattle.generated_load.specs.declared.load.Workload.{Workload}

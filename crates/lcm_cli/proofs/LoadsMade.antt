@@ -4,7 +4,7 @@ use Rattle.std.specs.Prelude.{Result, Ok, Err}
 use Rattle.outside_io.specs.FilesSeen.{FilesSeen}
 use Rattle.command_words.specs.declared.command.Command.{Command}
 use Rattle.command_words.specs.declared.command.Command.TheVariants.{Generate}
-use Rattle.component_linker.specs.Standing.{placed}
+use Rattle.linked_starts.specs.Standing.{placed}
 use Rattle.image_loader.specs.Image.{ImageSeen}
 use Rattle.generated_load.specs.Loads.{load_of, load_steps}
 use Rattle.file_plans.specs.declared.refusal.Refusal.{Refusal}

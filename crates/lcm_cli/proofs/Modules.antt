@@ -13,7 +13,7 @@ use Rattle.command_words.specs.declared.command.Command.{Command}
 use Rattle.command_words.specs.declared.command.Command.TheVariants.{Mean, Erase}
 use Rattle.command_words.specs.Action.{is_module, is_source}
 use Rattle.command_words.specs.Part.{has_tokens, is_trusted_mark}
-use Rattle.component_linker.specs.declared.fault.RuleAt.{RuleAt}
+use Rattle.linked_starts.specs.declared.fault.RuleAt.{RuleAt}
 use Rattle.proc_language.specs.declared.module.ModuleFields.{ModuleFields}
 use Rattle.proc_sources.specs.declared.fault.SourceFault.{SourceFault}
 use Rattle.proc_sources.specs.Sources.{module_in}

@@ -6,8 +6,8 @@ use Rattle.command_words.specs.declared.command.Command.{Command}
 use Rattle.authority_report.specs.One.{TextsAreOne}
 use Rattle.authority_report.specs.Text.{IsReachText}
 use Rattle.debug_tool.specs.Replies.{debug_text}
-use Rattle.component_linker.specs.Standing.{placed}
-use Rattle.component_linker.specs.Started.{StartSeen}
+use Rattle.linked_starts.specs.Standing.{placed}
+use Rattle.linked_starts.specs.Started.{StartSeen}
 use Rattle.overlay_machine.specs.Seen.{OverlaySeen, IsOverlayOf}
 use Rattle.file_plans.specs.declared.TheConstants.{LONGEST_FILE}
 use Rattle.file_plans.specs.declared.refusal.Refusal.{Refusal}

@@ -9,9 +9,9 @@ use Rattle.lcm_machine.specs.declared.cells.Span.{Span}
 use Rattle.lcm_machine.specs.Maps.{Regs}
 use Rattle.lcm_machine.specs.Places.{reg}
 use Rattle.lcm_machine.proofs.Offers.{same_cells}
-use Rattle.component_linker.specs.Started.{StartSeen}
-use Rattle.component_linker.specs.declared.owners.Site.{Site}
-use Rattle.component_linker.specs.declared.owners.Owner.{Owner}
+use Rattle.linked_starts.specs.Started.{StartSeen}
+use Rattle.linked_starts.specs.declared.owners.Site.{Site}
+use Rattle.linked_starts.specs.declared.owners.Owner.{Owner}
 use Rattle.trusted_border.specs.declared.layout.Layout.{Layout}
 use Rattle.overlay_machine.specs.declared.overlay.OEnd.{OEnd}
 use Rattle.overlay_machine.specs.declared.words.OWord.{OWord}

@@ -12,19 +12,19 @@ use Rattle.std.proofs.lemmas.Map.Keys.{IsDistinct-IsPermutation, IsDistinct-from
 use Rattle.std.specs.Ordering.{nat_cmp}
 use Rattle.std.specs.FinMap.{FinMap}
 use Rattle.cap_words.specs.declared.Word.{Word}
-use Rattle.component_linker.specs.Parts.{PartSeen}
-use Rattle.component_linker.specs.Regions.{AreSpansOf, Apart, regions_of, region_span, region, span_of}
-use Rattle.component_linker.specs.Regions.{stack_span, part_regions, code_span, data_span, linear_span}
-use Rattle.component_linker.specs.Regions.{is_stack_size}
-use Rattle.component_linker.proofs.Offers.{stretch_of, region_cases, regions_apart}
+use Rattle.linked_starts.specs.Parts.{PartSeen}
+use Rattle.linked_starts.specs.Regions.{AreSpansOf, Apart, regions_of, region_span, region, span_of}
+use Rattle.linked_starts.specs.Regions.{stack_span, part_regions, code_span, data_span, linear_span}
+use Rattle.linked_starts.specs.Regions.{is_stack_size}
+use Rattle.linked_starts.proofs.Offers.{stretch_of, region_cases, regions_apart}
 use Rattle.lcm_machine.specs.Regions.{Region}
-use Rattle.component_linker.specs.Pairs.{NoneIsBroken}
-use Rattle.component_linker.specs.Links.{rules_l}
-use Rattle.component_linker.specs.Start.{Exported, IsStart, start_regs, main_of}
-use Rattle.component_linker.specs.declared.owners.Site.{Site}
-use Rattle.component_linker.specs.declared.owners.Owner.{Owner}
-use Rattle.component_linker.specs.Owners.{AreSites, AreOwners}
-use Rattle.component_linker.specs.Started.{StartSeen, Starts}
+use Rattle.linked_starts.specs.Pairs.{NoneIsBroken}
+use Rattle.linked_starts.specs.Links.{rules_l}
+use Rattle.linked_starts.specs.Start.{Exported, IsStart, start_regs, main_of}
+use Rattle.linked_starts.specs.declared.owners.Site.{Site}
+use Rattle.linked_starts.specs.declared.owners.Owner.{Owner}
+use Rattle.linked_starts.specs.Owners.{AreSites, AreOwners}
+use Rattle.linked_starts.specs.Started.{StartSeen, Starts}
 use Rattle.lcm_cli.proofs.Rising.{Rises, one_rising}
 use Rattle.lcm_machine.specs.declared.End.{End}
 use Rattle.lcm_machine.specs.declared.cells.Span.{Span}

@@ -13,10 +13,10 @@ use Rattle.component_file.specs.declared.component.ComponentFields.{ComponentFie
 use Rattle.image_loader.specs.declared.fault.ImageFault.{ImageFault}
 use Rattle.image_loader.specs.declared.fault.ImageFault.TheVariants as image
 use Rattle.image_loader.specs.Image.{ImageSeen}
-use Rattle.trace_tool.specs.declared.run.RunEnd.{RunEnd}
-use Rattle.trace_tool.specs.declared.run.RunEnd.TheVariants as run_end
-use Rattle.trace_tool.specs.Runs.{end_of}
-use Rattle.trace_tool.specs.Traces.{trace_of}
+use Rattle.run_lines.specs.declared.run.RunEnd.{RunEnd}
+use Rattle.run_lines.specs.declared.run.RunEnd.TheVariants as run_end
+use Rattle.run_lines.specs.Runs.{end_of}
+use Rattle.run_lines.specs.Traces.{trace_of}
 use Rattle.generated_load.specs.Loads.{load_of}
 use Rattle.lcm_machine.specs.Run.{answer as last_step, plain}
 use Rattle.file_plans.specs.declared.refusal.Refusal.{Refusal}

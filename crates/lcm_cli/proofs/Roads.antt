@@ -19,8 +19,8 @@ use Rattle.component_file.specs.declared.component.ComponentFields.{ComponentFie
 use Rattle.component_file.specs.Limits.{IsComponent}
 use Rattle.component_file.specs.Spelling.{spelling}
 use Rattle.component_file.specs.Reading.{decoded}
-use Rattle.component_linker.specs.Parts.{PartSeen}
-use Rattle.component_linker.specs.Accepted.{accepted}
+use Rattle.linked_starts.specs.Parts.{PartSeen}
+use Rattle.linked_starts.specs.Accepted.{accepted}
 use Rattle.image_loader.specs.Image.{ImageSeen, image_bytes}
 use Rattle.debug_script.specs.Script.{scripted}
 use Rattle.proc_language.specs.declared.module.ModuleFields.{ModuleFields}

@@ -11,25 +11,25 @@ use Rattle.command_words.specs.declared.command.Command.{Command}
 use Rattle.command_words.specs.declared.command.Command.TheVariants.{Links}
 use Rattle.authority_report.specs.Entered.{IsLinked, ReportsBoundRuns}
 use Rattle.authority_report.specs.Influence.{ReportsBoundInfluence}
-use Rattle.component_linker.specs.Parts.{PartSeen}
+use Rattle.linked_starts.specs.Parts.{PartSeen}
 use Rattle.image_loader.specs.declared.fault.ImageFault.{ImageFault}
 use Rattle.image_loader.specs.declared.fault.ImageFault.TheVariants as image
 use Rattle.image_loader.specs.Image.{ImageSeen}
-use Rattle.component_linker.specs.LinkedStarts.{IsLinkedStart, IsStartOf}
+use Rattle.linked_starts.specs.LinkedStarts.{IsLinkedStart, IsStartOf}
 use Rattle.overlay_machine.specs.Starting.{overlay_at}
-use Rattle.component_linker.specs.Standing.{placed}
-use Rattle.component_linker.specs.Started.{StartSeen}
+use Rattle.linked_starts.specs.Standing.{placed}
+use Rattle.linked_starts.specs.Started.{StartSeen}
 use Rattle.overlay_machine.specs.Seen.{OverlaySeen, IsOverlayOf}
 use Rattle.audited_runs.specs.Audited.{RunsPass}
 use Rattle.command_words.specs.Fits.{Fits}
-use Rattle.trace_tool.specs.OpenCalls.{OpenCallsAreKept}
-use Rattle.trace_tool.specs.Secrecy.{OpenFramesAreSecret}
+use Rattle.headline.specs.OpenCalls.{OpenCallsAreKept}
+use Rattle.headline.specs.Secrecy.{OpenFramesAreSecret}
 use Rattle.confinement.specs.Confined.{AllCodeOutsideIsConfined}
-use Rattle.trace_tool.specs.Headline.{HeadlineHolds}
-use Rattle.trace_tool.specs.declared.run.RunEnd.{RunEnd}
-use Rattle.trace_tool.specs.declared.run.RunEnd.TheVariants as run_end
-use Rattle.trace_tool.specs.Runs.{end_of}
-use Rattle.trace_tool.specs.Traces.{trace_of, trace_text}
+use Rattle.headline.specs.Headline.{HeadlineHolds}
+use Rattle.run_lines.specs.declared.run.RunEnd.{RunEnd}
+use Rattle.run_lines.specs.declared.run.RunEnd.TheVariants as run_end
+use Rattle.run_lines.specs.Runs.{end_of}
+use Rattle.run_lines.specs.Traces.{trace_of, trace_text}
 use Rattle.lcm_machine.specs.declared.Step.{Step}
 use Rattle.lcm_machine.specs.declared.Step.TheVariants.{Went, Halted, Failed}
 use Rattle.lcm_machine.specs.Run.{answer as last_step, plain}

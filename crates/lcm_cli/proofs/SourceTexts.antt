@@ -14,7 +14,7 @@ use Rattle.module_rules.specs.Rules.{stack_base_of}
 use Rattle.run_feed.specs.declared.fault.FeedFault.{FeedFault}
 use Rattle.run_feed.specs.Feed.{fed}
 use Rattle.meaning_text.specs.Text.{told_text}
-use Rattle.trace_tool.specs.Layout.{layout}
+use Rattle.run_lines.specs.Layout.{layout}
 use Rattle.source_starts.specs.RunMeans.{went_out, came_in}
 use Rattle.refusal_lines.specs.declared.status.Status.{Status}
 use Rattle.lcm_cli.specs.Answers.{Outside, meaning_status}

@@ -8,21 +8,21 @@ use Rattle.command_words.specs.declared.command.Command.TheVariants.{Links}
 use Rattle.command_words.specs.declared.command.Linked.{Linked}
 use Rattle.command_words.specs.declared.command.Linked.TheVariants as what
 use Rattle.command_words.specs.declared.command.LinkDeed.TheVariants as link_deed
-use Rattle.component_linker.specs.Parts.{PartSeen}
-use Rattle.component_linker.specs.Started.{StartSeen}
-use Rattle.component_linker.specs.LinkedStarts.{IsStartOf}
+use Rattle.linked_starts.specs.Parts.{PartSeen}
+use Rattle.linked_starts.specs.Started.{StartSeen}
+use Rattle.linked_starts.specs.LinkedStarts.{IsStartOf}
 use Rattle.audited_runs.specs.Audited.{RunsPass}
 use Rattle.command_words.specs.Fits.{Fits}
-use Rattle.trace_tool.specs.Runs.{written}
+use Rattle.run_lines.specs.Runs.{written}
 use Rattle.proc_language.specs.declared.module.ModuleFields.{ModuleFields}
 use Rattle.source_starts.specs.Sources.{AreSources}
 use Rattle.source_starts.specs.RunMeans.{RunsMean, StacksBegin}
 use Rattle.source_starts.specs.Shown.{SourcesShowNothingElse}
-use Rattle.component_linker.specs.Standing.{placed}
+use Rattle.linked_starts.specs.Standing.{placed}
 use Rattle.linked_modules.specs.Among.{LinkedModulesKeepRules}
 use Rattle.module_rules.specs.Rules.{stack_base_of}
 use Rattle.run_items.specs.Items.{TextsTellItems}
-use Rattle.trace_tool.specs.Layout.{layout}
+use Rattle.run_lines.specs.Layout.{layout}
 use Rattle.refusal_lines.specs.declared.status.Status.{Status}
 use Rattle.lcm_cli.specs.Commands.{plan_in}
 use Rattle.lcm_cli.specs.Answers.{Outside, Answers, read_in}

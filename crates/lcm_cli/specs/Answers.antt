@@ -8,14 +8,14 @@ use Rattle.authority_report.specs.Text.{IsReachText}
 use Rattle.debug_tool.specs.Replies.{debug_text}
 use Rattle.generated_load.specs.Loads.{load_steps}
 use Rattle.lcm_machine.specs.Run.{Run as Machine, answer as last_step, plain}
-use Rattle.component_linker.specs.Started.{StartSeen}
-use Rattle.component_linker.specs.LinkedStarts.{IsStartOf}
+use Rattle.linked_starts.specs.Started.{StartSeen}
+use Rattle.linked_starts.specs.LinkedStarts.{IsStartOf}
 use Rattle.overlay_machine.specs.Seen.{OverlaySeen, IsOverlayOf}
-use Rattle.trace_tool.specs.declared.run.RunEnd.{RunEnd}
-use Rattle.trace_tool.specs.declared.run.RunEnd.TheVariants as run_end
-use Rattle.trace_tool.specs.Layout.{layout}
-use Rattle.trace_tool.specs.Runs.{run_text, end_of}
-use Rattle.trace_tool.specs.Traces.{trace_of, trace_text}
+use Rattle.run_lines.specs.declared.run.RunEnd.{RunEnd}
+use Rattle.run_lines.specs.declared.run.RunEnd.TheVariants as run_end
+use Rattle.run_lines.specs.Layout.{layout}
+use Rattle.run_lines.specs.Runs.{run_text, end_of}
+use Rattle.run_lines.specs.Traces.{trace_of, trace_text}
 use Rattle.source_events.specs.declared.End.{End}
 use Rattle.source_events.specs.declared.End.TheVariants as end
 use Rattle.source_events.specs.declared.Told.{Told}

@@ -23,8 +23,8 @@ use Rattle.component_file.specs.declared.fault.FileFault.{FileFault}
 use Rattle.component_file.specs.declared.component.ComponentFields.{ComponentFields}
 use Rattle.component_file.specs.Reading.{decoded}
 use Rattle.component_check.specs.declared.rule.Broken.{Broken}
-use Rattle.component_linker.specs.declared.fault.RuleAt.{RuleAt}
-use Rattle.component_linker.specs.Parts.{PartSeen}
+use Rattle.linked_starts.specs.declared.fault.RuleAt.{RuleAt}
+use Rattle.linked_starts.specs.Parts.{PartSeen}
 use Rattle.image_loader.specs.declared.fault.ImageFault.{ImageFault}
 use Rattle.image_loader.specs.declared.fault.ImageFault.TheVariants as image
 use Rattle.authority_report.specs.declared.reach.Reach.{Reach as Reached}
@@ -44,18 +44,18 @@ use Rattle.step_back.specs.Calls.{Remembers}
 use Rattle.generated_load.specs.Loads.{load_of, load_steps}
 use Rattle.image_loader.specs.Image.{ImageSeen}
 use Rattle.image_loader.specs.Reading.{image_of}
-use Rattle.component_linker.specs.Started.{StartSeen}
-use Rattle.component_linker.specs.LinkedStarts.{IsStartOf}
+use Rattle.linked_starts.specs.Started.{StartSeen}
+use Rattle.linked_starts.specs.LinkedStarts.{IsStartOf}
 use Rattle.overlay_machine.specs.Seen.{OverlaySeen, IsOverlayOf}
-use Rattle.trace_tool.specs.declared.run.RunEnd.{RunEnd}
-use Rattle.trace_tool.specs.declared.run.RunEnd.TheVariants as run_end
-use Rattle.trace_tool.specs.Runs.{written, run_text, end_of}
-use Rattle.trace_tool.specs.OpenCalls.{CallsAreKept}
-use Rattle.trace_tool.specs.Secrecy.{FramesAreSecret}
+use Rattle.run_lines.specs.declared.run.RunEnd.{RunEnd}
+use Rattle.run_lines.specs.declared.run.RunEnd.TheVariants as run_end
+use Rattle.run_lines.specs.Runs.{written, run_text, end_of}
+use Rattle.headline.specs.OpenCalls.{CallsAreKept}
+use Rattle.headline.specs.Secrecy.{FramesAreSecret}
 use Rattle.confinement.specs.Confined.{StartIsConfined}
-use Rattle.trace_tool.specs.Headline.{Headline}
-use Rattle.trace_tool.specs.Layout.{layout}
-use Rattle.trace_tool.specs.Traces.{trace_of, trace_text}
+use Rattle.headline.specs.Headline.{Headline}
+use Rattle.run_lines.specs.Layout.{layout}
+use Rattle.run_lines.specs.Traces.{trace_of, trace_text}
 use Rattle.lcm_machine.specs.declared.FailCause.{FailCause}
 use Rattle.lcm_machine.specs.declared.Step.{Step}
 use Rattle.lcm_machine.specs.declared.Step.TheVariants.{Went, Halted, Failed}
@@ -85,7 +85,7 @@ use Rattle.refusal_lines.specs.declared.status.Status.TheVariants.{AsmRefused, S
 use Rattle.refusal_lines.specs.declared.status.Status.TheVariants.{RuleBroken, AuditRefused}
 use Rattle.refusal_lines.specs.Refusals.{refusal_text, audit_text, image_status}
 use Rattle.file_plans.specs.Plans.{Plan, Reads, Ends, Made, each_at}
-use Rattle.component_linker.specs.Accepted.{accepted}
+use Rattle.linked_starts.specs.Accepted.{accepted}
 use Rattle.command_words.specs.Part.{is_trusted_mark}
 use Rattle.link_tool.specs.Parts.{linked, loaded, component_at, part_at}
 use Rattle.lcm_cli.specs.Commands.{Content, spelling_of, IsReadAgain, Telling, Run, Trace, Put, Write, Task}

@@ -3,8 +3,8 @@ use Rattle.std.specs.Prelude.{◌≡◌, ℕ, List, Result}
 use Rattle.outside_io.specs.FilesSeen.{FilesSeen}
 use Rattle.authority_report.specs.Text.{IsReachText}
 use Rattle.generated_load.specs.Loads.{load_steps}
-use Rattle.component_linker.specs.Started.{StartSeen}
-use Rattle.component_linker.specs.LinkedStarts.{IsStartOf}
+use Rattle.linked_starts.specs.Started.{StartSeen}
+use Rattle.linked_starts.specs.LinkedStarts.{IsStartOf}
 use Rattle.overlay_machine.specs.Seen.{IsOverlayOf}
 use Rattle.image_loader.specs.Image.{ImageSeen}
 use Rattle.lcm_cli.specs.declared.ready.ReadyTask.{ReadyTask}

@@ -15,8 +15,8 @@ use Rattle.proc_program.specs.Lower.{part_of}
 use Rattle.proc_sources.specs.Sources.{module_in}
 use Rattle.proc_language.specs.declared.dialect.Dialect.{Dialect}
 use Rattle.meaning_tool.specs.Subjects.{language_of}
-use Rattle.component_linker.specs.Parts.{PartSeen}
-use Rattle.component_linker.specs.Started.{StartSeen}
+use Rattle.linked_starts.specs.Parts.{PartSeen}
+use Rattle.linked_starts.specs.Started.{StartSeen}
 use Rattle.module_rules.specs.Rules.{stack_base_of, ruled}
 use Rattle.run_feed.specs.Feed.{fed}
 use Rattle.source_events.specs.declared.End.{End}
@@ -25,7 +25,7 @@ use Rattle.source_starts.specs.Sources.{AreSources}
 use Rattle.source_laws.specs.Sources.{MeaningEnds, MeaningBegins}
 use Rattle.source_starts.specs.RunMeans.{went_out, came_in, RunMeans}
 use Rattle.source_starts.specs.Shown.{ShowsNothingElse}
-use Rattle.trace_tool.specs.Layout.{layout}
+use Rattle.run_lines.specs.Layout.{layout}
 use Rattle.file_plans.specs.declared.TheConstants.{LONGEST_FILE}
 use Rattle.file_plans.specs.declared.refusal.Refusal.{Refusal}
 use Rattle.refusal_lines.specs.declared.status.Status.{Status}

@@ -6,9 +6,9 @@ use Rattle.lcm_machine.specs.declared.Step.{Step}
 use Rattle.lcm_machine.specs.declared.Step.TheVariants.{Halted}
 use Rattle.lcm_machine.specs.Places.{reg}
 use Rattle.lcm_machine.specs.Run.{Run, plain, answer as last_step}
-use Rattle.component_linker.specs.Started.{StartSeen}
+use Rattle.linked_starts.specs.Started.{StartSeen}
 use Rattle.trace_tool.specs.Counts.{calls_of_run}
-use Rattle.trace_tool.specs.EndLines.{end_line}
+use Rattle.run_lines.specs.EndLines.{end_line}
 use Rattle.generated_load.specs.declared.load.Workload.{Workload}
 
 -- the load's numbers, the word in a0 and how many calls there were

@@ -8,10 +8,10 @@ ghost use Rattle.lcm_cli.specs.ReadyTasks.{FollowsTask};
 
 use crate::ready::ReadyTask;
 use command_words::{FileName, Linked};
-use component_linker::Start;
 use debug_script::{Script, ScriptFault, script_of};
 use file_plans::{Refusal, Stop, read};
 use link_tool::start;
+use linked_starts::Start;
 use outside_io::Files;
 use std::alloc::Global;
 

@@ -1,10 +1,10 @@
 //! What holds of the answers of the top call. These functions do nothing; their contracts are the laws.
 ghost use Rattle.std.specs.Prelude.{◌≡◌, ℕ, List, Option, Ok};
 ghost use Rattle.command_words.specs.declared.command.Command.{Command};
-ghost use Rattle.component_linker.specs.Parts.{PartSeen};
-ghost use Rattle.component_linker.specs.Pairs.{IsFirstBrokenIn};
-ghost use Rattle.component_linker.specs.Links.{rules_of_link, rule_at};
-ghost use Rattle.component_linker.specs.Standing.{placed};
+ghost use Rattle.linked_starts.specs.Parts.{PartSeen};
+ghost use Rattle.linked_starts.specs.Pairs.{IsFirstBrokenIn};
+ghost use Rattle.linked_starts.specs.Links.{rules_of_link, rule_at};
+ghost use Rattle.linked_starts.specs.Standing.{placed};
 ghost use Rattle.image_loader.specs.Image.{ImageSeen, IsImage, image_bytes};
 ghost use Rattle.link_tool.specs.Parts.{linked, loaded};
 ghost use Rattle.lcm_cli.specs.Commands.{plan_in};

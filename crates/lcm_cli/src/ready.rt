@@ -24,12 +24,12 @@ use command_words::{
     Command, ComponentDeed, FileName, LinkDeed, Linked, PartWord, PartWords, Seed, Steps,
 };
 use component_file::{Component, encode_component};
-use component_linker::Start;
 use debug_script::Script;
 use disassembler::disassemble;
 use file_plans::{Refusal, Stop, read};
 use generated_load::{Workload, load_of};
 use link_tool::{component, image_bytes, load_start, part, start};
+use linked_starts::Start;
 use meaning_tool::{Meaning, meant, module};
 use outside_io::Files;
 use overlay_machine::Overlay;

@@ -2,15 +2,15 @@
 use Rattle.std.proofs.Common.{◌≡◌, ℕ, List, refl, subst, map}
 use Rattle.std.specs.Prelude.{Result, Ok, Err}
 use Rattle.component_check.specs.Verdict.{check_from}
-use Rattle.component_linker.specs.declared.fault.RuleAt.{RuleAt}
-use Rattle.component_linker.specs.declared.fault.LinkFault.{LinkFault}
-use Rattle.component_linker.specs.declared.fault.LinkFault.TheVariants.{Rule}
-use Rattle.component_linker.specs.Answer.{Answers}
-use Rattle.component_linker.specs.Pairs.{IsFirstIn, IsFirstBrokenIn, NoneIsBroken, by_part}
-use Rattle.component_linker.specs.Links.{rules_of_link, rule_at}
-use Rattle.component_linker.specs.Standing.{placed}
-use Rattle.component_linker.specs.Parts.{PartSeen}
-use Rattle.component_linker.proofs.Offers.{first_broken_in, one_first_in}
+use Rattle.linked_starts.specs.declared.fault.RuleAt.{RuleAt}
+use Rattle.linked_starts.specs.declared.fault.LinkFault.{LinkFault}
+use Rattle.linked_starts.specs.declared.fault.LinkFault.TheVariants.{Rule}
+use Rattle.linked_starts.specs.Answer.{Answers}
+use Rattle.linked_starts.specs.Pairs.{IsFirstIn, IsFirstBrokenIn, NoneIsBroken, by_part}
+use Rattle.linked_starts.specs.Links.{rules_of_link, rule_at}
+use Rattle.linked_starts.specs.Standing.{placed}
+use Rattle.linked_starts.specs.Parts.{PartSeen}
+use Rattle.linked_starts.proofs.Offers.{first_broken_in, one_first_in}
 use Rattle.link_tool.specs.Parts.{linked}
 
 same_err : {A E : Type 0} (a b : E) → a ≡ b → (let r : Result A E = Err a in r) ≡ Err b

@@ -1,9 +1,9 @@
 -- The start of a generated load, as the body finds it.
 use Rattle.std.proofs.Common.{◌≡◌, List, refl}
 use Rattle.std.specs.Prelude.{Result, Ok, Err, IfOk}
-use Rattle.component_linker.specs.Parts.{PartSeen}
-use Rattle.component_linker.specs.Started.{StartSeen}
-use Rattle.component_linker.specs.LinkedStarts.{IsStartOf}
+use Rattle.linked_starts.specs.Parts.{PartSeen}
+use Rattle.linked_starts.specs.Started.{StartSeen}
+use Rattle.linked_starts.specs.LinkedStarts.{IsStartOf}
 use Rattle.generated_load.specs.declared.TheConstants.{LOAD_STACK}
 use Rattle.generated_load.specs.declared.load.Workload.{Workload}
 use Rattle.file_plans.specs.declared.refusal.Refusal.TheVariants as refusal

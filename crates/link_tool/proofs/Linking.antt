@@ -3,14 +3,14 @@ use Rattle.std.proofs.Common.{◌≡◌, ◌≢◌, ℕ, List, inl, inr, refl, s
 use Rattle.std.specs.Prelude.{Result, Ok, Err}
 use Rattle.outside_io.specs.FilesSeen.{FilesSeen}
 use Rattle.command_words.specs.declared.part.PartWord.{PartWord}
-use Rattle.component_linker.specs.declared.fault.RuleAt.{RuleAt}
-use Rattle.component_linker.specs.declared.fault.LinkFault.{LinkFault}
-use Rattle.component_linker.specs.declared.fault.LinkFault.TheVariants as link_fault
-use Rattle.component_linker.specs.Answer.{Answers}
-use Rattle.component_linker.specs.Parts.{PartSeen}
-use Rattle.component_linker.specs.Started.{StartSeen}
-use Rattle.component_linker.proofs.Offers.{keeps_all}
-use Rattle.component_linker.specs.Standing.{placed}
+use Rattle.linked_starts.specs.declared.fault.RuleAt.{RuleAt}
+use Rattle.linked_starts.specs.declared.fault.LinkFault.{LinkFault}
+use Rattle.linked_starts.specs.declared.fault.LinkFault.TheVariants as link_fault
+use Rattle.linked_starts.specs.Answer.{Answers}
+use Rattle.linked_starts.specs.Parts.{PartSeen}
+use Rattle.linked_starts.specs.Started.{StartSeen}
+use Rattle.linked_starts.proofs.Offers.{keeps_all}
+use Rattle.linked_starts.specs.Standing.{placed}
 use Rattle.image_loader.specs.declared.fault.ImageFault.{ImageFault}
 use Rattle.image_loader.specs.declared.fault.ImageFault.TheVariants as image
 use Rattle.image_loader.specs.Fault.{not_linked}

@@ -1,7 +1,7 @@
 -- Loads that are generated: their parts, which no file holds.
 use Rattle.std.specs.Prelude.{true, false, List, [], ◌∷◌}
-use Rattle.component_linker.specs.Accepted.{accepted}
-use Rattle.component_linker.specs.Parts.{PartSeen}
+use Rattle.linked_starts.specs.Accepted.{accepted}
+use Rattle.linked_starts.specs.Parts.{PartSeen}
 use Rattle.image_loader.specs.Image.{ImageSeen}
 use Rattle.generated_load.specs.declared.TheConstants.{LOAD_STACK}
 use Rattle.generated_load.specs.declared.load.Workload.{Workload}

@@ -10,12 +10,12 @@ use Rattle.component_file.specs.declared.component.ComponentFields.{ComponentFie
 use Rattle.component_file.specs.Reading.{decoded}
 use Rattle.component_check.specs.declared.rule.Broken.{Broken}
 use Rattle.component_check.specs.Verdict.{check_from}
-use Rattle.component_linker.specs.declared.fault.RuleAt.{RuleAt}
-use Rattle.component_linker.specs.Pairs.{by_part}
-use Rattle.component_linker.specs.Links.{rules_of_link, rule_at}
-use Rattle.component_linker.specs.Standing.{placed}
-use Rattle.component_linker.specs.Accepted.{accepted}
-use Rattle.component_linker.specs.Parts.{PartSeen}
+use Rattle.linked_starts.specs.declared.fault.RuleAt.{RuleAt}
+use Rattle.linked_starts.specs.Pairs.{by_part}
+use Rattle.linked_starts.specs.Links.{rules_of_link, rule_at}
+use Rattle.linked_starts.specs.Standing.{placed}
+use Rattle.linked_starts.specs.Accepted.{accepted}
+use Rattle.linked_starts.specs.Parts.{PartSeen}
 use Rattle.image_loader.specs.declared.fault.ImageFault.{ImageFault}
 use Rattle.image_loader.specs.declared.fault.ImageFault.TheVariants as image
 use Rattle.image_loader.specs.Image.{ImageSeen}

@@ -6,7 +6,7 @@ ghost use Rattle.assembler.specs.Assembled.{assembled};
 ghost use Rattle.file_plans.specs.declared.refusal.Refusal.TheVariants as refusal;
 ghost use Rattle.file_plans.specs.Plans.{Follows, Meets, unless, each_at};
 ghost use Rattle.proc_sources.specs.Sources.{sourced};
-ghost use Rattle.component_linker.specs.Accepted.{accepted};
+ghost use Rattle.linked_starts.specs.Accepted.{accepted};
 ghost use Rattle.command_words.specs.Part.{is_trusted_mark};
 ghost use Rattle.link_tool.specs.Parts.{broken_in, form_by, component_at, part_at};
 

@@ -4,7 +4,7 @@ ghost use Rattle.command_words.specs.declared.TheConstants.{MOST_PARTS};
 ghost use Rattle.image_loader.specs.Image.{ImageSeen, SpellsImage};
 ghost use Rattle.file_plans.specs.declared.refusal.Refusal.TheVariants.{Rule, Image};
 ghost use Rattle.file_plans.specs.Plans.{Meets, unless};
-ghost use Rattle.component_linker.specs.LinkedStarts.{IsStartOf};
+ghost use Rattle.linked_starts.specs.LinkedStarts.{IsStartOf};
 ghost use Rattle.link_tool.specs.Parts.{linked, loaded};
 ghost use Rattle.link_tool.specs.Linked.{linked_parts, linked_image, linked_in};
 ghost use Rattle.link_tool.specs.Linked.{without, FollowsStart, FollowsImage, MeetsStart};

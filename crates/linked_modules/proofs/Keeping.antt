@@ -14,17 +14,17 @@ use Rattle.component_check.specs.Places.{Test, BrokenAt}
 use Rattle.component_file.specs.declared.component.Import.{Import}
 use Rattle.component_file.specs.declared.component.Export.{Export}
 use Rattle.component_file.proofs.Offers.{inside}
-use Rattle.component_linker.specs.Parts.{PartSeen}
-use Rattle.component_linker.specs.Standing.{placed}
-use Rattle.component_linker.specs.Regions.{is_stack_size}
-use Rattle.component_linker.specs.Start.{same_name, exported_by, export_that, part_named, imported, is_main}
-use Rattle.component_linker.specs.Start.{stack_base_of as parts_base}
-use Rattle.component_linker.specs.Pairs.{PairTest, BrokenIn, NoneIsBroken, IsFirstBrokenIn, never, once}
-use Rattle.component_linker.specs.Pairs.{passes, at_each, within_or, each_part}
-use Rattle.component_linker.specs.Links.{l3, l5, l6, rules_l, is_private as is_private_in}
-use Rattle.component_linker.specs.Links.{has_main as part_has_main}
-use Rattle.component_linker.proofs.Offers.{first_broken_in, slice_get-take, taken, any_settled, in_part}
-use Rattle.component_linker.proofs.Offers.{stack_fits as parts_fit, stack_bases, imports_found, taken_get}
+use Rattle.linked_starts.specs.Parts.{PartSeen}
+use Rattle.linked_starts.specs.Standing.{placed}
+use Rattle.linked_starts.specs.Regions.{is_stack_size}
+use Rattle.linked_starts.specs.Start.{same_name, exported_by, export_that, part_named, imported, is_main}
+use Rattle.linked_starts.specs.Start.{stack_base_of as parts_base}
+use Rattle.linked_starts.specs.Pairs.{PairTest, BrokenIn, NoneIsBroken, IsFirstBrokenIn, never, once}
+use Rattle.linked_starts.specs.Pairs.{passes, at_each, within_or, each_part}
+use Rattle.linked_starts.specs.Links.{l3, l5, l6, rules_l, is_private as is_private_in}
+use Rattle.linked_starts.specs.Links.{has_main as part_has_main}
+use Rattle.linked_starts.proofs.Offers.{first_broken_in, slice_get-take, taken, any_settled, in_part}
+use Rattle.linked_starts.proofs.Offers.{stack_fits as parts_fit, stack_bases, imports_found, taken_get}
 use Rattle.proc_language.specs.declared.module.Import.{Import as ModuleImport}
 use Rattle.proc_language.specs.declared.module.Proc.{Proc}
 use Rattle.proc_language.specs.declared.module.ModuleFields.{ModuleFields}

@@ -2,9 +2,9 @@
 use Rattle.std.proofs.Common.{◌≡◌, ℕ, zero, suc, List, [], ◌∷◌, Option, Some, None, refl, ap}
 use Rattle.std.specs.Prelude.{slice_get}
 use Rattle.component_file.specs.declared.component.ComponentFields.{ComponentFields}
-use Rattle.component_linker.specs.Parts.{PartSeen}
-use Rattle.component_linker.specs.Placing.{moved_by}
-use Rattle.component_linker.specs.Standing.{move_of, placed_part, past, placed_from, placed, free_of}
+use Rattle.linked_starts.specs.Parts.{PartSeen}
+use Rattle.linked_starts.specs.Placing.{moved_by}
+use Rattle.linked_starts.specs.Standing.{move_of, placed_part, past, placed_from, placed, free_of}
 
 -- what a component says of names and the stack
 pub record SaysSame (c d : ComponentFields) : Type 0 where

@@ -1,9 +1,9 @@
 -- Modules whose components are among linked parts.
 use Rattle.std.specs.Prelude.{◌≡◌, ℕ, ◌<◌, List, [], length, slice_get, Some, Ok}
-use Rattle.component_linker.specs.Parts.{PartSeen}
-use Rattle.component_linker.specs.Standing.{placed}
-use Rattle.component_linker.specs.Pairs.{NoneIsBroken}
-use Rattle.component_linker.specs.Links.{rules_l}
+use Rattle.linked_starts.specs.Parts.{PartSeen}
+use Rattle.linked_starts.specs.Standing.{placed}
+use Rattle.linked_starts.specs.Pairs.{NoneIsBroken}
+use Rattle.linked_starts.specs.Links.{rules_l}
 use Rattle.proc_language.specs.declared.module.ModuleFields.{ModuleFields}
 use Rattle.proc_names.specs.NameFaults.{name_faults}
 use Rattle.proc_templates.specs.Compiled.{compiled}

@@ -5,7 +5,7 @@ use Rattle.command_words.specs.declared.part.PartWord.{PartWord}
 use Rattle.command_words.specs.Part.{dialect_of}
 use Rattle.proc_language.specs.declared.dialect.Dialect.{Dialect}
 use Rattle.proc_language.specs.declared.dialect.Dialect.TheVariants.{Plain}
-use Rattle.component_linker.specs.declared.fault.RuleAt.{RuleAt}
+use Rattle.linked_starts.specs.declared.fault.RuleAt.{RuleAt}
 use Rattle.proc_language.specs.declared.module.ModuleFields.{ModuleFields}
 use Rattle.proc_program.specs.Lower.{part_of}
 use Rattle.proc_sources.specs.Sources.{module_in}

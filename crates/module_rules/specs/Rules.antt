@@ -8,10 +8,10 @@ use Rattle.cap_words.specs.declared.TheConstants.{LAST_PLACE}
 use Rattle.component_check.specs.Verdict.{check_from}
 use Rattle.component_check.specs.declared.rule.Group.TheVariants.{L}
 use Rattle.component_file.specs.Limits.{name_lt}
-use Rattle.component_linker.specs.declared.fault.RuleAt.{RuleAt}
-use Rattle.component_linker.specs.declared.pairs.PartPlace.{PartPlace}
-use Rattle.component_linker.specs.Regions.{is_stack_size}
-use Rattle.component_linker.specs.Pairs.{PairTest, by_part, never, once, at_each, each_part, each_part_then}
+use Rattle.linked_starts.specs.declared.fault.RuleAt.{RuleAt}
+use Rattle.linked_starts.specs.declared.pairs.PartPlace.{PartPlace}
+use Rattle.linked_starts.specs.Regions.{is_stack_size}
+use Rattle.linked_starts.specs.Pairs.{PairTest, by_part, never, once, at_each, each_part, each_part_then}
 use Rattle.proc_language.specs.declared.module.Proc.{Proc}
 use Rattle.proc_language.specs.declared.module.ModuleFields.{ModuleFields}
 

@@ -1,7 +1,7 @@
 //! All rules, in their order.
 ghost use Rattle.std.specs.Prelude.{◌≡◌, ◌<◌, ◌^◌, length, Ok, map};
 ghost use Rattle.component_check.specs.Verdict.{check_from, kept_or};
-ghost use Rattle.component_linker.specs.Pairs.{by_part, IsFirstBrokenIn};
+ghost use Rattle.linked_starts.specs.Pairs.{by_part, IsFirstBrokenIn};
 ghost use Rattle.module_rules.specs.Rules.{module_rules, told_as, ruled};
 
 use crate::imports::{imports_are_shared, imports_are_there};
@@ -9,7 +9,7 @@ use crate::pairs::{names_differ, stacks_agree};
 use crate::places::ModulePlace;
 use crate::whole::{one_main, stack_fits};
 use component_check::{Group, Rule};
-use component_linker::RuleAt;
+use linked_starts::RuleAt;
 use proc_language::Module;
 
 // Goes on where a rule has no broken place. The first that is tried is L3.

@@ -2,7 +2,7 @@
 ghost use Rattle.std.specs.Prelude.{◌≡◌, ◌<◌, ◌^◌, length, slice_get};
 ghost use Rattle.std.specs.Option.{option_copied};
 ghost use Rattle.component_check.specs.Places.{first_place};
-ghost use Rattle.component_linker.specs.Pairs.{first_in, passes};
+ghost use Rattle.linked_starts.specs.Pairs.{first_in, passes};
 ghost use Rattle.module_rules.specs.Rules.{module_named, proc_named, is_missing, imports_are_there};
 ghost use Rattle.module_rules.specs.Rules.{is_unshared, is_private, imports_are_shared};
 

@@ -1,7 +1,7 @@
 //! Rules L3 and L7: what two modules may not have in common, and what all must.
 ghost use Rattle.std.specs.Prelude.{◌≡◌, ◌<◌, ◌≤◌, ◌^◌, length, slice_get, Some};
 ghost use Rattle.component_check.specs.Places.{first_place};
-ghost use Rattle.component_linker.specs.Pairs.{first_in, passes};
+ghost use Rattle.linked_starts.specs.Pairs.{first_in, passes};
 ghost use Rattle.module_rules.specs.Rules.{same_name, names_differ, stack_base_of, stacks_agree};
 
 use crate::places::{ModulePlace, first_in, once};

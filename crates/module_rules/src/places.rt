@@ -1,7 +1,7 @@
 //! The first module, and the first place in it, at which a rule is broken.
 ghost use Rattle.std.specs.Prelude.{◌≡◌, ◌<◌, ◌≤◌, ◌^◌, ℕ};
 ghost use Rattle.component_check.specs.Places.{first_place};
-ghost use Rattle.component_linker.specs.Pairs.{FirstInBy, once};
+ghost use Rattle.linked_starts.specs.Pairs.{FirstInBy, once};
 
 use std::marker::Model;
 
@@ -15,7 +15,7 @@ pub(crate) struct ModulePlace {
 }
 
 impl Model for ModulePlace {
-    ghost use Rattle.component_linker.specs.declared.pairs.PartPlace.{PartPlace};
+    ghost use Rattle.linked_starts.specs.declared.pairs.PartPlace.{PartPlace};
 
     ghost Value = { PartPlace };
 

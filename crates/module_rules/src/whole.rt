@@ -3,8 +3,8 @@ ghost use Rattle.std.specs.Prelude.{◌≡◌, ◌<◌, ◌≤◌, ◌^◌, ◌&
 ghost use Rattle.std.specs.List.{list_any};
 ghost use Rattle.component_check.specs.Places.{first_place};
 ghost use Rattle.component_file.specs.Limits.{name_lt};
-ghost use Rattle.component_linker.specs.Regions.{is_stack_size};
-ghost use Rattle.component_linker.specs.Pairs.{first_in};
+ghost use Rattle.linked_starts.specs.Regions.{is_stack_size};
+ghost use Rattle.linked_starts.specs.Pairs.{first_in};
 ghost use Rattle.module_rules.specs.Rules.{is_main, has_main, main_rank, one_main, stack_fits};
 
 use crate::pairs::{module_at, stack_base_of};

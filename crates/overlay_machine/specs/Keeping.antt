@@ -6,7 +6,7 @@ use Rattle.lcm_machine.specs.Maps.{State}
 use Rattle.lcm_machine.specs.Places.{reg}
 use Rattle.lcm_machine.specs.Row.{Outcome, went, halted, failed}
 use Rattle.lcm_machine.specs.Runs.{run_of}
-use Rattle.component_linker.specs.Parts.{PartSeen}
+use Rattle.linked_starts.specs.Parts.{PartSeen}
 use Rattle.overlay_machine.specs.declared.overlay.OStep.{OStep}
 use Rattle.overlay_machine.specs.declared.overlay.OStep.TheVariants.{Went, Halted, Failed}
 use Rattle.overlay_machine.specs.Step.{weight_of}

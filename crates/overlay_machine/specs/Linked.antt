@@ -9,13 +9,13 @@ use Rattle.lcm_isa.specs.declared.Instr.TheVariants.{Fail}
 use Rattle.lcm_machine.specs.Regions.{Region, AreApart}
 use Rattle.call_sequence.specs.declared.TheConstants.{SITE_WORDS, ENTRY_WORDS}
 use Rattle.call_sequence.specs.Standing.{CodeStands, SiteStands, EntryStands}
-use Rattle.flow_check.specs.Holds.{code_at}
-use Rattle.flow_check.specs.Places.{begins_entry, begins_site}
-use Rattle.component_linker.specs.declared.owners.Site.{Site}
-use Rattle.component_linker.specs.declared.owners.Owner.{Owner}
-use Rattle.component_linker.specs.Parts.{PartSeen, IsPart}
-use Rattle.component_linker.specs.Regions.{stack_span}
-use Rattle.component_linker.specs.TrustedCode.{all_seals}
+use Rattle.flow_rules.specs.Holds.{code_at}
+use Rattle.flow_rules.specs.Places.{begins_entry, begins_site}
+use Rattle.linked_starts.specs.declared.owners.Site.{Site}
+use Rattle.linked_starts.specs.declared.owners.Owner.{Owner}
+use Rattle.linked_starts.specs.Parts.{PartSeen, IsPart}
+use Rattle.linked_starts.specs.Regions.{stack_span}
+use Rattle.linked_starts.specs.TrustedCode.{all_seals}
 use Rattle.trusted_border.specs.declared.layout.SiteCode.{SiteCode}
 use Rattle.trusted_border.specs.Layout.{runs_part, site_at, site_code, has_entry_at}
 use Rattle.overlay_machine.specs.Link.{Link, IsTrusted, IsUsable, regions, ranges_of, code_region}

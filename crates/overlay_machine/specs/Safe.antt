@@ -10,9 +10,9 @@ use Rattle.cap_words.specs.declared.SealFields.{SealFields}
 use Rattle.cap_words.specs.Faces.{may_run}
 use Rattle.cap_words.specs.Linear.{lin_is}
 use Rattle.lcm_machine.specs.Regions.{Region}
-use Rattle.component_linker.specs.Parts.{PartSeen}
-use Rattle.component_linker.specs.Start.{Exported, code_half, data_half}
-use Rattle.component_linker.specs.SealsApart.{is_seal_of}
+use Rattle.linked_starts.specs.Parts.{PartSeen}
+use Rattle.linked_starts.specs.Start.{Exported, code_half, data_half}
+use Rattle.linked_starts.specs.SealsApart.{is_seal_of}
 use Rattle.trusted_border.specs.declared.layout.SiteCode.{SiteCode}
 use Rattle.trusted_border.specs.Layout.{site_code}
 use Rattle.overlay_machine.specs.declared.words.OWord.{OWord}

@@ -10,10 +10,10 @@ ghost use Rattle.overlay_machine.specs.Copies.{plain_regs, copied, AreCopiedTo};
 
 use crate::words::OWord;
 use cap_words::{Items, LAST_PLACE, SealRange};
-use component_linker::{CalledEntry, Entry, Owner, Start};
 use lcm_isa::Reg;
 use lcm_machine::state::State;
 use lcm_machine::{LcmState, Place, Span};
+use linked_starts::{CalledEntry, Entry, Owner, Start};
 use std::alloc::{AllocError, Global};
 use trusted_border::Layout;
 

@@ -3,7 +3,7 @@ ghost use Rattle.std.specs.Prelude.{◌≡◌, ◌↔◌, ℕ, List};
 ghost use Rattle.cap_words.specs.declared.Word.{Word};
 ghost use Rattle.lcm_machine.specs.Maps.{State};
 ghost use Rattle.lcm_machine.specs.Row.{went};
-ghost use Rattle.component_linker.specs.LinkedStarts.{IsLinkedStart};
+ghost use Rattle.linked_starts.specs.LinkedStarts.{IsLinkedStart};
 ghost use Rattle.trusted_border.specs.declared.layout.Layout.{Layout};
 ghost use Rattle.overlay_machine.specs.State.{OState};
 ghost use Rattle.overlay_machine.specs.Step.{halts, overlay_step, weight_of};
@@ -14,15 +14,15 @@ ghost use Rattle.overlay_machine.specs.Linked.{Linked};
 ghost use Rattle.overlay_machine.specs.Invariant.{Invariant, StepsKeep};
 ghost use Rattle.overlay_machine.specs.Cover.{CoverIsOnce};
 ghost use Rattle.overlay_machine.specs.Privacy.{AllFramesArePrivate};
-ghost use Rattle.component_linker.specs.Parts.{PartSeen};
-ghost use Rattle.component_linker.specs.Started.{StartSeen};
+ghost use Rattle.linked_starts.specs.Parts.{PartSeen};
+ghost use Rattle.linked_starts.specs.Started.{StartSeen};
 ghost use Rattle.overlay_machine.specs.Seen.{OverlaySeen, IsOverlayOf};
 ghost use Rattle.overlay_machine.specs.Starting.{overlay_at, StartsBegin, AgreesFromStart};
 ghost use Rattle.overlay_machine.specs.Starting.{StartThere};
 ghost use Rattle.overlay_machine.specs.Names.{StartsTellNames};
 
 use call_sequence::laws::sequences_stand_word_by_word;
-use flow_check::laws::sequences_stand;
+use flow_rules::laws::sequences_stand;
 
 /// Each state of the overlay stands for exactly one plain state.
 ///

@@ -18,10 +18,10 @@ use crate::frames::Frame;
 use crate::machine::Machine;
 use crate::words::OWord;
 use cap_words::{Opened, Word};
-use component_linker::Owner;
 use lcm_isa::{Instr, Reg};
 use lcm_machine::Place;
 use lcm_machine::state::State;
+use linked_starts::Owner;
 use trusted_border::reach::{content_base, entry_number, hop_by, owner_closed, site_sealed};
 use trusted_border::{Back, Event, Layout};
 

@@ -3,7 +3,6 @@ use Rattle.std.proofs.Common.{◌≡◌, ℕ, zero, suc, ◌+◌, ◌-◌, false
 use Rattle.std.proofs.Common.{refl, sym, ap, ◌∙◌, append_assoc, arith}
 use Rattle.std.specs.Prelude.{◌==◌, slice_get, pos}
 use Rattle.std.specs.Option.{option_map_or}
-
 use Rattle.cap_words.specs.declared.Word.{Word}
 use Rattle.cap_words.specs.declared.Word.TheVariants.{Int}
 use Rattle.lcm_isa.specs.declared.Reg.{Reg}
@@ -13,7 +12,6 @@ use Rattle.lcm_isa.specs.declared.Instr.{Instr}
 use Rattle.lcm_isa.specs.declared.Instr.TheVariants.{Store, Cca}
 use Rattle.call_sequence.specs.Sequences.{numbers, distance}
 use Rattle.proc_templates.specs.Items.{Spot, Item, does, guards, is_last, Laid, put, lay, word_of}
-
 use Rattle.proc_templates.specs.Templates.{argument, check_half, push, wipe}
 use Rattle.proc_templates.proofs.Offers.{args-split}
 use Rattle.proc_compiler.specs.Drafts.{Drafted, with_items}

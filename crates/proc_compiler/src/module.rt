@@ -1,7 +1,7 @@
 //! Modules.
 ghost use Rattle.std.specs.Prelude.{◌≡◌, ◌≤◌, ◌+◌, ◌*◌, OnOk, IfOk, IfErr, length, sum_by, []};
 ghost use Rattle.component_file.specs.declared.TheConstants.{MOST_WORDS};
-ghost use Rattle.flow_check.specs.Verdict.{IsKept};
+ghost use Rattle.flow_rules.specs.Verdict.{IsKept};
 ghost use Rattle.proc_language.specs.declared.module.ModuleFields.{ModuleFields};
 ghost use Rattle.proc_language.specs.Limits.{Each, IsModule};
 ghost use Rattle.proc_names.specs.NameFaults.{name_faults};

@@ -6,8 +6,8 @@ use Rattle.asm_fields.specs.declared.fault.AsmFault.TheVariants.{Scan}
 use Rattle.asm_fields.specs.Fault.{fault_number as asm_number, fault_place as asm_place}
 use Rattle.component_file.specs.declared.fault.FileFault.{FileFault}
 use Rattle.component_file.specs.Fault.{fault_number, fault_place}
-use Rattle.component_linker.specs.declared.fault.RuleAt.{RuleAt}
-use Rattle.component_linker.specs.FaultText.{rule_at_text}
+use Rattle.linked_starts.specs.declared.fault.RuleAt.{RuleAt}
+use Rattle.linked_starts.specs.FaultText.{rule_at_text}
 use Rattle.image_loader.specs.declared.fault.ImageFault.{ImageFault}
 use Rattle.image_loader.specs.declared.fault.ImageFault.TheVariants as image
 use Rattle.image_loader.specs.Fault.{fault_number as image_number, fault_place as image_place}

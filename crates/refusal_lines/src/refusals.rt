@@ -11,10 +11,10 @@ use crate::status::Status;
 use arrayvec::ArrayString;
 use assembler::AsmFault;
 use component_file::FileFault;
-use component_linker::RuleAt;
 use file_plans::Refusal;
 use image_loader::ImageFault;
 use itoa::Buffer;
+use linked_starts::RuleAt;
 use proc_compiler::CompileFault;
 use proc_grammar::ParseFault;
 use proc_sources::SourceFault;
@@ -114,7 +114,7 @@ fn push_source(line: &mut ArrayString<64>, part: u32, fault: SourceFault)
     line.push_str("\n");
 }
 
-#[tactic(auto, unfolding(component_linker::specs::FaultText::rule_at_text))]
+#[tactic(auto, unfolding(linked_starts::specs::FaultText::rule_at_text))]
 fn push_rule(line: &mut ArrayString<64>, broken: RuleAt)
     requires { line.old.bytes ≡ [] }
     ensures { line.new.bytes ≡ rule_line broken }

@@ -11,9 +11,9 @@ use Rattle.lcm_machine.specs.declared.FailCause.TheVariants.{F11, F12, F13, F14}
 use Rattle.lcm_machine.specs.declared.Step.{Step}
 use Rattle.lcm_machine.specs.declared.Step.TheVariants.{Went, Halted, Failed}
 use Rattle.lcm_machine.specs.Run.{Run, answer}
-use Rattle.trace_tool.specs.Views.{View, view_of}
-use Rattle.trace_tool.specs.EndLines.{cause_text, pc_text, halted_text, running_text, failed_text}
-use Rattle.trace_tool.specs.EndLines.{failed_by_text, line_at, end_line}
+use Rattle.run_lines.specs.Views.{View, view_of}
+use Rattle.run_lines.specs.EndLines.{cause_text, pc_text, halted_text, running_text, failed_text}
+use Rattle.run_lines.specs.EndLines.{failed_by_text, line_at, end_line}
 use Rattle.line_fields.specs.Cuts.{behind}
 use Rattle.run_feed.specs.Lines.{other_line as Other, seen}
 use Rattle.run_items.proofs.High.{IsHigh, decimal_high, signed_high, word_high, IsOneLine, line_join}

@@ -7,10 +7,10 @@ use Rattle.source_events.specs.declared.FeedBack.{FeedBack}
 use Rattle.source_events.specs.declared.Item.{Item}
 use Rattle.source_events.specs.declared.Item.TheVariants.{Enter}
 use Rattle.source_events.specs.Left.{left_in}
-use Rattle.trace_tool.specs.Lines.{Args, Line, call, ret, enter, pass, leave}
-use Rattle.trace_tool.specs.Texts.{line_text, lines_text}
-use Rattle.trace_tool.specs.Fits.{LineFits, LinesFit}
-use Rattle.trace_tool.specs.Feed as line
+use Rattle.run_lines.specs.Lines.{Args, Line, call, ret, enter, pass, leave}
+use Rattle.run_lines.specs.Texts.{line_text, lines_text}
+use Rattle.run_lines.specs.Fits.{LineFits, LinesFit}
+use Rattle.run_lines.specs.Feed as line
 use Rattle.line_fields.specs.Cuts.{behind}
 use Rattle.line_fields.specs.Fields.{lines}
 use Rattle.line_fields.proofs.Offers.{parts_at, parts_none, is_free, cut_front}

@@ -14,7 +14,7 @@ use Rattle.source_events.specs.declared.FeedPair.{FeedPair}
 use Rattle.source_events.specs.declared.FeedPair.TheVariants as pair
 use Rattle.source_events.specs.Forms.{BackFits, PairFits, back_text, pair_text}
 use Rattle.source_events.specs.Left.{left_in}
-use Rattle.trace_tool.specs.Feed as line
+use Rattle.run_lines.specs.Feed as line
 use Rattle.line_fields.specs.Numbers.{natural_in, integer_in}
 use Rattle.line_fields.specs.Words.{word_in}
 use Rattle.line_fields.proofs.Offers.{number_again, integer_again, integer_is, fits_has_text, text_is_word}

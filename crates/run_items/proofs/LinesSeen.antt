@@ -8,10 +8,10 @@ use Rattle.cap_words.specs.Text.{word_text_of}
 use Rattle.source_events.specs.declared.FeedBack.{FeedBack}
 use Rattle.source_events.specs.declared.FeedPair.{FeedPair}
 use Rattle.source_events.specs.Forms.{IsName, back_text, pair_text}
-use Rattle.trace_tool.specs.Lines.{Args, Line, call, ret, enter, pass, leave}
-use Rattle.trace_tool.specs.Texts.{direction, field, words_text, args_text, place_text, head_text, words_of}
-use Rattle.trace_tool.specs.Texts.{line_text}
-use Rattle.trace_tool.specs.Fits.{LineFits}
+use Rattle.run_lines.specs.Lines.{Args, Line, call, ret, enter, pass, leave}
+use Rattle.run_lines.specs.Texts.{direction, field, words_text, args_text, place_text, head_text, words_of}
+use Rattle.run_lines.specs.Texts.{line_text}
+use Rattle.run_lines.specs.Fits.{LineFits}
 use Rattle.line_fields.specs.Cuts.{behind}
 use Rattle.line_fields.specs.Fields.{meant, tested, whole}
 use Rattle.run_feed.specs.Lines.{LineSeen, enter_line as Enter, ret_line as Ret, pass_line as Pass}

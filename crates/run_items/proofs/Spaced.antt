@@ -7,7 +7,7 @@ use Rattle.std.proofs.lemmas.Bool.{and_parts}
 use Rattle.std.proofs.lemmas.Bool.Decides.{nat_tests}
 use Rattle.cap_words.specs.declared.Word.{Word}
 use Rattle.cap_words.specs.Text.{word_text_of}
-use Rattle.trace_tool.specs.Texts.{words_text}
+use Rattle.run_lines.specs.Texts.{words_text}
 use Rattle.line_fields.specs.Cuts.{is_mark, cut}
 use Rattle.line_fields.specs.Fields.{fields}
 use Rattle.line_fields.proofs.Offers.{parts_at, parts_none, is_free, cut_front}

@@ -4,8 +4,8 @@ use Rattle.std.specs.Prelude.{nat_lt, if◌then◌else◌}
 use Rattle.overlay_machine.specs.declared.overlay.OStep.{OStep}
 use Rattle.overlay_machine.specs.declared.overlay.OStep.TheVariants.{Went, Halted, Failed}
 use Rattle.overlay_machine.specs.Seen.{OverlaySeen, next_overlay, answer_of}
-use Rattle.trace_tool.specs.Views.{overlay_view}
-use Rattle.trace_tool.specs.Traces.{Traced, weight_with, stopped, traced_by, traced, trace_of}
+use Rattle.run_lines.specs.Views.{overlay_view}
+use Rattle.run_lines.specs.Traces.{Traced, weight_with, stopped, traced_by, traced, trace_of}
 use Rattle.run_items.proofs.EndLinesSeen.{IsPassedOver, halted_is, running_is, failed_is}
 
 abbrev Ends : Traced → Type 0

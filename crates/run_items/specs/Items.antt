@@ -1,13 +1,13 @@
 -- That a feed's reader finds in the text of a run what comes in by its lines.
 use Rattle.std.specs.Prelude.{◌≡◌, ℕ, List, Ok}
-use Rattle.component_linker.specs.Parts.{PartSeen}
-use Rattle.component_linker.specs.Started.{StartSeen}
-use Rattle.component_linker.specs.LinkedStarts.{IsLinkedStart}
+use Rattle.linked_starts.specs.Parts.{PartSeen}
+use Rattle.linked_starts.specs.Started.{StartSeen}
+use Rattle.linked_starts.specs.LinkedStarts.{IsLinkedStart}
 use Rattle.overlay_machine.specs.Starting.{overlay_at}
-use Rattle.trace_tool.specs.Layout.{layout}
-use Rattle.trace_tool.specs.Feed.{items_of}
-use Rattle.trace_tool.specs.Runs.{run_text, written}
-use Rattle.trace_tool.specs.Traces.{trace_text}
+use Rattle.run_lines.specs.Layout.{layout}
+use Rattle.run_lines.specs.Feed.{items_of}
+use Rattle.run_lines.specs.Runs.{run_text, written}
+use Rattle.run_lines.specs.Traces.{trace_text}
 use Rattle.run_feed.specs.Feed.{fed}
 
 -- of a run of so many instructions, where stacks begin at this base

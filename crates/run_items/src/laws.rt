@@ -1,7 +1,8 @@
 //! What holds of texts of runs. These functions do nothing; their contracts are the laws.
 ghost use Rattle.run_items.specs.Items.{TextsTellItems, TracesTellItems};
 
-use trace_tool::laws::{lines_fit, start_lines_agree};
+use headline::laws::start_lines_agree;
+use run_lines::laws::lines_fit;
 
 /// The text of a run or trace from a linked start is a feed with its lines' items.
 ///

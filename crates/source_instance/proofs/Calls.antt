@@ -14,9 +14,9 @@ use Rattle.lcm_machine.specs.Row.{faces, opens, row, went}
 use Rattle.lcm_machine.proofs.Offers.{stays, xjmp_goes, cell-without_out, cell-set_other, cell-set_same}
 use Rattle.call_sequence.specs.declared.TheConstants.{CALL_WORDS, RETURN_WORDS}
 use Rattle.call_sequence.specs.Sequences.{call_code, return_code, entry_code}
-use Rattle.component_linker.specs.Regions.{regions_of}
-use Rattle.component_linker.specs.Start.{start_cell, part_word}
-use Rattle.component_linker.specs.Owners.{owner_of}
+use Rattle.linked_starts.specs.Regions.{regions_of}
+use Rattle.linked_starts.specs.Start.{start_cell, part_word}
+use Rattle.linked_starts.specs.Owners.{owner_of}
 use Rattle.trusted_border.specs.declared.events.Event.{Event}
 use Rattle.trusted_border.specs.declared.events.Event.TheVariants.{Called, Returned}
 use Rattle.trusted_border.specs.Layout.{trusted_at, site_code}
@@ -36,7 +36,7 @@ use Rattle.source_instance.proofs.Machine.{L, M, has, IsSame, at_start, has_in, 
 use Rattle.source_instance.proofs.Machine.{own_code, own_data, its_code, its_data, stack, g_code, g_data}
 use Rattle.source_instance.proofs.Machine.{Makes, own_stands, its_fetch, after, loads, stores, adds, clears}
 use Rattle.source_instance.proofs.Enters.{o8}
-use Rattle.trace_tool.proofs.Offers.{regs_with, zero_}
+use Rattle.headline.proofs.Offers.{regs_with, zero_}
 
 -- ---- memory: the words of the return are pushed
 

@@ -22,21 +22,21 @@ use Rattle.lcm_machine.proofs.Offers.{left, plain_more, step_at, xjmp_goes}
 use Rattle.call_sequence.specs.declared.TheConstants.{CALL_WORDS}
 use Rattle.call_sequence.specs.Sequences.{call_code, return_code, entry_code}
 use Rattle.call_sequence.specs.SequenceRuns.{stack_cap}
-use Rattle.component_linker.specs.Owners.{owner_of}
-use Rattle.component_linker.specs.Parts.{PartSeen}
-use Rattle.component_linker.specs.Start.{start_cell, part_word}
-use Rattle.component_linker.proofs.Offers.{site_of}
+use Rattle.linked_starts.specs.Owners.{owner_of}
+use Rattle.linked_starts.specs.Parts.{PartSeen}
+use Rattle.linked_starts.specs.Start.{start_cell, part_word}
+use Rattle.linked_starts.proofs.Offers.{site_of}
 use Rattle.trusted_border.specs.Layout.{site_code}
 use Rattle.overlay_machine.specs.declared.words.OWord.TheVariants.{Plain}
 use Rattle.overlay_machine.specs.State.{OState, frame_of}
 use Rattle.overlay_machine.specs.Flat.{flat, IsFlat}
 use Rattle.overlay_machine.proofs.Offers.{cell-flat}
 use Rattle.lcm_machine.proofs.Offers.{cell-without_out}
-use Rattle.trace_tool.specs.Layout.{part_name}
-use Rattle.trace_tool.specs.Runs.{written}
-use Rattle.trace_tool.specs.OpenCalls.{LineTold, open_behind, after}
-use Rattle.trace_tool.specs.Alike.{StartLinesAgree}
-use Rattle.trace_tool.specs.Headline.{HeadlineHolds}
+use Rattle.run_lines.specs.Layout.{part_name}
+use Rattle.run_lines.specs.Runs.{written}
+use Rattle.headline.specs.OpenCalls.{LineTold, open_behind, after}
+use Rattle.headline.specs.Alike.{StartLinesAgree}
+use Rattle.headline.specs.Headline.{HeadlineHolds}
 use Rattle.confinement.specs.Confined.{IsAmong, InCode, Enters, AtExport, AtReturnPoint}
 use Rattle.source_instance.specs.Entered.{EnteredThere}
 use Rattle.source_instance.proofs.Module.{as_word, site_at, trusted}

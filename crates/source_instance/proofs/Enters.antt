@@ -10,8 +10,8 @@ use Rattle.lcm_machine.specs.Row.{faces, opens}
 use Rattle.lcm_machine.proofs.Offers.{stays, xjmp_goes}
 use Rattle.lcm_machine.specs.Table as table
 use Rattle.call_sequence.specs.Sequences.{call_code, return_code, entry_code}
-use Rattle.component_linker.specs.Start.{start_cell, start_regs, part_word}
-use Rattle.component_linker.specs.Owners.{owner_of}
+use Rattle.linked_starts.specs.Start.{start_cell, start_regs, part_word}
+use Rattle.linked_starts.specs.Owners.{owner_of}
 use Rattle.trusted_border.specs.declared.events.Back.TheVariants.{Out}
 use Rattle.trusted_border.specs.declared.events.Event.{Event}
 use Rattle.trusted_border.specs.declared.events.Event.TheVariants.{Entered}
@@ -24,7 +24,7 @@ use Rattle.source_instance.proofs.Start.{start}
 use Rattle.source_instance.proofs.Machine.{M, has, maps, state, own_code, own_data}
 use Rattle.source_instance.proofs.Machine.{its_code, its_data, stack, f_code, f_data, g_code, g_data, Makes}
 use Rattle.source_instance.proofs.Machine.{its_stands, by_row, after, loads, adds}
-use Rattle.trace_tool.proofs.Offers.{regs_with, zero_}
+use Rattle.headline.proofs.Offers.{regs_with, zero_}
 
 -- ---- the states: memory is as at the start
 

@@ -5,15 +5,15 @@ use Rattle.cap_words.specs.declared.Word.TheVariants.{Mem}
 use Rattle.cap_words.specs.Face.{face_of}
 use Rattle.lcm_machine.specs.Row.{faces}
 use Rattle.call_sequence.specs.Sequences.{call_code, return_code, entry_code}
-use Rattle.component_linker.specs.Owners.{owner_of}
-use Rattle.component_linker.specs.Start.{start_regs, part_word}
+use Rattle.linked_starts.specs.Owners.{owner_of}
+use Rattle.linked_starts.specs.Start.{start_regs, part_word}
 use Rattle.trusted_border.specs.declared.events.Event.{Event}
 use Rattle.overlay_machine.specs.declared.words.OWord.{OWord}
 use Rattle.overlay_machine.specs.declared.words.OWord.TheVariants.{Plain}
 use Rattle.overlay_machine.specs.State.{OState}
 use Rattle.overlay_machine.specs.Words.{look}
 use Rattle.overlay_machine.specs.Events.{step_event}
-use Rattle.trace_tool.specs.Layout.{is_trusted}
+use Rattle.run_lines.specs.Layout.{is_trusted}
 use Rattle.proc_semantics.specs.Marked.{Thing}
 use Rattle.template_runs.specs.Runs.{is_inside}
 use Rattle.source_laws.specs.Seen.{Back, Shown, event_outs, event_items, call_shown, thing_of}

@@ -11,8 +11,8 @@ use Rattle.lcm_machine.specs.Cells.{cell, set_cell}
 use Rattle.lcm_machine.specs.Row.{faces, opens}
 use Rattle.lcm_machine.proofs.Offers.{stays, xjmp_goes, cell-set_other, jmp_goes, plus_goes}
 use Rattle.call_sequence.specs.Sequences.{call_code, return_code, entry_code}
-use Rattle.component_linker.specs.Start.{start_cell, part_word}
-use Rattle.component_linker.specs.Owners.{owner_of}
+use Rattle.linked_starts.specs.Start.{start_cell, part_word}
+use Rattle.linked_starts.specs.Owners.{owner_of}
 use Rattle.trusted_border.specs.declared.events.Event.{Event}
 use Rattle.trusted_border.specs.declared.events.Event.TheVariants.{Left}
 use Rattle.overlay_machine.specs.declared.words.OWord.TheVariants.{Plain}
@@ -24,7 +24,7 @@ use Rattle.source_instance.proofs.Module.{behind}
 use Rattle.source_instance.proofs.Machine.{stack, g_code, g_data, Makes, own_stands, by_row, after, loads}
 use Rattle.source_instance.proofs.Machine.{stores, adds, clears, copies}
 use Rattle.source_instance.proofs.Calls.{o27, given_back, given_back_same, data117, code118}
-use Rattle.trace_tool.proofs.Offers.{zero_}
+use Rattle.headline.proofs.Offers.{zero_}
 
 -- ---- memory: the words that were pushed are wiped
 

@@ -1,7 +1,7 @@
 -- Which wiped cells the refined meaning tells of, computed.
 use Rattle.std.proofs.Common.{◌≡◌, ℕ, suc, pos, ℤ, List, [], ◌∷◌, map, Option, Some, None, refl, sym, ap, ◌∙◌}
 use Rattle.std.specs.Prelude.{slice_get, option_map}
-use Rattle.component_linker.specs.Standing.{placed}
+use Rattle.linked_starts.specs.Standing.{placed}
 use Rattle.overlay_machine.specs.declared.words.OWord.{OWord}
 use Rattle.proc_names.specs.Names.{variable_named, callee_named, passed_named}
 use Rattle.proc_program.specs.Lower.{part_of}

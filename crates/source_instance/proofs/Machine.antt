@@ -28,7 +28,7 @@ use Rattle.lcm_machine.specs.Row.{faces, cell_faces, look_face, fetch, some, row
 use Rattle.lcm_machine.specs.Runs.{code_cap}
 use Rattle.lcm_machine.proofs.Offers.{cell-set_other, shows, fetch_at, step_at, stays, load_goes, store_goes}
 use Rattle.lcm_machine.proofs.Offers.{cca_goes, set_goes, move_goes}
-use Rattle.component_linker.specs.Start.{start_cell}
+use Rattle.linked_starts.specs.Start.{start_cell}
 use Rattle.trusted_border.specs.declared.layout.Layout.{Layout}
 use Rattle.trusted_border.specs.declared.events.Event.{Event}
 use Rattle.trusted_border.specs.Layout.{trusted_at}
@@ -43,8 +43,8 @@ use Rattle.overlay_machine.specs.Events.{jump_seal, note_by, note_jump, event_af
 use Rattle.overlay_machine.specs.Seen.{IsOverlayOf}
 use Rattle.overlay_machine.specs.Starting.{overlay_at}
 use Rattle.overlay_machine.proofs.Offers.{is_overlay, start_word_is}
-use Rattle.trace_tool.specs.Layout.{layout}
-use Rattle.trace_tool.proofs.Offers.{zero_}
+use Rattle.run_lines.specs.Layout.{layout}
+use Rattle.headline.proofs.Offers.{zero_}
 use Rattle.proc_templates.specs.Items.{zero_of}
 use Rattle.source_instance.proofs.Module.{as_word, behind}
 use Rattle.source_instance.proofs.Parts.{parts}

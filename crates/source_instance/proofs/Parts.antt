@@ -17,10 +17,10 @@ use Rattle.component_check.specs.RuleText.{broken_at}
 use Rattle.component_check.specs.Verdict.{check_from}
 use Rattle.component_check.specs.Rules.{rules_c, c1, c2, c3, c4, c5, c6, c7, c8, c9, c10, c11, c12}
 use Rattle.call_sequence.specs.Sequences.{call_code, return_code, entry_code}
-use Rattle.component_linker.specs.Parts.{PartSeen, IsPart}
-use Rattle.component_linker.specs.Pairs.{NoneIsBroken, IsFirstBrokenIn, by_part}
-use Rattle.component_linker.specs.Links.{rules_l, rule_at, l1, l2, l3, l4, l5, l6, l7, l8, l9, l10}
-use Rattle.component_linker.proofs.Offers.{first_broken_in, no_rule}
+use Rattle.linked_starts.specs.Parts.{PartSeen, IsPart}
+use Rattle.linked_starts.specs.Pairs.{NoneIsBroken, IsFirstBrokenIn, by_part}
+use Rattle.linked_starts.specs.Links.{rules_l, rule_at, l1, l2, l3, l4, l5, l6, l7, l8, l9, l10}
+use Rattle.linked_starts.proofs.Offers.{first_broken_in, no_rule}
 use Rattle.source_starts.specs.Sources.{AreSources}
 use Rattle.source_instance.proofs.Module.{source, limits, resolved, as_word, trusted, is_compiled}
 use Rattle.source_instance.proofs.Module.{component_fits, flow_kept}

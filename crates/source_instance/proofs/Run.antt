@@ -12,10 +12,10 @@ use Rattle.lcm_machine.specs.Cells.{cell}
 use Rattle.lcm_machine.proofs.Offers.{cell-without_in}
 use Rattle.call_sequence.specs.declared.TheConstants.{CALL_WORDS, SITE_WORDS}
 use Rattle.call_sequence.specs.Sequences.{call_code, return_code, entry_code}
-use Rattle.component_linker.specs.Owners.{owner_of}
-use Rattle.component_linker.specs.Parts.{PartSeen}
-use Rattle.component_linker.specs.Started.{StartSeen}
-use Rattle.component_linker.specs.LinkedStarts.{IsStartOf}
+use Rattle.linked_starts.specs.Owners.{owner_of}
+use Rattle.linked_starts.specs.Parts.{PartSeen}
+use Rattle.linked_starts.specs.Started.{StartSeen}
+use Rattle.linked_starts.specs.LinkedStarts.{IsStartOf}
 use Rattle.trusted_border.specs.declared.events.Event.{Event}
 use Rattle.trusted_border.specs.Layout.{site_code}
 use Rattle.overlay_machine.specs.declared.words.OWord.TheVariants.{Plain}
@@ -25,16 +25,16 @@ use Rattle.overlay_machine.specs.Step.{weight_of}
 use Rattle.overlay_machine.specs.Events.{step_event}
 use Rattle.overlay_machine.specs.Runs.{Reached}
 use Rattle.overlay_machine.specs.Runs as reached
-use Rattle.trace_tool.specs.Layout.{layout, is_trusted, part_name, entry_name, site_of}
-use Rattle.trace_tool.specs.Views.{flat_view}
-use Rattle.trace_tool.specs.Lines.{Line, call, ret, enter, leave, lines_for}
-use Rattle.trace_tool.specs.Alike.{StartLinesAgree}
-use Rattle.trace_tool.specs.Told.{Told}
-use Rattle.trace_tool.specs.Told as told
-use Rattle.trace_tool.specs.Feed.{outs_of as outs_in, items_of as items_in}
-use Rattle.trace_tool.specs.Runs.{written}
-use Rattle.trace_tool.specs.Headline.{HeadlineHolds}
-use Rattle.trace_tool.proofs.Offers.{zeros}
+use Rattle.run_lines.specs.Layout.{layout, is_trusted, part_name, entry_name, site_of}
+use Rattle.run_lines.specs.Views.{flat_view}
+use Rattle.run_lines.specs.Lines.{Line, call, ret, enter, leave, lines_for}
+use Rattle.headline.specs.Alike.{StartLinesAgree}
+use Rattle.run_lines.specs.Told.{Told}
+use Rattle.run_lines.specs.Told as told
+use Rattle.run_lines.specs.Feed.{outs_of as outs_in, items_of as items_in}
+use Rattle.run_lines.specs.Runs.{written}
+use Rattle.headline.specs.Headline.{HeadlineHolds}
+use Rattle.headline.proofs.Offers.{zeros}
 use Rattle.proc_language.specs.declared.module.ModuleFields.{ModuleFields}
 use Rattle.proc_program.specs.Lower.{part_of}
 use Rattle.source_events.specs.declared.FeedBack.TheVariants as way

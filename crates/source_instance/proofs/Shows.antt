@@ -11,7 +11,7 @@ use Rattle.overlay_machine.specs.declared.words.OWord.TheVariants.{Plain}
 use Rattle.overlay_machine.specs.State.{OState}
 use Rattle.overlay_machine.specs.Step.{goes, overlay_step}
 use Rattle.overlay_machine.specs.Link.{Link}
-use Rattle.trace_tool.specs.Headline.{Matched}
+use Rattle.run_lines.specs.Cuts.{Matched}
 use Rattle.proc_semantics.specs.Marked.{Thing, Event, Whence, refined, event_to}
 use Rattle.template_runs.specs.Runs.{is_inside}
 use Rattle.template_runs.specs.Border.{zero, Wiped, low_at}

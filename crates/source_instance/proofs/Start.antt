@@ -10,13 +10,13 @@ use Rattle.lcm_machine.specs.Cells.{cell}
 use Rattle.lcm_machine.proofs.Offers.{bases_rise}
 use Rattle.lcm_machine.specs.Spans.{AreSpans}
 use Rattle.call_sequence.specs.Sequences.{call_code, return_code, entry_code}
-use Rattle.component_linker.specs.Regions.{regions_of, region_span}
-use Rattle.component_linker.specs.Start.{Exported, main_of, start_cell, start_regs, IsStart}
-use Rattle.component_linker.specs.Started.{StartSeen, Starts}
-use Rattle.component_linker.specs.Linked.{Linked}
-use Rattle.component_linker.proofs.Offers.{are_linked, filled, cells_filled, site_of, sites_are, owners_of}
-use Rattle.component_linker.proofs.Offers.{owners_are}
-use Rattle.component_linker.specs.LinkedStarts.{IsStartOf}
+use Rattle.linked_starts.specs.Regions.{regions_of, region_span}
+use Rattle.linked_starts.specs.Start.{Exported, main_of, start_cell, start_regs, IsStart}
+use Rattle.linked_starts.specs.Started.{StartSeen, Starts}
+use Rattle.linked_starts.specs.Linked.{Linked}
+use Rattle.linked_starts.proofs.Offers.{are_linked, filled, cells_filled, site_of, sites_are, owners_of}
+use Rattle.linked_starts.proofs.Offers.{owners_are}
+use Rattle.linked_starts.specs.LinkedStarts.{IsStartOf}
 use Rattle.source_instance.proofs.Module.{trusted, site_at}
 use Rattle.source_instance.proofs.Parts.{adversary, second, parts, each, keeps, has_room}
 

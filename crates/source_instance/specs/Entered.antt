@@ -1,8 +1,8 @@
 -- That what is said of code outside speaks of something: it comes, and comes into a trusted part.
 use Rattle.std.specs.Prelude.{ℕ, List}
-use Rattle.component_linker.specs.Parts.{PartSeen}
-use Rattle.component_linker.specs.Started.{StartSeen}
-use Rattle.component_linker.specs.LinkedStarts.{IsLinkedStart}
+use Rattle.linked_starts.specs.Parts.{PartSeen}
+use Rattle.linked_starts.specs.Started.{StartSeen}
+use Rattle.linked_starts.specs.LinkedStarts.{IsLinkedStart}
 use Rattle.confinement.specs.Confined.{Enters, AtExport, AtReturnPoint}
 
 -- a start in whose run an instruction comes from outside, and the one after it from a trusted part, first at

@@ -5,15 +5,15 @@ use Rattle.std.specs.List.{Contains}
 use Rattle.cap_words.specs.declared.Word.{Word}
 use Rattle.cap_words.specs.declared.Word.TheVariants.{Int}
 use Rattle.call_sequence.specs.declared.TheConstants.{SITE_WORDS}
-use Rattle.component_linker.specs.Parts.{PartSeen}
-use Rattle.component_linker.specs.Started.{StartSeen}
-use Rattle.component_linker.specs.LinkedStarts.{IsStartOf}
+use Rattle.linked_starts.specs.Parts.{PartSeen}
+use Rattle.linked_starts.specs.Started.{StartSeen}
+use Rattle.linked_starts.specs.LinkedStarts.{IsStartOf}
 use Rattle.overlay_machine.specs.State.{OState}
-use Rattle.trace_tool.specs.Layout.{layout}
-use Rattle.trace_tool.specs.Lines.{Args, call, ret, enter, leave}
-use Rattle.trace_tool.specs.Feed.{integers_in, outs_of, items_of}
-use Rattle.trace_tool.specs.Runs.{written}
-use Rattle.trace_tool.specs.Headline.{Matched}
+use Rattle.run_lines.specs.Layout.{layout}
+use Rattle.run_lines.specs.Lines.{Args, call, ret, enter, leave}
+use Rattle.run_lines.specs.Feed.{integers_in, outs_of, items_of}
+use Rattle.run_lines.specs.Runs.{written}
+use Rattle.run_lines.specs.Cuts.{Matched}
 use Rattle.proc_language.specs.declared.module.ModuleFields.{ModuleFields}
 use Rattle.proc_program.specs.Lower.{part_of}
 use Rattle.source_events.specs.declared.FeedBack.TheVariants as back

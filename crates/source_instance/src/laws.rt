@@ -3,9 +3,9 @@ ghost use Rattle.source_instance.specs.There.{SourceThere};
 ghost use Rattle.source_instance.specs.Shows.{SourceShows};
 ghost use Rattle.source_instance.specs.Entered.{EnteredThere};
 
+use headline::laws::{start_lines_agree, the_headline};
 use source_laws::laws::each_lets_go;
 use source_starts::laws::{plain_runs_wipe, sources_leave_nothing, sources_mean};
-use trace_tool::laws::{start_lines_agree, the_headline};
 
 /// There is a run in which code outside enters a source, is called, answers and is left to, as its meaning
 /// tells.

@@ -17,12 +17,12 @@ use Rattle.cap_words.specs.declared.Word.TheVariants.{Int, Mem}
 use Rattle.overlay_machine.specs.Words.{look}
 use Rattle.overlay_machine.specs.Safe.{IsSafe}
 use Rattle.overlay_machine.specs.Starting.{overlay_at}
-use Rattle.component_linker.specs.Started.{StartSeen}
-use Rattle.trace_tool.specs.Layout.{layout}
-use Rattle.flow_check.specs.Holds.{data_cap}
+use Rattle.linked_starts.specs.Started.{StartSeen}
+use Rattle.run_lines.specs.Layout.{layout}
+use Rattle.flow_rules.specs.Holds.{data_cap}
 use Rattle.overlay_machine.specs.State.{OState}
 use Rattle.overlay_machine.specs.Link.{ranges_of}
-use Rattle.component_linker.specs.Parts.{PartSeen}
+use Rattle.linked_starts.specs.Parts.{PartSeen}
 use Rattle.source_laws.proofs.Refined.{main_of, Comp, ends, meaning, no_registers, start, whole, starts}
 use Rattle.proc_semantics.specs.declared.value.Target.{Target}
 use Rattle.proc_program.specs.declared.program.Program.{Program}

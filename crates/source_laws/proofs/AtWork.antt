@@ -6,7 +6,7 @@ use Rattle.cap_words.specs.declared.Word.TheVariants.{Int}
 use Rattle.cap_words.specs.Linear.{is_linear}
 use Rattle.lcm_isa.specs.declared.Instr.TheVariants.{Fail}
 use Rattle.lcm_machine.specs.Table.{fits_64}
-use Rattle.component_linker.specs.Parts.{PartSeen}
+use Rattle.linked_starts.specs.Parts.{PartSeen}
 use Rattle.overlay_machine.specs.declared.words.OWord.{OWord}
 use Rattle.overlay_machine.specs.declared.words.OWord.TheVariants.{Plain}
 use Rattle.overlay_machine.specs.Words.{look}
@@ -23,7 +23,7 @@ use Rattle.proc_semantics.specs.Marked.{PairHalf, CodeHalf, DataHalf}
 use Rattle.cap_words.specs.Face.{face_of}
 use Rattle.cap_words.specs.Faces.{face_linear}
 use Rattle.proc_program.specs.declared.program.Handle.TheVariants.{Own, Imported}
-use Rattle.trace_tool.specs.Feed.{integer_in}
+use Rattle.run_lines.specs.Feed.{integer_in}
 
 -- how a part's globals stand in its data, before which the words of pairs stand
 pub record Globals (StoreIs : Store → (ℕ → OWord) → Type 0) (p : PartSeen) (home pairs : ℕ) : Type 0 where

@@ -31,8 +31,8 @@ use Rattle.lcm_machine.specs.Maps.{State}
 use Rattle.lcm_machine.specs.Places.{reg}
 use Rattle.lcm_machine.specs.Table.{fits_64, runs_in}
 use Rattle.lcm_machine.specs.Row.{row, failed, faces}
-use Rattle.flow_check.specs.Holds.{code_at, data_cap, part_stack_cap}
-use Rattle.component_linker.specs.Parts.{PartSeen}
+use Rattle.flow_rules.specs.Holds.{code_at, data_cap, part_stack_cap}
+use Rattle.linked_starts.specs.Parts.{PartSeen}
 use Rattle.trusted_border.specs.declared.layout.SiteCode.{SiteCode}
 use Rattle.trusted_border.specs.Reaches.{site_of_seal}
 use Rattle.overlay_machine.specs.declared.words.OWord.{OWord}
@@ -46,7 +46,7 @@ use Rattle.overlay_machine.specs.Link.{Link, IsTrusted, ranges_of}
 use Rattle.overlay_machine.specs.Linked.{Linked}
 use Rattle.overlay_machine.proofs.Offers.{own_from, frame_in}
 use Rattle.overlay_machine.specs.Safe.{IsMet}
-use Rattle.trace_tool.specs.Layout.{is_trusted, part_name, site_of}
+use Rattle.run_lines.specs.Layout.{is_trusted, part_name, site_of}
 use Rattle.proc_semantics.specs.Values.{Store}
 use Rattle.proc_semantics.specs.declared.value.Target.{Target}
 use Rattle.proc_semantics.specs.declared.value.Pair.{Pair}
@@ -67,7 +67,7 @@ use Rattle.template_runs.specs.Public.{ArePublic, IsPublic}
 use Rattle.source_laws.proofs.Waiting.{WaitLaw, IsFor}
 use Rattle.source_laws.proofs.AtWork.{Half}
 use Rattle.source_laws.proofs.Arguments.{Holding}
-use Rattle.trace_tool.specs.Feed.{integer_in}
+use Rattle.run_lines.specs.Feed.{integer_in}
 use Rattle.cap_words.specs.declared.Sealable.{Sealable}
 
 abbrev zeros_of : ℕ → List OWord

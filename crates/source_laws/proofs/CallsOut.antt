@@ -21,13 +21,13 @@ use Rattle.lcm_isa.specs.declared.Operand.TheVariants.{Imm}
 use Rattle.lcm_isa.specs.declared.Instr.TheVariants.{Plus}
 use Rattle.lcm_machine.specs.Places.{reg}
 use Rattle.lcm_machine.specs.Table.{fits_64}
-use Rattle.component_linker.specs.Parts.{PartSeen}
+use Rattle.linked_starts.specs.Parts.{PartSeen}
 use Rattle.overlay_machine.specs.declared.words.OWord.{OWord}
 use Rattle.overlay_machine.specs.declared.words.OWord.TheVariants.{Plain}
 use Rattle.overlay_machine.specs.Words.{look}
 use Rattle.overlay_machine.specs.State.{OpenFrame, OState}
 use Rattle.overlay_machine.specs.Step.{new_frame, rest_words}
-use Rattle.trace_tool.specs.Layout.{part_name, site_of}
+use Rattle.run_lines.specs.Layout.{part_name, site_of}
 use Rattle.source_laws.proofs.Refined.{emit, Event, wipes, Wait, resumed, whole}
 use Rattle.proc_semantics.specs.Values.{Store}
 use Rattle.source_laws.specs.Seen.{Shown, Back, shown_of, event_outs}
@@ -36,7 +36,7 @@ use Rattle.proc_semantics.specs.Marked.{lower}
 use Rattle.lcm_machine.specs.Cells.{cell, put_back}
 use Rattle.template_runs.specs.Runs.{is_inside, Makes}
 use Rattle.source_laws.proofs.Waiting.{IsFor, Resumes, WaitLaw}
-use Rattle.trace_tool.specs.Feed.{integer_in}
+use Rattle.run_lines.specs.Feed.{integer_in}
 use Rattle.template_runs.specs.Public.{IsPublic}
 use Rattle.cap_words.specs.declared.Sealable.{Sealable}
 

@@ -23,15 +23,15 @@ use Rattle.lcm_isa.specs.declared.Instr.TheVariants.{Fail}
 use Rattle.lcm_machine.specs.Places.{reg}
 use Rattle.lcm_machine.specs.Table.{fits_64}
 use Rattle.lcm_machine.proofs.Offers.{set_goes}
-use Rattle.flow_check.specs.Places.{begins_site}
-use Rattle.component_linker.specs.Parts.{PartSeen}
+use Rattle.flow_rules.specs.Places.{begins_site}
+use Rattle.linked_starts.specs.Parts.{PartSeen}
 use Rattle.overlay_machine.specs.declared.words.OWord.{OWord}
 use Rattle.overlay_machine.specs.declared.words.OWord.TheVariants.{Plain}
 use Rattle.overlay_machine.specs.Words.{look}
 use Rattle.overlay_machine.specs.State.{OpenFrame, OState}
 use Rattle.overlay_machine.specs.Link.{Link, IsTrusted}
 use Rattle.overlay_machine.specs.Linked.{Linked}
-use Rattle.trace_tool.specs.Layout.{part_name, site_of}
+use Rattle.run_lines.specs.Layout.{part_name, site_of}
 use Rattle.proc_program.specs.StepView.{block_of}
 use Rattle.proc_semantics.specs.Values.{Store, taken}
 use Rattle.proc_semantics.specs.declared.value.Target.{Target}

@@ -23,14 +23,14 @@ use Rattle.lcm_machine.specs.declared.Place.TheVariants.{R}
 use Rattle.lcm_machine.specs.Places.{reg}
 use Rattle.lcm_machine.specs.Table.{fits_64, is_zero}
 use Rattle.lcm_machine.proofs.Offers.{stays, move_goes, halt_halts}
-use Rattle.flow_check.specs.Holds.{data_cap}
+use Rattle.flow_rules.specs.Holds.{data_cap}
 use Rattle.overlay_machine.specs.declared.words.OWord.{OWord}
 use Rattle.overlay_machine.specs.declared.words.OWord.TheVariants.{Plain}
 use Rattle.overlay_machine.specs.Words.{look}
 use Rattle.overlay_machine.specs.State.{OState}
 use Rattle.overlay_machine.specs.Flat.{flat}
 use Rattle.overlay_machine.specs.Link.{ranges_of, data_region}
-use Rattle.trace_tool.specs.Views.{flat_view}
+use Rattle.run_lines.specs.Views.{flat_view}
 use Rattle.proc_program.specs.Program as run
 use Rattle.source_laws.proofs.Refined.{Comp, ends, Then, Next, expr, element, assigned, stmt, block}
 use Rattle.source_laws.proofs.Refined.{whole, recursive}

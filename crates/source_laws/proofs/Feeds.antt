@@ -5,17 +5,17 @@ use Rattle.std.proofs.Math.Bool.{and-false}
 use Rattle.lcm_isa.specs.declared.Reg.{Reg}
 use Rattle.lcm_isa.specs.declared.Reg.TheVariants.{Pc, Dat, A0, A1, A2, A3}
 use Rattle.lcm_machine.specs.Places.{reg}
-use Rattle.component_linker.specs.Parts.{PartSeen}
+use Rattle.linked_starts.specs.Parts.{PartSeen}
 use Rattle.overlay_machine.specs.declared.words.OWord.{OWord}
 use Rattle.overlay_machine.specs.Words.{look}
 use Rattle.overlay_machine.specs.State.{OState}
 use Rattle.overlay_machine.specs.Flat.{flat}
 use Rattle.overlay_machine.specs.Link.{Link}
 use Rattle.overlay_machine.specs.Linked.{Linked}
-use Rattle.trace_tool.specs.Feed.{integers_in, feed_pairs}
-use Rattle.trace_tool.specs.Lines.{args_of, feed_pair}
-use Rattle.trace_tool.specs.Pairs.{pair_of, pairs_of}
-use Rattle.trace_tool.specs.Views.{flat_view}
+use Rattle.run_lines.specs.Feed.{integers_in, feed_pairs}
+use Rattle.run_lines.specs.Lines.{args_of, feed_pair}
+use Rattle.run_lines.specs.Pairs.{pair_of, pairs_of}
+use Rattle.run_lines.specs.Views.{flat_view}
 use Rattle.proc_semantics.specs.declared.value.Target.{Target}
 use Rattle.source_laws.proofs.Refined.{World, registers_fed}
 use Rattle.proc_semantics.specs.Values.{pair_fed}

@@ -6,7 +6,7 @@ use Rattle.std.proofs.Common.{append_assoc, append-nil}
 use Rattle.std.specs.Prelude.{slice_index_or}
 use Rattle.cap_words.specs.declared.Word.TheVariants as cap
 use Rattle.lcm_isa.specs.declared.Reg.TheVariants.{A0}
-use Rattle.component_linker.specs.Started.{StartSeen}
+use Rattle.linked_starts.specs.Started.{StartSeen}
 use Rattle.trusted_border.specs.declared.layout.Layout.{Layout}
 use Rattle.trusted_border.specs.declared.events.Event.{Event}
 use Rattle.trusted_border.specs.declared.events.Event.TheVariants.{Called, Returned, Entered, Left}
@@ -16,10 +16,10 @@ use Rattle.overlay_machine.specs.State.{OState}
 use Rattle.overlay_machine.specs.Step.{Ending, goes, halts, fails, overlay_step, weight_of}
 use Rattle.overlay_machine.specs.Events.{step_event}
 use Rattle.overlay_machine.specs.Starting.{overlay_at}
-use Rattle.trace_tool.specs.Layout.{layout, part_name, site_of}
-use Rattle.trace_tool.specs.Views.{flat_view}
-use Rattle.trace_tool.specs.Lines.{args_of}
-use Rattle.trace_tool.specs.Feed.{integer_in, out_args}
+use Rattle.run_lines.specs.Layout.{layout, part_name, site_of}
+use Rattle.run_lines.specs.Views.{flat_view}
+use Rattle.run_lines.specs.Lines.{args_of}
+use Rattle.run_lines.specs.Feed.{integer_in, out_args}
 use Rattle.source_events.specs.declared.Item.{Item}
 use Rattle.source_events.specs.declared.Item.TheVariants.{Enter, Ret}
 use Rattle.source_events.specs.declared.OutArg.TheVariants.{Int}

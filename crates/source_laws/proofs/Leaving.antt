@@ -12,8 +12,8 @@ use Rattle.lcm_isa.specs.declared.Instr.TheVariants.{Xjmp}
 use Rattle.lcm_machine.specs.declared.Place.TheVariants.{R}
 use Rattle.lcm_machine.specs.Cells.{put_back}
 use Rattle.lcm_machine.specs.Table.{ask, need}
-use Rattle.flow_check.specs.Holds.{part_stack_cap as stack_at}
-use Rattle.component_linker.specs.Parts.{PartSeen}
+use Rattle.flow_rules.specs.Holds.{part_stack_cap as stack_at}
+use Rattle.linked_starts.specs.Parts.{PartSeen}
 use Rattle.trusted_border.specs.declared.layout.SiteCode.{SiteCode}
 use Rattle.trusted_border.specs.declared.events.Event.TheVariants.{Returned as ReturnedTo}
 use Rattle.trusted_border.specs.declared.events.Back.{Back}
@@ -34,8 +34,8 @@ use Rattle.overlay_machine.specs.Safe.{IsMet}
 use Rattle.overlay_machine.specs.Invariant.{FrameLies, FramesLie}
 use Rattle.overlay_machine.specs.Linked.{Linked}
 use Rattle.overlay_machine.proofs.Offers.{own_from, frame_in, frame_of-cons, below_all}
-use Rattle.trace_tool.specs.Layout.{part_name, site_of}
-use Rattle.trace_tool.specs.Views.{flat_view}
+use Rattle.run_lines.specs.Layout.{part_name, site_of}
+use Rattle.run_lines.specs.Views.{flat_view}
 use Rattle.source_laws.proofs.Scenes.{Scene}
 use Rattle.source_laws.proofs.Refined.{Wait, wipes, Comp, ends, resumed, returned}
 use Rattle.source_events.specs.declared.End.TheVariants.{Fail as Fails}
@@ -48,7 +48,7 @@ use Rattle.template_runs.proofs.Offers.{back_returned, Named}
 use Rattle.source_laws.proofs.Upto.{in_frame, Carries, UpTo, go_silent, spend}
 use Rattle.template_runs.specs.Border.{zero}
 use Rattle.source_laws.proofs.CallsIn.{first_frame, older_frames, ProcLaw, left_now}
-use Rattle.trace_tool.specs.Feed.{integer_in}
+use Rattle.run_lines.specs.Feed.{integer_in}
 use Rattle.source_laws.proofs.Meanwhile.{Meets, Beneath, AtLeave, EndsAs, left_told, return_told, told_fails}
 use Rattle.source_laws.proofs.Meanwhile.{ends_law}
 use Rattle.source_laws.proofs.Waiting.{IsFor, Resumes, WaitLaw, LeaveLaw, call_waits}

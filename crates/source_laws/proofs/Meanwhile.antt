@@ -12,15 +12,15 @@ use Rattle.lcm_machine.specs.Places.{reg}
 use Rattle.lcm_machine.specs.Cells.{cell}
 use Rattle.lcm_machine.specs.Row.{faces}
 use Rattle.lcm_machine.specs.Table.{fits_64}
-use Rattle.flow_check.specs.Holds.{data_cap, PcAt, part_stack_cap as stack_at}
-use Rattle.flow_check.specs.Places.{begins_entry}
-use Rattle.component_linker.specs.Parts.{PartSeen}
+use Rattle.flow_rules.specs.Holds.{data_cap, PcAt, part_stack_cap as stack_at}
+use Rattle.flow_rules.specs.Places.{begins_entry}
+use Rattle.linked_starts.specs.Parts.{PartSeen}
 use Rattle.trusted_border.specs.declared.layout.SiteCode.{SiteCode}
 use Rattle.trusted_border.specs.Layout.{site_code}
 use Rattle.trusted_border.specs.Reaches.{back_of}
 use Rattle.overlay_machine.specs.declared.words.OWord.{OWord}
 use Rattle.overlay_machine.specs.declared.words.OWord.TheVariants.{Plain, RetCode, RetData}
-use Rattle.component_linker.specs.declared.owners.Owner.{Owner}
+use Rattle.linked_starts.specs.declared.owners.Owner.{Owner}
 use Rattle.overlay_machine.specs.Words.{look, is_plain}
 use Rattle.overlay_machine.specs.State.{OpenFrame, OState, frame_of}
 use Rattle.cap_words.specs.Stacks.{is_stack_from}
@@ -29,8 +29,8 @@ use Rattle.overlay_machine.specs.Flat.{flat, flat_code, flat_range, flat_data}
 use Rattle.overlay_machine.specs.Events.{owner_now}
 use Rattle.overlay_machine.specs.Link.{IsTrusted, ranges_of}
 use Rattle.overlay_machine.proofs.Offers.{Returned, own_from}
-use Rattle.trace_tool.specs.Layout.{part_name, entry_name}
-use Rattle.trace_tool.specs.Views.{flat_view}
+use Rattle.run_lines.specs.Layout.{part_name, entry_name}
+use Rattle.run_lines.specs.Views.{flat_view}
 use Rattle.source_laws.specs.Seen.{words_of, back_here, left_shown, left_with, standing, trace}
 use Rattle.source_laws.proofs.Scenes.{Scene}
 use Rattle.source_laws.proofs.Refined.{single, found, registers_fed, Then, Wait, on_item, entered, left_by}
@@ -47,9 +47,9 @@ use Rattle.source_laws.proofs.Waits.{enter_item, ret_item, outside_law}
 use Rattle.source_laws.proofs.CallsIn.{SameEntry, shown_public, AtEnd, ProcLaw, left_now, given_back}
 use Rattle.source_laws.proofs.CallsIn.{left_same as gives_same, hopped_entry, kept_public, hops, leaves_wiped}
 use Rattle.source_events.specs.Left.{left_in}
-use Rattle.trace_tool.specs.Feed.{integer_in, integers_in, feed_pairs}
-use Rattle.trace_tool.specs.Pairs.{pairs_of}
-use Rattle.trace_tool.specs.Lines.{args_of, feed_back}
+use Rattle.run_lines.specs.Feed.{integer_in, integers_in, feed_pairs}
+use Rattle.run_lines.specs.Pairs.{pairs_of}
+use Rattle.run_lines.specs.Lines.{args_of, feed_back}
 use Rattle.template_runs.specs.Public.{IsShown, IsSharedAt}
 use Rattle.cap_words.specs.declared.Word.{Word}
 use Rattle.trusted_border.specs.declared.events.Event.TheVariants.{Left}

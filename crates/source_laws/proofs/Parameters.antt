@@ -27,7 +27,7 @@ use Rattle.lcm_machine.specs.Places.{reg}
 use Rattle.lcm_machine.specs.Table.{fits_64, ask, need}
 use Rattle.lcm_machine.specs.Row.{row, failed, plan_in, pc_at}
 use Rattle.lcm_machine.proofs.Offers.{cases_reg, shows, plus_goes, set_goes}
-use Rattle.component_linker.specs.Parts.{PartSeen}
+use Rattle.linked_starts.specs.Parts.{PartSeen}
 use Rattle.overlay_machine.specs.declared.words.OWord.{OWord}
 use Rattle.overlay_machine.specs.declared.words.OWord.TheVariants.{Plain, RetCode, RetData}
 use Rattle.overlay_machine.specs.Words.{look}
@@ -46,7 +46,7 @@ use Rattle.proc_templates.specs.Templates.{argument, check_half, check_params}
 use Rattle.source_laws.proofs.Handed.{places, handed, then_hold, number_first, pair_first}
 use Rattle.source_laws.proofs.Arguments.{Holding, with_other, with_same, argument_spare}
 use Rattle.source_laws.proofs.Callings.{IsPair, Passed, no_more, one_more, two_more, filled}
-use Rattle.trace_tool.specs.Feed.{integer_in}
+use Rattle.run_lines.specs.Feed.{integer_in}
 
 -- of words that hold an integer
 plain_number : (x : OWord) (v : ℤ) → integer_in (look x) ≡ Some v → (x ≡ Plain (Int v)) × (fits_64 v ≡ true)

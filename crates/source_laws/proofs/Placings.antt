@@ -7,15 +7,15 @@ use Rattle.cap_words.specs.declared.Word.TheVariants.{Int, Mem, Seal, Sealed}
 use Rattle.lcm_isa.specs.declared.Instr.{Instr}
 use Rattle.lcm_isa.specs.Numbers.{number_of, IsInstr}
 use Rattle.lcm_isa.proofs.Offers.{number_of-decode_of, decode_of-fits}
-use Rattle.flow_check.specs.Places.{begins_site}
-use Rattle.flow_check.specs.Walk.{instr_at, instr_in}
-use Rattle.component_linker.specs.Parts.{PartSeen}
+use Rattle.flow_rules.specs.Places.{begins_site}
+use Rattle.flow_rules.specs.Walk.{instr_at, instr_in}
+use Rattle.linked_starts.specs.Parts.{PartSeen}
 use Rattle.trusted_border.specs.declared.layout.SiteCode.{SiteCode}
 use Rattle.trusted_border.specs.Layout.{site_at}
 use Rattle.overlay_machine.specs.Link.{Link, IsTrusted}
 use Rattle.overlay_machine.specs.Linked.{Linked}
 use Rattle.overlay_machine.proofs.Offers.{site_of}
-use Rattle.trace_tool.specs.Layout.{site_of as numbered_site}
+use Rattle.run_lines.specs.Layout.{site_of as numbered_site}
 use Rattle.proc_templates.specs.Items.{Spot, Item, does, guards, goes, goes_if, finishes, label, site, entry}
 use Rattle.proc_templates.specs.Items.{leaves, zero_of, wiped, leading, FAIL_AT}
 use Rattle.proc_templates.specs.Free.{behind}

@@ -7,7 +7,7 @@ use Rattle.lcm_isa.specs.declared.Reg.TheVariants.{Rcode, Rdata, Stk, T1, T2}
 use Rattle.lcm_isa.specs.declared.Operand.TheVariants.{Imm}
 use Rattle.lcm_isa.specs.declared.Instr.{Instr}
 use Rattle.lcm_isa.specs.declared.Instr.TheVariants.{Cca, Load, Store, Xjmp}
-use Rattle.component_linker.specs.Parts.{PartSeen}
+use Rattle.linked_starts.specs.Parts.{PartSeen}
 use Rattle.overlay_machine.specs.declared.words.OWord.{OWord}
 use Rattle.overlay_machine.specs.State.{OpenFrame}
 use Rattle.overlay_machine.specs.Link.{Link, IsTrusted}

@@ -1,6 +1,6 @@
 -- How the modules of a list of sources show in a link.
 use Rattle.std.proofs.Common.{ℕ}
-use Rattle.component_linker.specs.Parts.{PartSeen}
+use Rattle.linked_starts.specs.Parts.{PartSeen}
 use Rattle.overlay_machine.specs.declared.words.OWord.{OWord}
 use Rattle.overlay_machine.specs.State.{OState}
 use Rattle.overlay_machine.specs.Link.{Link}

@@ -1,12 +1,12 @@
 -- From quiet runs of every number of steps to what is shown at each point at which trusted code lets go.
 use Rattle.std.proofs.Common.{Bool, [], ◌≡◌, ℕ, suc, ◌+◌, true, false, refl, sym, ap, ◌∙◌, subst, arith}
-use Rattle.component_linker.specs.Started.{StartSeen}
+use Rattle.linked_starts.specs.Started.{StartSeen}
 use Rattle.overlay_machine.specs.State.{OState}
 use Rattle.overlay_machine.specs.Step.{goes, overlay_step}
 use Rattle.overlay_machine.specs.Runs.{Reached}
 use Rattle.overlay_machine.specs.Starting.{overlay_at}
 use Rattle.overlay_machine.specs.Link.{Link}
-use Rattle.trace_tool.specs.Layout.{layout}
+use Rattle.run_lines.specs.Layout.{layout}
 use Rattle.template_runs.specs.Runs.{is_inside}
 use Rattle.template_runs.specs.Border.{Shows, GivesBack}
 use Rattle.overlay_machine.specs.Events.{step_event}

@@ -1,10 +1,10 @@
 -- The theorem of sources: compiled procedures that stand in the parts of a link do what the modules mean,
 -- against every code outside them.
 use Rattle.std.proofs.Common.{◌≡◌, ℕ, map, true, Some, subst}
-use Rattle.flow_check.specs.Places.{begins_entry}
-use Rattle.component_linker.specs.Parts.{PartSeen}
-use Rattle.component_linker.specs.Started.{StartSeen}
-use Rattle.component_linker.specs.declared.owners.Owner.{Owner}
+use Rattle.flow_rules.specs.Places.{begins_entry}
+use Rattle.linked_starts.specs.Parts.{PartSeen}
+use Rattle.linked_starts.specs.Started.{StartSeen}
+use Rattle.linked_starts.specs.declared.owners.Owner.{Owner}
 use Rattle.trusted_border.specs.declared.layout.SiteCode.{SiteCode}
 use Rattle.trusted_border.specs.Layout.{site_code}
 use Rattle.trusted_border.specs.Reaches.{site_of_seal}
@@ -14,7 +14,7 @@ use Rattle.overlay_machine.specs.State.{OState}
 use Rattle.overlay_machine.specs.Starting.{overlay_at}
 use Rattle.overlay_machine.specs.Link.{Link, IsTrusted}
 use Rattle.overlay_machine.specs.Linked.{Linked}
-use Rattle.trace_tool.specs.Layout.{layout, part_name, entry_name}
+use Rattle.run_lines.specs.Layout.{layout, part_name, entry_name}
 use Rattle.proc_program.specs.declared.program.Program.{Program}
 use Rattle.proc_semantics.specs.declared.value.Target.{Target}
 use Rattle.source_laws.proofs.Refined.{World, found, part_of}

@@ -11,7 +11,7 @@ use Rattle.overlay_machine.specs.Events.{step_event}
 use Rattle.overlay_machine.specs.State.{OState, OpenFrame}
 use Rattle.overlay_machine.specs.Step.{halts, fails, overlay_step, own_stack, weight_of, Ending, goes}
 use Rattle.cap_words.specs.declared.CapFields.{CapFields}
-use Rattle.trace_tool.specs.Views.{flat_view}
+use Rattle.run_lines.specs.Views.{flat_view}
 use Rattle.source_laws.proofs.Refined as telling
 use Rattle.source_laws.specs.Seen.{Shown, shown_of, Back, rests, shown, event_outs, event_items, standing}
 use Rattle.source_laws.specs.Seen.{ended, show, trace}

@@ -7,8 +7,8 @@ use Rattle.lcm_isa.specs.declared.Reg.TheVariants.{A0}
 use Rattle.overlay_machine.specs.declared.words.OWord.{OWord}
 use Rattle.overlay_machine.specs.State.{OpenFrame, OState}
 use Rattle.overlay_machine.proofs.Offers.{Returned}
-use Rattle.trace_tool.specs.Layout.{part_name, site_of}
-use Rattle.trace_tool.specs.Views.{flat_view}
+use Rattle.run_lines.specs.Layout.{part_name, site_of}
+use Rattle.run_lines.specs.Views.{flat_view}
 use Rattle.source_laws.proofs.Scenes.{Scene}
 use Rattle.source_laws.proofs.Refined.{Wait, on_item, resumed, whole}
 use Rattle.proc_semantics.specs.Values.{Store}
@@ -16,7 +16,7 @@ use Rattle.template_runs.proofs.Offers.{Owing, Valid, DataIs, Named}
 use Rattle.source_laws.proofs.Upto.{UpTo, in_frame}
 use Rattle.source_laws.proofs.Waits.{ret_item}
 use Rattle.source_laws.proofs.CallsIn.{first_frame, older_frames, ProcLaw}
-use Rattle.trace_tool.specs.Feed.{integer_in}
+use Rattle.run_lines.specs.Feed.{integer_in}
 use Rattle.source_laws.proofs.Meanwhile.{Meets, Beneath, RunsLaw, EndsLaw, ReturnsLaw, runs_law}
 
 module _ (scene : Scene) where

@@ -7,10 +7,10 @@ use Rattle.lcm_isa.specs.declared.Reg.{Reg}
 use Rattle.lcm_isa.specs.declared.Reg.TheVariants.{Pc, Dat, Stk, Rcode, Rdata, A0}
 use Rattle.lcm_machine.specs.Places.{reg}
 use Rattle.lcm_machine.specs.Row.{faces}
-use Rattle.flow_check.specs.Holds.{data_cap, PcAt}
-use Rattle.flow_check.specs.Places.{begins_entry}
-use Rattle.component_linker.specs.Parts.{PartSeen}
-use Rattle.component_linker.specs.declared.owners.Owner.{Owner}
+use Rattle.flow_rules.specs.Holds.{data_cap, PcAt}
+use Rattle.flow_rules.specs.Places.{begins_entry}
+use Rattle.linked_starts.specs.Parts.{PartSeen}
+use Rattle.linked_starts.specs.declared.owners.Owner.{Owner}
 use Rattle.trusted_border.specs.declared.events.Event.{Event}
 use Rattle.trusted_border.specs.declared.events.Event.TheVariants.{Entered}
 use Rattle.trusted_border.specs.Reaches.{closure_owner, entry_number, back_of}
@@ -23,8 +23,8 @@ use Rattle.overlay_machine.specs.Events.{step_event, entered_event, shown_word}
 use Rattle.overlay_machine.specs.Link.{Link, IsTrusted, ranges_of}
 use Rattle.overlay_machine.specs.Linked.{Linked}
 use Rattle.overlay_machine.proofs.Offers.{Returned, put_back-other}
-use Rattle.trace_tool.specs.Layout.{part_name, entry_name, site_of}
-use Rattle.trace_tool.specs.Views.{flat_view}
+use Rattle.run_lines.specs.Layout.{part_name, entry_name, site_of}
+use Rattle.run_lines.specs.Views.{flat_view}
 use Rattle.source_events.specs.declared.Item.{Item}
 use Rattle.source_events.specs.declared.Item.TheVariants.{Enter, Ret}
 use Rattle.source_laws.proofs.Refined.{Comp, Thing, take_item}
@@ -44,9 +44,9 @@ use Rattle.source_laws.specs.Wiped.{last_outside}
 use Rattle.source_laws.proofs.Wipes.{Wipes, crossed, crossings, cross_more, wipes_taken}
 use Rattle.source_laws.proofs.Upto.{UpTo, Since, in_frame, stack_top, nothing_yet, nothing_more}
 use Rattle.source_events.specs.Left.{left_in}
-use Rattle.trace_tool.specs.Feed.{integer_in, integers_in, feed_pairs}
-use Rattle.trace_tool.specs.Lines.{args_of, feed_back}
-use Rattle.trace_tool.specs.Pairs.{pairs_of}
+use Rattle.run_lines.specs.Feed.{integer_in, integers_in, feed_pairs}
+use Rattle.run_lines.specs.Lines.{args_of, feed_back}
+use Rattle.run_lines.specs.Pairs.{pairs_of}
 use Rattle.template_runs.specs.Public.{IsShown, IsSharedAt}
 use Rattle.cap_words.specs.Face.{face_of}
 

@@ -3,7 +3,7 @@ use Rattle.std.proofs.Common.{◌≡◌, ◌⊎◌, inl, inr, ℕ, ◌+◌, ◌�
 use Rattle.std.proofs.Common.{map, Option, Some, None, refl, sym, ap, ◌∙◌, subst, arith, append-nil}
 use Rattle.std.specs.Prelude.{slice_get}
 use Rattle.std.proofs.lemmas.Bool.{cases_lt}
-use Rattle.component_linker.specs.Started.{StartSeen}
+use Rattle.linked_starts.specs.Started.{StartSeen}
 use Rattle.lcm_machine.specs.Cells.{cell}
 use Rattle.trusted_border.specs.declared.layout.Layout.{Layout}
 use Rattle.trusted_border.specs.declared.events.Event.{Event as Crossed}
@@ -15,7 +15,7 @@ use Rattle.overlay_machine.specs.Runs.{Reached}
 use Rattle.overlay_machine.specs.Starting.{overlay_at}
 use Rattle.overlay_machine.specs.Link.{Link}
 use Rattle.overlay_machine.proofs.Offers.{map_get}
-use Rattle.trace_tool.specs.Layout.{layout}
+use Rattle.run_lines.specs.Layout.{layout}
 use Rattle.template_runs.specs.Runs.{is_inside}
 use Rattle.template_runs.specs.Border.{Shows, ShowsBy, by_call, by_leave, GivesBack, IsTidied, Wiped, zero}
 use Rattle.template_runs.specs.Border.{low_at}

@@ -9,11 +9,11 @@ use Rattle.trusted_border.specs.declared.events.Event.TheVariants.{Called, Retur
 use Rattle.overlay_machine.specs.State.{OState}
 use Rattle.overlay_machine.specs.Step.{Ending, goes, halts, fails, overlay_step, weight_of}
 use Rattle.overlay_machine.specs.Events.{step_event}
-use Rattle.trace_tool.specs.Layout.{part_name, entry_name, site_of}
-use Rattle.trace_tool.specs.Views.{View, flat_view}
-use Rattle.trace_tool.specs.Pairs.{pairs_of}
-use Rattle.trace_tool.specs.Lines.{args_of, feed_back}
-use Rattle.trace_tool.specs.Feed.{integer_in, integers_in, out_args, feed_pairs}
+use Rattle.run_lines.specs.Layout.{part_name, entry_name, site_of}
+use Rattle.run_lines.specs.Views.{View, flat_view}
+use Rattle.run_lines.specs.Pairs.{pairs_of}
+use Rattle.run_lines.specs.Lines.{args_of, feed_back}
+use Rattle.run_lines.specs.Feed.{integer_in, integers_in, out_args, feed_pairs}
 use Rattle.source_events.specs.declared.Item.{Item}
 use Rattle.source_events.specs.declared.Item.TheVariants.{Enter, Ret}
 use Rattle.source_events.specs.declared.OutEvent.{OutEvent}
@@ -21,7 +21,7 @@ use Rattle.source_events.specs.declared.OutEvent.TheVariants.{CallOut, LeaveOut}
 use Rattle.source_events.specs.Left.{left_in}
 use Rattle.source_events.specs.Outs.{out_arg}
 use Rattle.template_runs.specs.Runs.{is_inside}
-pub use Rattle.trace_tool.specs.Cuts.{weighed}
+pub use Rattle.run_lines.specs.Cuts.{weighed}
 
 module _ (l : Layout) where
   -- ---- of an event, whose state behind it shows these words

@@ -3,7 +3,7 @@ use Rattle.source_laws.specs.Seen.{Back, nothing_back, Shown, events_of, event_o
 use Rattle.std.specs.Prelude.{◌≡◌, ℕ, zero, suc, ◌≤◌, pos, List, [], ◌∷◌, ◌++◌, map, slice_index_or}
 use Rattle.std.specs.Prelude.{Bool, false}
 use Rattle.cap_words.specs.declared.Word.TheVariants.{Int}
-use Rattle.component_linker.specs.Started.{StartSeen}
+use Rattle.linked_starts.specs.Started.{StartSeen}
 use Rattle.trusted_border.specs.declared.layout.Layout.{Layout}
 use Rattle.overlay_machine.specs.declared.words.OWord.{OWord}
 use Rattle.overlay_machine.specs.declared.words.OWord.TheVariants.{Plain}
@@ -11,7 +11,7 @@ use Rattle.overlay_machine.specs.State.{OState}
 use Rattle.overlay_machine.specs.Step.{goes, overlay_step}
 use Rattle.overlay_machine.specs.Events.{step_event}
 use Rattle.overlay_machine.specs.Starting.{overlay_at}
-use Rattle.trace_tool.specs.Layout.{layout}
+use Rattle.run_lines.specs.Layout.{layout}
 use Rattle.template_runs.specs.Runs.{is_inside}
 use Rattle.proc_semantics.specs.Values.{World}
 use Rattle.proc_semantics.specs.Marked.{Marks, Thing, Whence, OwnWord, ImportWord, CameWord, refined}

@@ -15,12 +15,12 @@ use Rattle.cap_words.specs.declared.Opened.{Opened}
 use Rattle.cap_words.specs.Face.{face_of, opened_of}
 use Rattle.cap_words.specs.Linear.{is_linear}
 use Rattle.lcm_machine.specs.Table.{memory_content, unsealed, runs_in}
-use Rattle.flow_check.specs.Holds.{code_at, data_cap}
-use Rattle.component_linker.specs.declared.owners.Owner.{Owner}
-use Rattle.component_linker.specs.Owners.{owner_of}
-use Rattle.component_linker.specs.Parts.{PartSeen}
-use Rattle.component_linker.specs.Started.{StartSeen}
-use Rattle.component_linker.specs.LinkedStarts.{IsLinkedStart}
+use Rattle.flow_rules.specs.Holds.{code_at, data_cap}
+use Rattle.linked_starts.specs.declared.owners.Owner.{Owner}
+use Rattle.linked_starts.specs.Owners.{owner_of}
+use Rattle.linked_starts.specs.Parts.{PartSeen}
+use Rattle.linked_starts.specs.Started.{StartSeen}
+use Rattle.linked_starts.specs.LinkedStarts.{IsLinkedStart}
 use Rattle.trusted_border.specs.Layout.{runs_part}
 use Rattle.trusted_border.specs.Reaches.{closure_owner, hop_in, hop_by, hop_to, entry_number}
 use Rattle.overlay_machine.specs.declared.words.OWord.{OWord}
@@ -35,11 +35,11 @@ use Rattle.overlay_machine.specs.Safe.{IsSafeCap}
 use Rattle.overlay_machine.specs.Starting.{overlay_at}
 use Rattle.overlay_machine.proofs.Offers.{index_of, starts_tell_names, Leads_to, to_safe, to_entry, leads_to}
 use Rattle.overlay_machine.proofs.Offers.{whole_data, not_trusted}
-use Rattle.trace_tool.specs.declared.pairs.PassedPair.{PassedPair}
-use Rattle.trace_tool.specs.declared.pairs.PassedPair.TheVariants as pair
-use Rattle.trace_tool.specs.Layout.{is_trusted}
-use Rattle.trace_tool.specs.Pairs.{if_normal, content_linear, pair_to, pair_under, pair_if, own_goes}
-use Rattle.trace_tool.specs.Pairs.{own_pair, pair_of, PairsAreOwn}
+use Rattle.run_lines.specs.declared.pairs.PassedPair.{PassedPair}
+use Rattle.run_lines.specs.declared.pairs.PassedPair.TheVariants as pair
+use Rattle.run_lines.specs.Layout.{is_trusted}
+use Rattle.run_lines.specs.Pairs.{if_normal, content_linear, pair_to, pair_under, pair_if, own_goes}
+use Rattle.run_lines.specs.Pairs.{own_pair, pair_of, PairsAreOwn}
 use Rattle.proc_language.specs.declared.module.ModuleFields.{ModuleFields}
 use Rattle.proc_language.specs.Limits.{Each, IsModule}
 use Rattle.proc_names.specs.NameFaults.{name_faults}
@@ -49,7 +49,7 @@ use Rattle.proc_semantics.specs.Values.{World, pair_fed, pair_found}
 use Rattle.template_runs.specs.Public.{IsShown, IsSharedAt}
 use Rattle.template_runs.proofs.Offers.{open_no_owner, opened_is, is_half}
 use Rattle.template_runs.specs.Border.{content_of}
-use Rattle.trace_tool.specs.Lines.{feed_pair}
+use Rattle.run_lines.specs.Lines.{feed_pair}
 use Rattle.source_laws.proofs.Offers.{PairIs, Sealing, FailsBy}
 use Rattle.source_starts.specs.Sources.{trusted_parts}
 use Rattle.source_starts.proofs.Worlds.{Aligned, home_of}

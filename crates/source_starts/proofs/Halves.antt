@@ -10,11 +10,11 @@ use Rattle.cap_words.specs.declared.Perm.TheVariants.{Rx, Rwx}
 use Rattle.cap_words.specs.Faces.{may_run}
 use Rattle.cap_words.specs.Linear.{lin_is}
 use Rattle.cap_words.specs.Face.{face_of}
-use Rattle.flow_check.specs.Holds.{code_at, data_cap}
-use Rattle.component_linker.specs.declared.owners.Site.{Site}
-use Rattle.component_linker.specs.declared.owners.Owner.{Owner}
-use Rattle.component_linker.specs.Parts.{PartSeen}
-use Rattle.component_linker.specs.Start.{Exported, code_half, data_half, code_of, data_of}
+use Rattle.flow_rules.specs.Holds.{code_at, data_cap}
+use Rattle.linked_starts.specs.declared.owners.Site.{Site}
+use Rattle.linked_starts.specs.declared.owners.Owner.{Owner}
+use Rattle.linked_starts.specs.Parts.{PartSeen}
+use Rattle.linked_starts.specs.Start.{Exported, code_half, data_half, code_of, data_of}
 use Rattle.trusted_border.specs.declared.layout.SiteCode.{SiteCode}
 use Rattle.trusted_border.specs.Layout.{runs_part, site_code}
 use Rattle.trusted_border.specs.Reaches.{site_of_seal}
@@ -23,7 +23,7 @@ use Rattle.overlay_machine.specs.Link.{Link, IsTrusted, IsUntrusted, ranges_of}
 use Rattle.overlay_machine.specs.Linked.{Linked}
 use Rattle.overlay_machine.specs.Safe.{IsOpenSeal}
 use Rattle.overlay_machine.proofs.Offers.{found_at, numbered_is, crossing_code_is as code_is}
-use Rattle.trace_tool.specs.Layout.{is_trusted}
+use Rattle.run_lines.specs.Layout.{is_trusted}
 use Rattle.proc_semantics.specs.declared.value.Target.{Target}
 use Rattle.source_laws.proofs.Offers.{Half, Sealing}
 

@@ -28,7 +28,7 @@ use Rattle.trusted_border.specs.Reaches.{jump_plan, plan_goes}
 use Rattle.overlay_machine.specs.declared.words.OWord.{OWord}
 use Rattle.overlay_machine.specs.declared.words.OWord.TheVariants.{Plain, RetCode, RetData}
 use Rattle.overlay_machine.specs.Words.{look}
-use Rattle.trace_tool.specs.Pairs.{if_normal, content_linear}
+use Rattle.run_lines.specs.Pairs.{if_normal, content_linear}
 use Rattle.template_runs.proofs.Offers.{is_half, need_halts}
 use Rattle.source_laws.proofs.Offers.{Half}
 

@@ -8,16 +8,16 @@ use Rattle.trusted_border.specs.declared.events.Event.TheVariants.{Called, Retur
 use Rattle.overlay_machine.specs.State.{OState}
 use Rattle.overlay_machine.specs.Step.{weight_of}
 use Rattle.overlay_machine.specs.Events.{step_event}
-use Rattle.trace_tool.specs.declared.pairs.Pairs.{Pairs}
-use Rattle.trace_tool.specs.Pairs.{pairs_of, none_paired}
-use Rattle.trace_tool.specs.Views.{View, flat_view}
-use Rattle.trace_tool.specs.Lines.{Line, pass_line, lines_for}
-use Rattle.trace_tool.specs.StepLines.{no_step, and_step, StepsTellSo}
-use Rattle.trace_tool.specs.Told.{Told, none_yet, and_then, step_lines}
-use Rattle.trace_tool.specs.Cuts.{Leads}
-use Rattle.trace_tool.specs.Cuts as cuts
-use Rattle.trace_tool.specs.Feed as line
-use Rattle.trace_tool.specs.Feed.{OutsJoin, ItemsJoin, EntriesAreItems}
+use Rattle.run_lines.specs.declared.pairs.Pairs.{Pairs}
+use Rattle.run_lines.specs.Pairs.{pairs_of, none_paired}
+use Rattle.run_lines.specs.Views.{View, flat_view}
+use Rattle.run_lines.specs.Lines.{Line, pass_line, lines_for}
+use Rattle.run_lines.specs.StepLines.{no_step, and_step, StepsTellSo}
+use Rattle.run_lines.specs.Told.{Told, none_yet, and_then, step_lines}
+use Rattle.run_lines.specs.Cuts.{Leads}
+use Rattle.run_lines.specs.Cuts as cuts
+use Rattle.run_lines.specs.Feed as line
+use Rattle.run_lines.specs.Feed.{OutsJoin, ItemsJoin, EntriesAreItems}
 use Rattle.source_events.specs.declared.Item.{Item}
 use Rattle.source_events.specs.declared.OutEvent.{OutEvent}
 use Rattle.template_runs.specs.Runs.{is_inside}

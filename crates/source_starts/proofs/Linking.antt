@@ -6,11 +6,11 @@ use Rattle.std.proofs.lemmas.Bool.{cases_eq, cases_lt, not-false, or_cases}
 use Rattle.std.proofs.lemmas.Option.{slice_get_within}
 use Rattle.component_file.specs.declared.component.Import.{Import}
 use Rattle.component_file.specs.declared.component.Export.{Export}
-use Rattle.component_linker.specs.Parts.{PartSeen}
-use Rattle.component_linker.specs.Pairs.{NoneIsBroken, at_each, passes, never}
-use Rattle.component_linker.specs.Links.{rules_l, l5, is_private}
-use Rattle.component_linker.specs.Start.{Exported, exported_by, export_that, part_named, imported, same_name}
-use Rattle.component_linker.proofs.Offers.{in_part, IsExport, imported_there}
+use Rattle.linked_starts.specs.Parts.{PartSeen}
+use Rattle.linked_starts.specs.Pairs.{NoneIsBroken, at_each, passes, never}
+use Rattle.linked_starts.specs.Links.{rules_l, l5, is_private}
+use Rattle.linked_starts.specs.Start.{Exported, exported_by, export_that, part_named, imported, same_name}
+use Rattle.linked_starts.proofs.Offers.{in_part, IsExport, imported_there}
 use Rattle.overlay_machine.proofs.Offers.{found_is}
 use Rattle.source_starts.proofs.Worlds.{NamesApart, names_same, same_names}
 

@@ -19,17 +19,17 @@ use Rattle.lcm_isa.specs.declared.Reg.TheVariants.{G0, G1, G2}
 use Rattle.lcm_machine.specs.declared.cells.Span.{Span}
 use Rattle.lcm_machine.specs.Maps.{Regs}
 use Rattle.lcm_machine.specs.Places.{reg}
-use Rattle.flow_check.specs.Holds.{code_at, data_cap, PcAt}
-use Rattle.component_linker.specs.Parts.{PartSeen}
-use Rattle.component_linker.specs.Regions.{addresses, span_of, stack_span, is_stack_size}
-use Rattle.component_linker.specs.Pairs.{NoneIsBroken, at_each, passes, once}
-use Rattle.component_linker.specs.Links.{rules_l, l6, has_main}
-use Rattle.component_linker.specs.Start.{Exported, is_main, same_name, main_of, export_that, code_of}
-use Rattle.component_linker.specs.Start.{start_regs, stack_base_of, stack_of, whole_stack_cap}
-use Rattle.component_linker.specs.Started.{StartSeen}
-use Rattle.component_linker.proofs.Offers.{in_part, stack_fits, slice_get-take, given, IsExport}
-use Rattle.component_linker.proofs.Offers.{main_is_there}
-use Rattle.component_linker.specs.LinkedStarts.{IsLinkedStart}
+use Rattle.flow_rules.specs.Holds.{code_at, data_cap, PcAt}
+use Rattle.linked_starts.specs.Parts.{PartSeen}
+use Rattle.linked_starts.specs.Regions.{addresses, span_of, stack_span, is_stack_size}
+use Rattle.linked_starts.specs.Pairs.{NoneIsBroken, at_each, passes, once}
+use Rattle.linked_starts.specs.Links.{rules_l, l6, has_main}
+use Rattle.linked_starts.specs.Start.{Exported, is_main, same_name, main_of, export_that, code_of}
+use Rattle.linked_starts.specs.Start.{start_regs, stack_base_of, stack_of, whole_stack_cap}
+use Rattle.linked_starts.specs.Started.{StartSeen}
+use Rattle.linked_starts.proofs.Offers.{in_part, stack_fits, slice_get-take, given, IsExport}
+use Rattle.linked_starts.proofs.Offers.{main_is_there}
+use Rattle.linked_starts.specs.LinkedStarts.{IsLinkedStart}
 use Rattle.overlay_machine.specs.declared.words.OWord.TheVariants.{Plain}
 use Rattle.overlay_machine.specs.Words.{look}
 use Rattle.overlay_machine.specs.State.{OState}

@@ -14,12 +14,12 @@ use Rattle.component_file.specs.declared.component.Import.{Import}
 use Rattle.component_file.proofs.Offers.{inside as there_is}
 use Rattle.lcm_machine.specs.Cells.{cell}
 use Rattle.lcm_machine.specs.Table.{fits_64}
-use Rattle.flow_check.specs.Holds.{code_at, data_cap}
-use Rattle.component_linker.specs.Parts.{PartSeen}
-use Rattle.component_linker.specs.Start.{Exported, code_half, data_half, code_of, data_of, imported}
-use Rattle.component_linker.specs.Started.{StartSeen}
-use Rattle.component_linker.proofs.Offers.{IsExport}
-use Rattle.component_linker.specs.LinkedStarts.{IsLinkedStart}
+use Rattle.flow_rules.specs.Holds.{code_at, data_cap}
+use Rattle.linked_starts.specs.Parts.{PartSeen}
+use Rattle.linked_starts.specs.Start.{Exported, code_half, data_half, code_of, data_of, imported}
+use Rattle.linked_starts.specs.Started.{StartSeen}
+use Rattle.linked_starts.proofs.Offers.{IsExport}
+use Rattle.linked_starts.specs.LinkedStarts.{IsLinkedStart}
 use Rattle.overlay_machine.specs.declared.words.OWord.{OWord}
 use Rattle.overlay_machine.specs.declared.words.OWord.TheVariants.{Plain}
 use Rattle.overlay_machine.specs.Link.{Link, IsTrusted, IsUntrusted, ranges_of}

@@ -9,10 +9,10 @@ use Rattle.lcm_machine.specs.Cells.{cell}
 use Rattle.lcm_machine.specs.Mapped.{mapped_or}
 use Rattle.lcm_machine.specs.Run.{plain}
 use Rattle.call_sequence.specs.SequenceRuns.{IsOutsideRange}
-use Rattle.component_linker.specs.Parts.{PartSeen}
-use Rattle.component_linker.specs.Standing.{placed}
-use Rattle.component_linker.specs.Started.{StartSeen}
-use Rattle.component_linker.specs.LinkedStarts.{IsLinkedStart}
+use Rattle.linked_starts.specs.Parts.{PartSeen}
+use Rattle.linked_starts.specs.Standing.{placed}
+use Rattle.linked_starts.specs.Started.{StartSeen}
+use Rattle.linked_starts.specs.LinkedStarts.{IsLinkedStart}
 use Rattle.overlay_machine.specs.declared.words.OWord.{OWord}
 use Rattle.overlay_machine.specs.State.{OState}
 use Rattle.overlay_machine.specs.Step.{goes, overlay_step}
@@ -23,8 +23,9 @@ use Rattle.overlay_machine.specs.Linked.{Linked}
 use Rattle.overlay_machine.specs.Invariant.{Invariant}
 use Rattle.overlay_machine.specs.Starting.{overlay_at, AgreesFromStart, StartsBegin}
 use Rattle.overlay_machine.proofs.Offers.{is_overlay}
-use Rattle.trace_tool.specs.Layout.{layout}
-use Rattle.trace_tool.specs.Headline.{Headline, Matched, HeadlineHolds}
+use Rattle.run_lines.specs.Layout.{layout}
+use Rattle.run_lines.specs.Cuts.{Matched}
+use Rattle.headline.specs.Headline.{Headline, HeadlineHolds}
 use Rattle.proc_semantics.specs.Marked.{Thing}
 use Rattle.template_runs.specs.Runs.{is_inside}
 use Rattle.template_runs.specs.Border.{Wiped, low_at}

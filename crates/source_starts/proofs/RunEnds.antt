@@ -16,7 +16,7 @@ use Rattle.lcm_machine.specs.Places.{reg}
 use Rattle.lcm_machine.specs.Row.{faces}
 use Rattle.lcm_machine.specs.Run.{Run, plain, answer, answer_by}
 use Rattle.lcm_machine.proofs.Offers.{plain_ended}
-use Rattle.component_linker.specs.Started.{StartSeen}
+use Rattle.linked_starts.specs.Started.{StartSeen}
 use Rattle.trusted_border.specs.declared.layout.Layout.{Layout}
 use Rattle.trusted_border.specs.declared.layout.SiteCode.{SiteCode}
 use Rattle.trusted_border.specs.Layout.{site_code}
@@ -27,11 +27,11 @@ use Rattle.overlay_machine.specs.State.{OpenFrame, OState, frame_of}
 use Rattle.overlay_machine.specs.Step.{Ending, goes, halts, fails, overlay_step, weight_of}
 use Rattle.overlay_machine.specs.Flat.{IsFlat, flat, flat_code, flat_range, flat_data}
 use Rattle.overlay_machine.specs.Runs.{goes_on}
-use Rattle.trace_tool.specs.Layout.{layout, is_trusted}
-use Rattle.trace_tool.specs.Views.{flat_view}
-use Rattle.trace_tool.specs.Told.{StopsAt}
-use Rattle.trace_tool.specs.Cuts.{StopsAreCuts}
-use Rattle.trace_tool.specs.Headline.{Matched, Agrees, PlainEnds, OverlayHalts, OverlayFails}
+use Rattle.run_lines.specs.Layout.{layout, is_trusted}
+use Rattle.run_lines.specs.Views.{flat_view}
+use Rattle.run_lines.specs.Told.{StopsAt}
+use Rattle.run_lines.specs.Cuts.{Matched, StopsAreCuts}
+use Rattle.headline.specs.Headline.{Agrees, PlainEnds, OverlayHalts, OverlayFails}
 use Rattle.template_runs.specs.Runs.{is_inside}
 use Rattle.source_starts.specs.RunMeans.{runs_trusted}
 

@@ -1,18 +1,18 @@
 -- The plain run of linked sources means what the sources mean.
 use Rattle.std.proofs.Common.{◌≡◌, ℕ, Bool, true, false, List, ◌∷◌, Some, refl, sym, ap, ◌∙◌, subst}
-use Rattle.component_linker.specs.Parts.{PartSeen}
-use Rattle.component_linker.specs.Standing.{placed}
-use Rattle.component_linker.specs.Started.{StartSeen}
-use Rattle.component_linker.specs.LinkedStarts.{IsStartOf}
+use Rattle.linked_starts.specs.Parts.{PartSeen}
+use Rattle.linked_starts.specs.Standing.{placed}
+use Rattle.linked_starts.specs.Started.{StartSeen}
+use Rattle.linked_starts.specs.LinkedStarts.{IsStartOf}
 use Rattle.overlay_machine.specs.Starting.{overlay_at, StartsBegin}
 use Rattle.overlay_machine.proofs.Offers.{listed_at, is_overlay}
-use Rattle.trace_tool.specs.Layout.{layout}
-use Rattle.trace_tool.specs.StepLines.{StepsTellSo}
-use Rattle.trace_tool.specs.Feed.{outs_of, items_of, OutsJoin, ItemsJoin, EntriesAreItems}
-use Rattle.trace_tool.specs.Runs.{written}
-use Rattle.trace_tool.specs.Cuts.{cut, cut_overlay, trusted_weight, CutsAreGreatest, StopsAreCuts}
-use Rattle.trace_tool.specs.Headline.{HeadlineHolds}
-use Rattle.trace_tool.proofs.Offers.{reached_by}
+use Rattle.run_lines.specs.Layout.{layout}
+use Rattle.run_lines.specs.StepLines.{StepsTellSo}
+use Rattle.run_lines.specs.Feed.{outs_of, items_of, OutsJoin, ItemsJoin, EntriesAreItems}
+use Rattle.run_lines.specs.Runs.{written}
+use Rattle.run_lines.specs.Cuts.{cut, cut_overlay, trusted_weight, CutsAreGreatest, StopsAreCuts}
+use Rattle.headline.specs.Headline.{HeadlineHolds}
+use Rattle.run_lines.proofs.Offers.{reached_by}
 use Rattle.proc_language.specs.declared.module.ModuleFields.{ModuleFields}
 use Rattle.proc_program.specs.Lower.{part_of}
 use Rattle.proc_semantics.specs.Values.{World}

@@ -10,13 +10,13 @@ use Rattle.std.specs.List.{Contains}
 use Rattle.std.proofs.lemmas.List.{length-map}
 use Rattle.std.proofs.lemmas.Option.{slice_get_within}
 use Rattle.lcm_isa.specs.declared.Instr.TheVariants.{Fail}
-use Rattle.flow_check.specs.Holds.{code_at, data_cap}
-use Rattle.flow_check.specs.Places.{begins_site}
-use Rattle.component_linker.specs.declared.owners.Site.{Site}
-use Rattle.component_linker.specs.Parts.{PartSeen}
-use Rattle.component_linker.specs.Started.{StartSeen}
-use Rattle.component_linker.proofs.Offers.{sites_in}
-use Rattle.component_linker.specs.LinkedStarts.{IsLinkedStart}
+use Rattle.flow_rules.specs.Holds.{code_at, data_cap}
+use Rattle.flow_rules.specs.Places.{begins_site}
+use Rattle.linked_starts.specs.declared.owners.Site.{Site}
+use Rattle.linked_starts.specs.Parts.{PartSeen}
+use Rattle.linked_starts.specs.Started.{StartSeen}
+use Rattle.linked_starts.proofs.Offers.{sites_in}
+use Rattle.linked_starts.specs.LinkedStarts.{IsLinkedStart}
 use Rattle.trusted_border.specs.declared.layout.SiteCode.{SiteCode}
 use Rattle.trusted_border.specs.Names.{site_of, part_name}
 use Rattle.overlay_machine.specs.declared.words.OWord.{OWord}

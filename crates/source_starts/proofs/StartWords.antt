@@ -8,16 +8,16 @@ use Rattle.cap_words.specs.declared.Word.{Word}
 use Rattle.cap_words.specs.declared.Word.TheVariants.{Int, Mem, Seal, Sealed}
 use Rattle.component_file.specs.declared.component.Import.{Import}
 use Rattle.lcm_machine.specs.Cells.{cell}
-use Rattle.flow_check.specs.Holds.{code_at}
-use Rattle.component_linker.specs.Parts.{PartSeen, IsPart}
-use Rattle.component_linker.specs.Regions.{regions_of, in_regions}
-use Rattle.component_linker.specs.Start.{Exported, imported, code_half, data_half, code_of, data_of}
-use Rattle.component_linker.specs.Start.{slot_word, part_word, start_cell, first_given, from, data_word}
-use Rattle.component_linker.specs.Started.{StartSeen}
-use Rattle.component_linker.specs.DataWords.{DataInCells}
-use Rattle.component_linker.proofs.Offers.{in_regions_is, data_stands, given, given_by, OwnWord, own_code}
-use Rattle.component_linker.proofs.Offers.{own_data, from_inv, slot_inv, slots_in, IsExport, imported_there}
-use Rattle.component_linker.specs.LinkedStarts.{IsLinkedStart}
+use Rattle.flow_rules.specs.Holds.{code_at}
+use Rattle.linked_starts.specs.Parts.{PartSeen, IsPart}
+use Rattle.linked_starts.specs.Regions.{regions_of, in_regions}
+use Rattle.linked_starts.specs.Start.{Exported, imported, code_half, data_half, code_of, data_of}
+use Rattle.linked_starts.specs.Start.{slot_word, part_word, start_cell, first_given, from, data_word}
+use Rattle.linked_starts.specs.Started.{StartSeen}
+use Rattle.linked_starts.specs.DataWords.{DataInCells}
+use Rattle.linked_starts.proofs.Offers.{in_regions_is, data_stands, given, given_by, OwnWord, own_code}
+use Rattle.linked_starts.proofs.Offers.{own_data, from_inv, slot_inv, slots_in, IsExport, imported_there}
+use Rattle.linked_starts.specs.LinkedStarts.{IsLinkedStart}
 use Rattle.overlay_machine.specs.declared.words.OWord.{OWord}
 use Rattle.overlay_machine.specs.declared.words.OWord.TheVariants.{Plain}
 use Rattle.overlay_machine.specs.Link.{Link, IsTrusted, IsUntrusted, ranges_of, regions, data_region}

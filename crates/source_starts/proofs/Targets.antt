@@ -9,7 +9,7 @@ use Rattle.std.specs.Str.{bytes_eq}
 use Rattle.std.proofs.lemmas.Bool.{cases_lt, and_right}
 use Rattle.std.proofs.lemmas.Option.{slice_get_within, slice_get-map}
 use Rattle.component_file.specs.declared.component.Export.{Export}
-use Rattle.component_linker.specs.Parts.{PartSeen}
+use Rattle.linked_starts.specs.Parts.{PartSeen}
 use Rattle.overlay_machine.proofs.Offers.{index_of, found_is}
 use Rattle.proc_language.specs.declared.tree.Name.{Name}
 use Rattle.proc_language.specs.declared.module.Proc.{Proc}

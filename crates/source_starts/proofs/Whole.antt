@@ -10,14 +10,14 @@ use Rattle.cap_words.specs.declared.Word.TheVariants.{Int}
 use Rattle.cap_words.specs.declared.Face.TheVariants.{Memory}
 use Rattle.cap_words.specs.Face.{face_of}
 use Rattle.lcm_machine.specs.Row.{faces}
-use Rattle.flow_check.specs.Holds.{code_at}
-use Rattle.flow_check.specs.Places.{begins_entry}
-use Rattle.component_linker.specs.declared.owners.Owner.{Owner}
-use Rattle.component_linker.specs.Owners.{owner_of}
-use Rattle.component_linker.specs.Parts.{PartSeen}
-use Rattle.component_linker.specs.Standing.{placed}
-use Rattle.component_linker.specs.Started.{StartSeen}
-use Rattle.component_linker.specs.LinkedStarts.{IsLinkedStart, IsStartOf}
+use Rattle.flow_rules.specs.Holds.{code_at}
+use Rattle.flow_rules.specs.Places.{begins_entry}
+use Rattle.linked_starts.specs.declared.owners.Owner.{Owner}
+use Rattle.linked_starts.specs.Owners.{owner_of}
+use Rattle.linked_starts.specs.Parts.{PartSeen}
+use Rattle.linked_starts.specs.Standing.{placed}
+use Rattle.linked_starts.specs.Started.{StartSeen}
+use Rattle.linked_starts.specs.LinkedStarts.{IsLinkedStart, IsStartOf}
 use Rattle.trusted_border.specs.declared.layout.SiteCode.{SiteCode}
 use Rattle.trusted_border.specs.Layout.{site_code, trusted_owner}
 use Rattle.trusted_border.specs.Reaches.{site_of_seal, entry_number}
@@ -31,8 +31,8 @@ use Rattle.overlay_machine.specs.Names.{NamesTold, EntryNamed}
 use Rattle.overlay_machine.specs.Invariant.{Invariant}
 use Rattle.overlay_machine.specs.Starting.{overlay_at, StartsBegin}
 use Rattle.overlay_machine.proofs.Offers.{index_of, starts_tell_names, is_overlay}
-use Rattle.trace_tool.specs.Layout.{part_name, entry_name}
-use Rattle.trace_tool.specs.Pairs.{PairsAreOwn}
+use Rattle.run_lines.specs.Layout.{part_name, entry_name}
+use Rattle.run_lines.specs.Pairs.{PairsAreOwn}
 use Rattle.proc_language.specs.declared.module.ModuleFields.{ModuleFields}
 use Rattle.proc_language.specs.Limits.{Each, IsModule}
 use Rattle.proc_names.specs.NameFaults.{name_faults}

@@ -9,12 +9,12 @@ use Rattle.std.specs.Str.{bytes_eq}
 use Rattle.std.proofs.lemmas.Slice.Eq.{bytes_eq-Decides}
 use Rattle.std.proofs.lemmas.Bool.{cases_lt}
 use Rattle.std.proofs.lemmas.Option.{slice_get_within, slice_get-map}
-use Rattle.component_linker.specs.Parts.{PartSeen}
-use Rattle.component_linker.specs.Pairs.{NoneIsBroken, at_each, passes, never}
-use Rattle.component_linker.specs.Links.{rules_l, l3}
-use Rattle.component_linker.specs.Start.{same_name}
-use Rattle.component_linker.specs.Standing.{placed, placed_from, placed_part, past, settled, move_of}
-use Rattle.component_linker.proofs.Offers.{in_part, slice_get-take, taken}
+use Rattle.linked_starts.specs.Parts.{PartSeen}
+use Rattle.linked_starts.specs.Pairs.{NoneIsBroken, at_each, passes, never}
+use Rattle.linked_starts.specs.Links.{rules_l, l3}
+use Rattle.linked_starts.specs.Start.{same_name}
+use Rattle.linked_starts.specs.Standing.{placed, placed_from, placed_part, past, settled, move_of}
+use Rattle.linked_starts.proofs.Offers.{in_part, slice_get-take, taken}
 use Rattle.proc_language.specs.declared.module.ModuleFields.{ModuleFields}
 use Rattle.proc_program.specs.declared.program.Program.{Program}
 use Rattle.proc_program.specs.Lower.{part_of}

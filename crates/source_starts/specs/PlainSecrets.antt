@@ -6,14 +6,14 @@ use Rattle.lcm_isa.specs.declared.Reg.{Reg}
 use Rattle.lcm_machine.specs.Places.{reg}
 use Rattle.lcm_machine.specs.Cells.{cell}
 use Rattle.lcm_machine.specs.Run.{plain}
-use Rattle.component_linker.specs.Parts.{PartSeen}
-use Rattle.component_linker.specs.Started.{StartSeen}
-use Rattle.component_linker.specs.LinkedStarts.{IsStartOf}
+use Rattle.linked_starts.specs.Parts.{PartSeen}
+use Rattle.linked_starts.specs.Started.{StartSeen}
+use Rattle.linked_starts.specs.LinkedStarts.{IsStartOf}
 use Rattle.overlay_machine.specs.State.{OState, framed}
 use Rattle.overlay_machine.specs.Flat.{flat}
 use Rattle.overlay_machine.specs.Link.{Link}
-use Rattle.trace_tool.specs.Layout.{layout}
-use Rattle.trace_tool.specs.Headline.{Matched}
+use Rattle.run_lines.specs.Layout.{layout}
+use Rattle.run_lines.specs.Cuts.{Matched}
 use Rattle.proc_language.specs.declared.module.ModuleFields.{ModuleFields}
 use Rattle.template_runs.specs.Public.{IsFreeAt}
 use Rattle.source_laws.specs.Secrets.{LetsGo, RanLast}

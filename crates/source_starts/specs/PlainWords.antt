@@ -3,10 +3,10 @@ use Rattle.std.specs.Prelude.{◌≡◌, ℕ, ◌≤◌, false, List, length, ma
 use Rattle.lcm_isa.specs.declared.Reg.{Reg}
 use Rattle.lcm_machine.specs.Places.{reg}
 use Rattle.lcm_machine.specs.Run.{plain}
-use Rattle.component_linker.specs.Parts.{PartSeen}
-use Rattle.component_linker.specs.Standing.{placed}
-use Rattle.component_linker.specs.Started.{StartSeen}
-use Rattle.component_linker.specs.LinkedStarts.{IsStartOf}
+use Rattle.linked_starts.specs.Parts.{PartSeen}
+use Rattle.linked_starts.specs.Standing.{placed}
+use Rattle.linked_starts.specs.Started.{StartSeen}
+use Rattle.linked_starts.specs.LinkedStarts.{IsStartOf}
 use Rattle.trusted_border.specs.declared.layout.Layout.{Layout}
 use Rattle.trusted_border.specs.declared.events.Event.TheVariants.{Called}
 use Rattle.overlay_machine.specs.declared.words.OWord.{OWord}
@@ -15,8 +15,8 @@ use Rattle.overlay_machine.specs.Step.{goes, overlay_step}
 use Rattle.overlay_machine.specs.Events.{step_event}
 use Rattle.overlay_machine.specs.Flat.{flat}
 use Rattle.overlay_machine.specs.Starting.{overlay_at}
-use Rattle.trace_tool.specs.Layout.{layout}
-use Rattle.trace_tool.specs.Headline.{Matched}
+use Rattle.run_lines.specs.Layout.{layout}
+use Rattle.run_lines.specs.Cuts.{Matched}
 use Rattle.proc_language.specs.declared.module.ModuleFields.{ModuleFields}
 use Rattle.proc_program.specs.Lower.{part_of}
 use Rattle.proc_semantics.specs.Values.{World}

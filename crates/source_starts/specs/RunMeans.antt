@@ -8,15 +8,15 @@ use Rattle.lcm_machine.specs.declared.Step.TheVariants.{Halted, Failed}
 use Rattle.lcm_machine.specs.Places.{reg}
 use Rattle.lcm_machine.specs.Row.{faces}
 use Rattle.lcm_machine.specs.Run.{plain, answer as last_step}
-use Rattle.component_linker.specs.Parts.{PartSeen}
-use Rattle.component_linker.specs.Started.{StartSeen}
-use Rattle.component_linker.specs.LinkedStarts.{IsStartOf}
+use Rattle.linked_starts.specs.Parts.{PartSeen}
+use Rattle.linked_starts.specs.Started.{StartSeen}
+use Rattle.linked_starts.specs.LinkedStarts.{IsStartOf}
 use Rattle.overlay_machine.specs.Step.{weight_of}
 use Rattle.overlay_machine.specs.Starting.{overlay_at}
-use Rattle.trace_tool.specs.Layout.{layout, is_trusted}
-use Rattle.trace_tool.specs.Feed.{outs_of, items_of}
-use Rattle.trace_tool.specs.Runs.{written}
-use Rattle.trace_tool.specs.Cuts.{cut, cut_overlay, trusted_weight}
+use Rattle.run_lines.specs.Layout.{layout, is_trusted}
+use Rattle.run_lines.specs.Feed.{outs_of, items_of}
+use Rattle.run_lines.specs.Runs.{written}
+use Rattle.run_lines.specs.Cuts.{cut, cut_overlay, trusted_weight}
 use Rattle.proc_language.specs.declared.module.ModuleFields.{ModuleFields}
 use Rattle.proc_program.specs.Lower.{part_of}
 use Rattle.source_events.specs.declared.Item.{Item}

@@ -1,15 +1,15 @@
 -- The sources of a link: its trusted parts are compiled modules.
 use Rattle.std.specs.Prelude.{◌≡◌, ℕ, List, [], map, filter}
-use Rattle.component_linker.specs.Parts.{PartSeen}
+use Rattle.linked_starts.specs.Parts.{PartSeen}
 use Rattle.proc_language.specs.declared.module.ModuleFields.{ModuleFields}
 use Rattle.proc_language.specs.Limits.{Each, IsModule}
 use Rattle.proc_names.specs.NameFaults.{name_faults}
 use Rattle.proc_templates.specs.Compiled.{compiled}
-use Rattle.component_linker.specs.Started.{StartSeen}
-use Rattle.component_linker.specs.Standing.{placed}
-use Rattle.component_linker.specs.LinkedStarts.{IsStartOf}
+use Rattle.linked_starts.specs.Started.{StartSeen}
+use Rattle.linked_starts.specs.Standing.{placed}
+use Rattle.linked_starts.specs.LinkedStarts.{IsStartOf}
 use Rattle.overlay_machine.specs.Link.{Link}
-use Rattle.trace_tool.specs.Layout.{layout}
+use Rattle.run_lines.specs.Layout.{layout}
 use Rattle.source_laws.specs.Secrets.{LeavesNothing}
 
 abbrev pub trusted_parts : List PartSeen → List PartSeen

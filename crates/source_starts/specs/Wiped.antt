@@ -1,8 +1,8 @@
 -- Which cells of the stack linked sources have wiped where they let go of control.
 use Rattle.std.specs.Prelude.{ℕ, List, map}
-use Rattle.component_linker.specs.Parts.{PartSeen}
-use Rattle.component_linker.specs.Started.{StartSeen}
-use Rattle.component_linker.specs.LinkedStarts.{IsStartOf}
+use Rattle.linked_starts.specs.Parts.{PartSeen}
+use Rattle.linked_starts.specs.Started.{StartSeen}
+use Rattle.linked_starts.specs.LinkedStarts.{IsStartOf}
 use Rattle.proc_language.specs.declared.module.ModuleFields.{ModuleFields}
 use Rattle.proc_program.specs.Lower.{part_of}
 use Rattle.source_laws.specs.Wiped.{WipedAlways}

@@ -1,10 +1,10 @@
 //! What runs of linked sources mean. These functions do nothing; their contracts are the laws.
 ghost use Rattle.std.specs.Prelude.{ℕ, List, map};
-ghost use Rattle.component_linker.specs.Parts.{PartSeen};
-ghost use Rattle.component_linker.specs.Started.{StartSeen};
+ghost use Rattle.linked_starts.specs.Parts.{PartSeen};
+ghost use Rattle.linked_starts.specs.Started.{StartSeen};
 ghost use Rattle.proc_language.specs.declared.module.ModuleFields.{ModuleFields};
 ghost use Rattle.proc_program.specs.Lower.{part_of};
-ghost use Rattle.component_linker.specs.LinkedStarts.{IsStartOf};
+ghost use Rattle.linked_starts.specs.LinkedStarts.{IsStartOf};
 ghost use Rattle.source_laws.specs.Sources.{MeansAlways};
 ghost use Rattle.source_starts.specs.Sources.{AreSources, SourcesLeaveNothing};
 ghost use Rattle.source_starts.specs.PlainWords.{PlainRunsTellWords};
@@ -16,10 +16,9 @@ ghost use Rattle.source_starts.specs.Shown.{SourcesShowNothingElse};
 ghost use Rattle.source_starts.specs.Wiped.{WipedCellsAreTold};
 ghost use Rattle.source_starts.specs.RunMeans.{CutsShow, RunsMean, StacksBegin};
 
+use headline::laws::the_headline;
 use overlay_machine::laws::{linked_starts_agree, starts_begin};
-use trace_tool::laws::{
-    cuts_are_greatest, lines_are_a_feed, pairs_are_the_overlays, steps_tell_so, the_headline,
-};
+use run_lines::laws::{cuts_are_greatest, lines_are_a_feed, pairs_are_the_overlays, steps_tell_so};
 
 /// A run of linked sources does what they mean, with what code outside causes as input: a robust trace
 /// property.

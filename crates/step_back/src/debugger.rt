@@ -8,8 +8,8 @@ ghost use Rattle.step_back.specs.Debug.{is_stop, is_full, with_stop, spent};
 
 use crate::stops::Stops;
 use circular_buffer::HeapCircularBuffer;
-use component_linker::Start;
 use lcm_machine::{LcmState, Step, Undo};
+use linked_starts::Start;
 use std::alloc::{AllocError, Global};
 use std::marker::Model;
 

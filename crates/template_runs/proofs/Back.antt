@@ -20,9 +20,9 @@ use Rattle.lcm_machine.specs.Plan.{Plan, Fails, Halts, Goes}
 use Rattle.lcm_machine.specs.declared.plan.Effect.{Effect}
 use Rattle.lcm_machine.specs.Table.{ask, need, memory_content}
 use Rattle.lcm_machine.specs.Row.{faces, opens, perform, plan_in, outcome, row}
-use Rattle.component_linker.specs.Parts.{PartSeen}
-use Rattle.component_linker.specs.declared.owners.Owner.{Owner}
-use Rattle.component_linker.specs.declared.owners.Site.{Site}
+use Rattle.linked_starts.specs.Parts.{PartSeen}
+use Rattle.linked_starts.specs.declared.owners.Owner.{Owner}
+use Rattle.linked_starts.specs.declared.owners.Site.{Site}
 use Rattle.trusted_border.specs.declared.events.Event.TheVariants.{Left}
 use Rattle.trusted_border.specs.declared.events.Back.TheVariants.{Out, Bad, Hop}
 use Rattle.trusted_border.specs.Reaches.{jump_plan, plan_goes, back_if, back_under, back_of, hop_in, hop_by}
@@ -37,8 +37,8 @@ use Rattle.overlay_machine.specs.Safe.{IsSafe}
 use Rattle.overlay_machine.specs.Linked.{Linked}
 use Rattle.overlay_machine.specs.Agree.{IsForeign}
 use Rattle.overlay_machine.proofs.Offers.{found_at, numbered_is, foreign, Crossed}
-use Rattle.flow_check.specs.Holds.{code_at, data_cap, PcAt}
-use Rattle.flow_check.specs.Places.{begins_entry}
+use Rattle.flow_rules.specs.Holds.{code_at, data_cap, PcAt}
+use Rattle.flow_rules.specs.Places.{begins_entry}
 use Rattle.template_runs.specs.Public.{IsShown, IsSharedAt}
 use Rattle.template_runs.specs.Runs.{Makes}
 use Rattle.template_runs.proofs.Valid.{Valid}

@@ -24,10 +24,10 @@ use Rattle.lcm_machine.proofs.Offers.{Gives, gives_goes, Gives-effect, Gives-nee
 use Rattle.lcm_machine.proofs.Offers.{step_at}
 use Rattle.lcm_machine.specs.Row.{went, put, clear, perform, outcome, plan_in, faces, opens, cell_faces}
 use Rattle.lcm_machine.specs.Row.{fetch, some, row}
-use Rattle.flow_check.specs.Holds.{data_cap, code_at, PcAt}
-use Rattle.flow_check.specs.Places.{begins_entry}
-use Rattle.component_linker.specs.Parts.{PartSeen}
-use Rattle.component_linker.specs.declared.owners.Owner.{Owner}
+use Rattle.flow_rules.specs.Holds.{data_cap, code_at, PcAt}
+use Rattle.flow_rules.specs.Places.{begins_entry}
+use Rattle.linked_starts.specs.Parts.{PartSeen}
+use Rattle.linked_starts.specs.declared.owners.Owner.{Owner}
 use Rattle.trusted_border.specs.declared.layout.SiteCode.{SiteCode}
 use Rattle.trusted_border.specs.declared.events.Event.TheVariants.{Returned as ReturnedTo, Left}
 use Rattle.trusted_border.specs.Layout.{site_code}

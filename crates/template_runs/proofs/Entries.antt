@@ -23,9 +23,9 @@ use Rattle.lcm_machine.specs.Row.{row, failed, faces, plan_in, pc_at}
 use Rattle.lcm_machine.specs.Runs.{code_cap}
 use Rattle.lcm_machine.proofs.Offers.{shows}
 use Rattle.call_sequence.specs.declared.TheConstants.{ENTRY_WORDS}
-use Rattle.flow_check.specs.Holds.{data_cap, part_stack_cap}
-use Rattle.flow_check.specs.Places.{begins_entry}
-use Rattle.component_linker.specs.Parts.{PartSeen}
+use Rattle.flow_rules.specs.Holds.{data_cap, part_stack_cap}
+use Rattle.flow_rules.specs.Places.{begins_entry}
+use Rattle.linked_starts.specs.Parts.{PartSeen}
 use Rattle.trusted_border.specs.Layout.{site_at}
 use Rattle.overlay_machine.specs.declared.words.OWord.{OWord}
 use Rattle.overlay_machine.specs.declared.words.OWord.TheVariants.{Plain}
@@ -39,7 +39,7 @@ use Rattle.overlay_machine.specs.Link.{Link, IsTrusted, ranges_of}
 use Rattle.overlay_machine.specs.Linked.{Linked}
 use Rattle.overlay_machine.specs.Safe.{IsSafe}
 use Rattle.overlay_machine.proofs.Offers.{own_is, mem_safe, in_stack, site_of}
-use Rattle.trace_tool.specs.Feed.{integer_in}
+use Rattle.run_lines.specs.Feed.{integer_in}
 use Rattle.template_runs.proofs.Numbers.{zero_more}
 use Rattle.template_runs.specs.Public.{IsPublic}
 use Rattle.template_runs.specs.Runs.{Makes, RunsOn, Failing, no_cell}

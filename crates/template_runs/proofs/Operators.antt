@@ -12,7 +12,7 @@ use Rattle.lcm_machine.specs.declared.FailCause.TheVariants.{F9}
 use Rattle.lcm_machine.specs.Table.{fits_64, bit, ask, need}
 use Rattle.lcm_machine.specs.Row.{row, failed, plan_in, pc_at}
 use Rattle.lcm_machine.proofs.Offers.{shows, set_goes, lt_goes, plus_goes, minus_goes, number_in}
-use Rattle.component_linker.specs.Parts.{PartSeen}
+use Rattle.linked_starts.specs.Parts.{PartSeen}
 use Rattle.overlay_machine.specs.declared.words.OWord.{OWord}
 use Rattle.overlay_machine.specs.declared.words.OWord.TheVariants.{Plain}
 use Rattle.overlay_machine.specs.Words.{look}

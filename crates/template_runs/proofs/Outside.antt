@@ -27,11 +27,11 @@ use Rattle.lcm_machine.specs.Table.{target, unsealed, memory_content}
 use Rattle.lcm_machine.specs.Row.{went, faces, opens, cell_faces, fetch, some, row, step_of}
 use Rattle.lcm_machine.proofs.Offers.{cases_reg, fetch_normal, after_went, row_others, fetched_row}
 use Rattle.lcm_machine.proofs.Offers.{used_target, row_keeps, is_none}
-use Rattle.flow_check.specs.Holds.{data_cap, code_at, PcAt}
-use Rattle.flow_check.specs.Places.{begins_entry}
-use Rattle.component_linker.specs.Parts.{PartSeen}
-use Rattle.component_linker.specs.declared.owners.Owner.{Owner}
-use Rattle.component_linker.proofs.Offers.{found, listed_at}
+use Rattle.flow_rules.specs.Holds.{data_cap, code_at, PcAt}
+use Rattle.flow_rules.specs.Places.{begins_entry}
+use Rattle.linked_starts.specs.Parts.{PartSeen}
+use Rattle.linked_starts.specs.declared.owners.Owner.{Owner}
+use Rattle.linked_starts.proofs.Offers.{found, listed_at}
 use Rattle.trusted_border.specs.declared.events.Event.TheVariants.{Returned as ReturnedTo}
 use Rattle.trusted_border.specs.Layout.{trusted_owner, runs_part}
 use Rattle.trusted_border.specs.Reaches.{closure_owner}

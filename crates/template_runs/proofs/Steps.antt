@@ -15,9 +15,9 @@ use Rattle.lcm_machine.specs.Row.{Outcome, went, halted, failed, look_face, face
 use Rattle.lcm_machine.specs.Row.{row, jump_of}
 use Rattle.lcm_machine.specs.Runs.{code_cap}
 use Rattle.lcm_machine.proofs.Offers.{fetch_at, step_at}
-use Rattle.flow_check.specs.Holds.{PcAt}
-use Rattle.flow_check.specs.Places.{begins_entry, begins_site}
-use Rattle.component_linker.specs.Parts.{PartSeen}
+use Rattle.flow_rules.specs.Holds.{PcAt}
+use Rattle.flow_rules.specs.Places.{begins_entry, begins_site}
+use Rattle.linked_starts.specs.Parts.{PartSeen}
 use Rattle.trusted_border.specs.Layout.{trusted_at, site_at}
 use Rattle.overlay_machine.specs.declared.words.OWord.{OWord}
 use Rattle.overlay_machine.specs.declared.words.OWord.TheVariants.{Plain}
@@ -31,7 +31,7 @@ use Rattle.overlay_machine.specs.Link.{Link, IsTrusted, ranges_of}
 use Rattle.overlay_machine.specs.Linked.{Linked}
 use Rattle.std.proofs.lemmas.Option.{slice_get_within}
 use Rattle.overlay_machine.proofs.Offers.{in_code, site_of}
-use Rattle.trace_tool.specs.Views.{flat_view}
+use Rattle.run_lines.specs.Views.{flat_view}
 use Rattle.template_runs.specs.Public.{IsPublic, IsFreeAt}
 use Rattle.template_runs.specs.Runs.{is_inside, Makes, RunsOn, Failing, Halting, Sets, no_cell, one_cell}
 use Rattle.template_runs.proofs.Valid.{Valid, valid_same, valid_set}

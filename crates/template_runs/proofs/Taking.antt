@@ -13,7 +13,7 @@ use Rattle.lcm_machine.specs.Places.{reg}
 use Rattle.lcm_machine.specs.Table.{fits_64}
 use Rattle.lcm_machine.specs.Row.{put}
 use Rattle.lcm_machine.proofs.Offers.{plus_goes}
-use Rattle.component_linker.specs.Parts.{PartSeen}
+use Rattle.linked_starts.specs.Parts.{PartSeen}
 use Rattle.trusted_border.specs.declared.layout.SiteCode.{SiteCode}
 use Rattle.overlay_machine.specs.declared.words.OWord.{OWord}
 use Rattle.overlay_machine.specs.declared.words.OWord.TheVariants.{Plain, RetCode, RetData}
@@ -25,8 +25,8 @@ use Rattle.overlay_machine.specs.Linked.{Linked}
 use Rattle.overlay_machine.specs.Safe.{IsMet}
 use Rattle.overlay_machine.proofs.Offers.{frame_in}
 use Rattle.overlay_machine.specs.Invariant.{PcPart, at_fail, at_row, outside}
-use Rattle.trace_tool.specs.Views.{flat_view}
-use Rattle.trace_tool.specs.Feed.{integer_in}
+use Rattle.run_lines.specs.Views.{flat_view}
+use Rattle.run_lines.specs.Feed.{integer_in}
 use Rattle.template_runs.proofs.Numbers.{zero_more}
 use Rattle.template_runs.proofs.Entries.{plus_fails}
 use Rattle.template_runs.specs.Public.{IsPublic}

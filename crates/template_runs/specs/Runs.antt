@@ -9,8 +9,8 @@ use Rattle.overlay_machine.specs.declared.words.OWord.{OWord}
 use Rattle.overlay_machine.specs.State.{OState}
 use Rattle.overlay_machine.specs.Step.{goes, halts, fails, overlay_step, weight_of}
 use Rattle.overlay_machine.specs.Events.{step_event}
-use Rattle.trace_tool.specs.Views.{flat_view}
-pub use Rattle.trace_tool.specs.Cuts.{is_inside}
+use Rattle.run_lines.specs.Views.{flat_view}
+pub use Rattle.run_lines.specs.Cuts.{is_inside}
 
 -- a step of trusted code goes on, with this weight and this event
 pub record Makes (l : Layout) (n : ℕ) (e : Option Event) (o q : OState) : Type 0 where

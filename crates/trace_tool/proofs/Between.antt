@@ -6,11 +6,11 @@ use Rattle.std.specs.List.Sorted.{IsPartitionedBy, IsPartitionPoint}
 use Rattle.std.proofs.lemmas.Bool.{cases_lt, leb-true, ltb-true, leb-false}
 use Rattle.std.proofs.lemmas.List.{get_or_default}
 use Rattle.std.proofs.lemmas.List.Sorted.{IsPartitionedBy-leb}
-use Rattle.component_linker.specs.declared.owners.Site.{Site}
-use Rattle.component_linker.specs.Owners.{SitesAscend}
-use Rattle.component_linker.proofs.Offers.{up_to}
+use Rattle.linked_starts.specs.declared.owners.Site.{Site}
+use Rattle.linked_starts.specs.Owners.{SitesAscend}
+use Rattle.linked_starts.proofs.Offers.{up_to}
 use Rattle.trace_tool.specs.declared.gap.Gap.{Gap}
-use Rattle.trace_tool.specs.Layout.{no_site}
+use Rattle.run_lines.specs.Layout.{no_site}
 use Rattle.trace_tool.specs.Gaps.{last_word, behind, ahead, IsGap, IsAround}
 
 outside : (from to a : ℕ) → (from ≤ a → a < to → ⊥) → (nat_le from a && nat_lt a to) ≡ false

@@ -3,21 +3,21 @@ use Rattle.std.proofs.Common.{◌≡◌, ℕ, suc, ◌+◌, ◌<◌, ◌≤◌, 
 use Rattle.std.proofs.Common.{Some, None, refl, sym, ap, ◌∙◌, arith, add-one}
 use Rattle.lcm_machine.specs.declared.Step.TheVariants.{Went}
 use Rattle.lcm_machine.specs.Run.{Run, next_state, plain, answer}
-use Rattle.component_linker.specs.Started.{StartSeen}
+use Rattle.linked_starts.specs.Started.{StartSeen}
 use Rattle.trusted_border.specs.declared.layout.Layout.{Layout}
 use Rattle.trusted_border.specs.declared.events.Event.{Event}
 use Rattle.trusted_border.specs.declared.events.Event.TheVariants.{Called, Returned, Entered, Left}
 use Rattle.trace_tool.specs.declared.count.Counted.{Counted}
-use Rattle.trace_tool.specs.Layout.{layout}
-use Rattle.trace_tool.specs.Views.{View, view_of}
-use Rattle.trace_tool.specs.Events.{noted, event_after}
-use Rattle.trace_tool.specs.Lines.{Line, call, ret, enter, pass, leave, pass_lines, lines_for}
-use Rattle.trace_tool.specs.declared.pairs.Pairs.{Pairs}
-use Rattle.trace_tool.specs.Pairs.{pairs_of, none_paired}
-use Rattle.trace_tool.specs.Runs.{begun, watching, watched, watched_next, line_next, lines_of}
+use Rattle.run_lines.specs.Layout.{layout}
+use Rattle.run_lines.specs.Views.{View, view_of}
+use Rattle.run_lines.specs.Events.{noted, event_after}
+use Rattle.run_lines.specs.Lines.{Line, call, ret, enter, pass, leave, pass_lines, lines_for}
+use Rattle.run_lines.specs.declared.pairs.Pairs.{Pairs}
+use Rattle.run_lines.specs.Pairs.{pairs_of, none_paired}
+use Rattle.run_lines.specs.Runs.{begun, watching, watched, watched_next, line_next, lines_of}
 use Rattle.trace_tool.specs.Counts.{calls_in, calls_of_run, calls_of, Counts}
-use Rattle.trace_tool.proofs.Going.{HasEnded, no_line, no_more_lines, stays_ended, event_lines}
-use Rattle.trace_tool.proofs.Going.{Gone, gone_line, gone_same, gone_more, next_same}
+use Rattle.run_lines.proofs.Offers.{HasEnded, no_line, no_more_lines, stays_ended, event_lines}
+use Rattle.run_lines.proofs.Offers.{Gone, gone_line, gone_same, gone_more, next_same}
 
 -- ---- lines
 

@@ -11,9 +11,9 @@ use Rattle.std.proofs.lemmas.Bool.{ne_eqb}
 use Rattle.std.proofs.lemmas.Cmp.{nat_cmp_total}
 use Rattle.lcm_machine.proofs.Offers.{tied_same}
 use Rattle.cap_words.specs.declared.CapFields.{CapFields}
-use Rattle.component_linker.specs.declared.owners.Owner.{Owner}
-use Rattle.component_linker.proofs.Offers as halved
-use Rattle.component_linker.proofs.Offers.{less_is, greater_is}
+use Rattle.linked_starts.specs.declared.owners.Owner.{Owner}
+use Rattle.linked_starts.proofs.Offers as halved
+use Rattle.linked_starts.proofs.Offers.{less_is, greater_is}
 use Rattle.trusted_border.specs.Layout.{runs_part}
 
 abbrev Rise : List Owner → Type 0

@@ -17,17 +17,17 @@ use Rattle.lcm_machine.specs.Maps.{State}
 use Rattle.lcm_machine.specs.Row.{faces, pc_of, pc_at}
 use Rattle.lcm_machine.specs.Run.{Run, next_state, answer, jump_by, next_jump}
 use Rattle.call_sequence.specs.declared.TheConstants.{SITE_WORDS}
-use Rattle.component_linker.specs.declared.owners.Site.{Site}
-use Rattle.component_linker.specs.Started.{StartSeen}
+use Rattle.linked_starts.specs.declared.owners.Site.{Site}
+use Rattle.linked_starts.specs.Started.{StartSeen}
 use Rattle.trusted_border.specs.declared.layout.Layout.{Layout}
 use Rattle.trusted_border.specs.Layout.{numbered, trusted_owner}
 use Rattle.trace_tool.specs.declared.gap.Gap.{Gap}
-use Rattle.trace_tool.specs.Layout.{layout, no_site, site_before, site_word}
+use Rattle.run_lines.specs.Layout.{layout, no_site, site_before, site_word}
 use Rattle.trace_tool.specs.Gaps.{has, IsGap}
-use Rattle.trace_tool.specs.Events.{inward_after}
-use Rattle.trace_tool.specs.Runs.{Watched, watching, if_went, watched_next, line_next}
-use Rattle.trace_tool.proofs.alike.Calm.{id, at_state, IsQuiet, noted_quiet, quiet_line, over, over_next}
-use Rattle.trace_tool.proofs.alike.Calm.{over_line}
+use Rattle.run_lines.specs.Events.{inward_after}
+use Rattle.run_lines.specs.Runs.{Watched, watching, if_went, watched_next, line_next}
+use Rattle.headline.proofs.Offers.{id, at_state, IsQuiet, noted_quiet, quiet_line, over, over_next}
+use Rattle.headline.proofs.Offers.{over_line}
 
 -- ---- no site ends there
 

@@ -8,16 +8,16 @@ use Rattle.lcm_machine.specs.declared.Step.TheVariants.{Went}
 use Rattle.lcm_machine.specs.Run.{plain, answer, answer_by}
 use Rattle.lcm_machine.specs.Within.{within}
 use Rattle.lcm_machine.proofs.Offers.{within_parts}
-use Rattle.component_linker.specs.Started.{StartSeen}
+use Rattle.linked_starts.specs.Started.{StartSeen}
 use Rattle.trace_tool.specs.declared.gap.Gap.{Gap}
-use Rattle.trace_tool.specs.declared.run.RunEnd.{RunEnd}
-use Rattle.trace_tool.specs.Layout.{layout}
+use Rattle.run_lines.specs.declared.run.RunEnd.{RunEnd}
+use Rattle.run_lines.specs.Layout.{layout}
 use Rattle.trace_tool.specs.Gaps.{IsGap, AreWithin}
-use Rattle.trace_tool.specs.Texts.{lines_pieces}
-use Rattle.trace_tool.specs.EndLines.{end_line}
-use Rattle.trace_tool.specs.Runs.{watching, line_next, end_of, Runs, EndsBy}
+use Rattle.run_lines.specs.Texts.{lines_pieces}
+use Rattle.run_lines.specs.EndLines.{end_line}
+use Rattle.run_lines.specs.Runs.{watching, line_next, end_of, Runs, EndsBy}
 use Rattle.trace_tool.proofs.Gaps.{HasNone, none_in_gap}
-use Rattle.trace_tool.proofs.Going.{Going, going_more, ends_early}
+use Rattle.run_lines.proofs.Offers.{Going, going_more, ends_early}
 
 -- k instructions on
 abbrev on : StartSeen → ℕ → StartSeen

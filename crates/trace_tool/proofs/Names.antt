@@ -3,12 +3,12 @@ use Rattle.std.proofs.Common.{◌≡◌, ◌≤◌, ℕ, suc, Bool, true, false,
 use Rattle.std.proofs.Common.{sym, ap, ◌∙◌}
 use Rattle.std.specs.Prelude.{find, slice_get, if◌then◌else◌, ◌==◌}
 use Rattle.cap_words.specs.declared.TheConstants.{LONGEST_NAME}
-use Rattle.component_linker.specs.declared.owners.Site.{Site}
-use Rattle.component_linker.specs.declared.owners.Entry.{Entry}
-use Rattle.component_linker.specs.declared.owners.Owner.{Owner}
-use Rattle.component_linker.specs.Owners.{AreLaid}
+use Rattle.linked_starts.specs.declared.owners.Site.{Site}
+use Rattle.linked_starts.specs.declared.owners.Entry.{Entry}
+use Rattle.linked_starts.specs.declared.owners.Owner.{Owner}
+use Rattle.linked_starts.specs.Owners.{AreLaid}
 use Rattle.trusted_border.specs.declared.layout.Layout.{Layout}
-use Rattle.trace_tool.specs.Layout.{numbered_owner, entry_text, entry_of, entry_name}
+use Rattle.run_lines.specs.Layout.{numbered_owner, entry_text, entry_of, entry_name}
 
 -- what is found has a place
 found_at : {X : Type 0} (p : X → Bool) (xs : List X) (x : X) → find p xs ≡ Some x → (k : ℕ)

@@ -10,7 +10,7 @@ use Rattle.trusted_border.specs.declared.layout.Layout.{Layout}
 use Rattle.overlay_machine.specs.declared.words.OWord.{OWord}
 use Rattle.overlay_machine.specs.State.{OState, framed, memory_word}
 use Rattle.overlay_machine.specs.Flat.{flat, beside}
-use Rattle.trace_tool.specs.Views.{flat_view}
+use Rattle.run_lines.specs.Views.{flat_view}
 
 mapped : (f : OWord → Word) (m k : Option OWord)
     → mapped_or f m (mapped_or f k None) ≡ option_map f (option_or m k)

@@ -9,25 +9,25 @@ use Rattle.overlay_machine.proofs.Offers.{weight_some}
 use Rattle.outside_io.specs.SinkSeen.{SinkSeen, Adds, FailsToWrite}
 use Rattle.outside_io.specs.Writes.{AddsPieces, FailsAtPiece}
 use Rattle.outside_io.proofs.Offers.{pieces_none, pieces_then, pieces_fail, fail_more, text_failed}
-use Rattle.component_linker.specs.Started.{StartSeen}
+use Rattle.linked_starts.specs.Started.{StartSeen}
 use Rattle.overlay_machine.specs.declared.overlay.OEnd.{OEnd}
 use Rattle.overlay_machine.specs.declared.overlay.OStep.TheVariants.{Went, Halted, Failed}
 use Rattle.overlay_machine.specs.Step.{Ending, goes, halts, fails, overlay_step}
 use Rattle.overlay_machine.specs.Seen.{OverlaySeen, moved, next_by, next_overlay, ending_answer, end_answer}
 use Rattle.overlay_machine.specs.Seen.{answer_by, answer_of, IsOverlayOf}
-use Rattle.trace_tool.specs.declared.run.RunEnd.{RunEnd}
-use Rattle.trace_tool.specs.declared.run.RunEnd.TheVariants.{Halted as RunHalted, Failed as RunFailed}
-use Rattle.trace_tool.specs.declared.run.RunEnd.TheVariants.{Running}
-use Rattle.trace_tool.specs.Layout.{layout}
-use Rattle.trace_tool.specs.Views.{overlay_view}
-use Rattle.trace_tool.specs.Lines.{Line}
-use Rattle.trace_tool.specs.Texts.{lines_pieces}
-use Rattle.trace_tool.specs.EndLines.{halted_text, failed_text, running_text}
-use Rattle.trace_tool.specs.Runs.{EndsBy}
-use Rattle.trace_tool.specs.Traces.{weight_with, lines_after, Traced, ended, behind, stopped, traced_by}
-use Rattle.trace_tool.specs.Traces.{traced, trace_of, trace_text, pieces_of, trace_pieces, event_in}
-use Rattle.trace_tool.specs.Traces.{next_lines, steps_lines, steps_on, TracesTo, TraceFaults, Traces}
-use Rattle.trace_tool.proofs.LineLemmas.{lines_pieces-append, joined_with}
+use Rattle.run_lines.specs.declared.run.RunEnd.{RunEnd}
+use Rattle.run_lines.specs.declared.run.RunEnd.TheVariants.{Halted as RunHalted, Failed as RunFailed}
+use Rattle.run_lines.specs.declared.run.RunEnd.TheVariants.{Running}
+use Rattle.run_lines.specs.Layout.{layout}
+use Rattle.run_lines.specs.Views.{overlay_view}
+use Rattle.run_lines.specs.Lines.{Line}
+use Rattle.run_lines.specs.Texts.{lines_pieces}
+use Rattle.run_lines.specs.EndLines.{halted_text, failed_text, running_text}
+use Rattle.run_lines.specs.Runs.{EndsBy}
+use Rattle.run_lines.specs.Traces.{weight_with, lines_after, Traced, ended, behind, stopped, traced_by}
+use Rattle.run_lines.specs.Traces.{traced, trace_of, trace_text, pieces_of, trace_pieces, event_in}
+use Rattle.run_lines.specs.Traces.{next_lines, steps_lines, steps_on, TracesTo, TraceFaults, Traces}
+use Rattle.run_lines.proofs.Offers.{lines_pieces-append, joined_with}
 
 -- ---- a step
 
@@ -154,7 +154,7 @@ module _ (limit : ℕ) (o : OverlaySeen) (sink : SinkSeen) where
   -- the names that lines have are those of the start
   pub start_layout : (s : StartSeen) (now : OverlaySeen) (seen : SinkSeen) (next : OverlaySeen)
       → IsOverlayOf s o → Going now seen → next ≡ next_overlay now
-      → Rattle.trace_tool.specs.Layout.layout s ≡ next.layout
+      → Rattle.run_lines.specs.Layout.layout s ≡ next.layout
   start_layout s now seen next is g e =
       layout_of_start s o is ∙ sym g.layout ∙ sym (layout_stays now)
       ∙ sym (ap (λ (x : OverlaySeen). x.layout) e)

@@ -15,21 +15,21 @@ use Rattle.lcm_machine.specs.declared.Step.TheVariants.{Went, Halted, Failed}
 use Rattle.lcm_machine.specs.Maps.{State}
 use Rattle.lcm_machine.specs.Row.{jump_at}
 use Rattle.lcm_machine.specs.Run.{next_state, plain, answer}
-use Rattle.component_linker.specs.declared.owners.Owner.{Owner}
-use Rattle.component_linker.specs.Started.{StartSeen}
+use Rattle.linked_starts.specs.declared.owners.Owner.{Owner}
+use Rattle.linked_starts.specs.Started.{StartSeen}
 use Rattle.trusted_border.specs.declared.layout.Layout.{Layout}
 use Rattle.trusted_border.specs.declared.events.Event.{Event}
 use Rattle.trusted_border.specs.Layout.{runs_part, trusted_owner}
 use Rattle.trusted_border.specs.Reaches.{closure_owner}
-use Rattle.trace_tool.specs.declared.run.RunEnd.{RunEnd}
-use Rattle.trace_tool.specs.Layout.{layout, site_word}
-use Rattle.trace_tool.specs.Views.{View, view_of}
-use Rattle.trace_tool.specs.Events.{noted_by, noted, entered, event_after}
-use Rattle.trace_tool.specs.Lines.{lines_for}
-use Rattle.trace_tool.specs.Texts.{lines_pieces}
-use Rattle.trace_tool.specs.EndLines.{end_line}
-use Rattle.trace_tool.specs.Runs.{Watched, begun, if_went, watched, line_next, lines_of, end_of, Runs, EndsBy}
-use Rattle.trace_tool.proofs.Going.{ends}
+use Rattle.run_lines.specs.declared.run.RunEnd.{RunEnd}
+use Rattle.run_lines.specs.Layout.{layout, site_word}
+use Rattle.run_lines.specs.Views.{View, view_of}
+use Rattle.run_lines.specs.Events.{noted_by, noted, entered, event_after}
+use Rattle.run_lines.specs.Lines.{lines_for}
+use Rattle.run_lines.specs.Texts.{lines_pieces}
+use Rattle.run_lines.specs.EndLines.{end_line}
+use Rattle.run_lines.specs.Runs.{Watched, begun, if_went, watched, line_next, lines_of, end_of, Runs, EndsBy}
+use Rattle.run_lines.proofs.Offers.{ends}
 
 -- no owner is trusted
 abbrev pub NoneTrusted : Layout → Type 0

@@ -1,13 +1,13 @@
 -- A run of which only the calls are counted.
 use Rattle.std.specs.Prelude.{◌≡◌, ℕ, suc, List, [], ◌∷◌, Option, Some}
 use Rattle.lcm_machine.specs.Run.{plain, answer}
-use Rattle.component_linker.specs.Started.{StartSeen}
+use Rattle.linked_starts.specs.Started.{StartSeen}
 use Rattle.trusted_border.specs.declared.events.Event.{Event}
 use Rattle.trusted_border.specs.declared.events.Event.TheVariants.{Called}
 use Rattle.trace_tool.specs.declared.count.Counted.{Counted}
-use Rattle.trace_tool.specs.Layout.{layout}
-use Rattle.trace_tool.specs.Lines.{Line, call}
-use Rattle.trace_tool.specs.Runs.{begun, lines_of}
+use Rattle.run_lines.specs.Layout.{layout}
+use Rattle.run_lines.specs.Lines.{Line, call}
+use Rattle.run_lines.specs.Runs.{begun, lines_of}
 
 -- how many of these lines are `call` lines
 abbrev pub calls_in : List Line → ℕ

@@ -5,9 +5,9 @@ use Rattle.std.specs.List.{All}
 use Rattle.call_sequence.specs.declared.TheConstants.{CALL_WORDS, RETURN_WORDS}
 use Rattle.lcm_machine.specs.Run.{Run, plain}
 use Rattle.lcm_machine.specs.Within.{lies, within}
-use Rattle.component_linker.specs.declared.owners.Site.{Site}
+use Rattle.linked_starts.specs.declared.owners.Site.{Site}
 use Rattle.trace_tool.specs.declared.gap.Gap.{Gap}
-use Rattle.trace_tool.specs.Layout.{no_site}
+use Rattle.run_lines.specs.Layout.{no_site}
 
 -- the address of a site's last word
 abbrev pub last_word : Site → ℕ

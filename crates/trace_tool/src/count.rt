@@ -1,14 +1,14 @@
 //! A plain run of which only the calls are counted.
 ghost use Rattle.std.specs.Prelude.{◌≡◌, ◌+◌, ◌<◌, ◌≤◌, ◌^◌, None};
 ghost use Rattle.lcm_machine.specs.Run.{next_state, answer};
-ghost use Rattle.trace_tool.specs.Layout.{layout};
-ghost use Rattle.trace_tool.specs.Runs.{watching, watched_next, line_next};
+ghost use Rattle.run_lines.specs.Layout.{layout};
+ghost use Rattle.run_lines.specs.Runs.{watching, watched_next, line_next};
 ghost use Rattle.trace_tool.specs.Counts.{calls_in, calls_of, Counts};
 
 use crate::event::event_after;
 use crate::note::{inward_after, noted};
-use component_linker::Start;
 use lcm_machine::Step;
+use linked_starts::Start;
 use trusted_border::Event;
 
 /// What the last step of a run answered, and how many `call` lines the run writes.

@@ -4,9 +4,9 @@ ghost use Rattle.arrayvec.specs.ArrayString.{array_string_len};
 ghost use Rattle.lcm_isa.specs.declared.Reg.TheVariants.{Pc};
 ghost use Rattle.lcm_machine.specs.Places.{reg};
 ghost use Rattle.lcm_machine.specs.Run.{answer};
-ghost use Rattle.trace_tool.specs.EndLines.{cause_text, pc_text, steps_text, halted_text, failed_text};
-ghost use Rattle.trace_tool.specs.EndLines.{failed_by_text};
-ghost use Rattle.trace_tool.specs.EndLines.{running_text, end_line};
+ghost use Rattle.run_lines.specs.EndLines.{cause_text, pc_text, steps_text, halted_text, failed_text};
+ghost use Rattle.run_lines.specs.EndLines.{failed_by_text};
+ghost use Rattle.run_lines.specs.EndLines.{running_text, end_line};
 
 use crate::view::Shown;
 use arrayvec::ArrayString;

@@ -5,17 +5,17 @@ ghost use Rattle.cap_words.specs.Face.{FaceInOrder, ContentInOrder, face_of, ope
 ghost use Rattle.lcm_isa.specs.declared.Reg.TheVariants.{Rcode, Rdata, Stk};
 ghost use Rattle.lcm_machine.specs.Places.{reg};
 ghost use Rattle.trusted_border.specs.Reaches.{site_of_seal, closure_owner, back_under, back_of};
-ghost use Rattle.trace_tool.specs.Layout.{layout};
-ghost use Rattle.trace_tool.specs.Views.{view_of};
-ghost use Rattle.trace_tool.specs.Events.{reaches_trusted, called, returned, entered, leapt, event_after};
+ghost use Rattle.run_lines.specs.Layout.{layout};
+ghost use Rattle.run_lines.specs.Views.{view_of};
+ghost use Rattle.run_lines.specs.Events.{reaches_trusted, called, returned, entered, leapt, event_after};
 
 use crate::find::{closure_owner, site_of_seal, trusted_owner};
 use crate::halves::{goes, hop_in};
-use crate::note::{Jump, Note};
 use cap_words::{Content, Opened};
-use component_linker::{Owner, Start};
 use lcm_isa::Reg;
 use lcm_machine::LcmState;
+use linked_starts::{Owner, Start};
+use run_lines::{Jump, Note};
 use trusted_border::reach::{content_base, entry_number};
 use trusted_border::{Back, Event};
 
@@ -142,7 +142,7 @@ fn leapt(start: &Start, jump: Jump) -> Option<Event>
 }
 
 /// The event of an instruction that went, by what was noted before it.
-#[tactic(auto, unfolding(crate::specs::Events::event_after))]
+#[tactic(auto, unfolding(run_lines::specs::Events::event_after))]
 pub(crate) fn event_after(start: &Start, note: Note, inward: bool) -> Option<Event>
     ensures { result ≡ event_after (layout start.now) note inward (view_of start.now.state.maps) }
 {

@@ -3,14 +3,14 @@ ghost use Rattle.std.specs.Prelude.{◌≡◌, ◌==◌, ◌<◌, ◌≤◌, fin
 ghost use Rattle.std.specs.List.{AllPairs};
 ghost use Rattle.std.specs.Option.{option_copied};
 ghost use Rattle.cap_words.specs.Face.{FaceInOrder};
-ghost use Rattle.component_linker.specs.Owners.{AreLaid};
+ghost use Rattle.linked_starts.specs.Owners.{AreLaid};
 ghost use Rattle.cap_words.specs.declared.TheConstants.{LONGEST_NAME};
 ghost use Rattle.trusted_border.specs.Layout.{runs_part, trusted_owner, trusted_at, number_of, site_at};
 ghost use Rattle.trusted_border.specs.Reaches.{closure_owner, site_of_seal};
-ghost use Rattle.trace_tool.specs.Layout.{layout, site_word, site_before, part_name, entry_name, site_of};
+ghost use Rattle.run_lines.specs.Layout.{layout, site_word, site_before, part_name, entry_name, site_of};
 
 use cap_words::{CapFields, Face};
-use component_linker::{Entry, Owner, Site, Start};
+use linked_starts::{Entry, Owner, Site, Start};
 use trusted_border::reach::{numbered, owner_closed, runs_part, site_sealed};
 
 // The number of the site whose call begins at an address.
@@ -74,7 +74,7 @@ pub(crate) fn site_of_seal(start: &Start, seal: u32) -> Option<u32>
 }
 
 /// The site whose word of this offset pc names, where pc is trusted.
-#[tactic(auto, unfolding(crate::specs::Layout::site_word))]
+#[tactic(auto, unfolding(run_lines::specs::Layout::site_word))]
 pub(crate) fn site_word(start: &Start, offset: u32, pc: Face) -> Option<u32>
     requires { FaceInOrder pc }
     ensures { result ≡ site_word (layout start.now) offset pc }
@@ -93,7 +93,7 @@ fn numbered_owner(owners: &[Owner], part: u32) -> Option<&Owner>
 }
 
 /// The name of a part.
-#[tactic(auto, unfolding(crate::specs::Layout::part_name))]
+#[tactic(auto, unfolding(run_lines::specs::Layout::part_name))]
 pub(crate) fn part_name(start: &Start, part: u32) -> &[u8]
     ensures is { result.now ≡ part_name (layout start.now) part }
     ensures short { length result.now ≤ LONGEST_NAME }
@@ -112,7 +112,7 @@ fn entry_at(entries: &[Entry], entry: u32) -> Option<&Entry>
 }
 
 /// The name of an entry of a part.
-#[tactic(auto, unfolding(crate::specs::Layout::entry_name))]
+#[tactic(auto, unfolding(run_lines::specs::Layout::entry_name))]
 pub(crate) fn entry_name(start: &Start, part: u32, entry: u32) -> &[u8]
     ensures is { result.now ≡ entry_name (layout start.now) part entry }
     ensures short { length result.now ≤ LONGEST_NAME }
@@ -128,7 +128,7 @@ pub(crate) fn entry_name(start: &Start, part: u32, entry: u32) -> &[u8]
 }
 
 /// The site of a number.
-#[tactic(auto, unfolding(crate::specs::Layout::site_of))]
+#[tactic(auto, unfolding(run_lines::specs::Layout::site_of))]
 pub(crate) fn site_of(start: &Start, site: u32) -> Site
     ensures { result ≡ site_of (layout start.now) site }
 {

@@ -1,11 +1,11 @@
 //! Addresses at which no site ends, so that a run needn't look for a site at each of its steps.
 ghost use Rattle.std.specs.Prelude.{◌≡◌, ◌<◌, ◌≤◌, ◌^◌, length};
-ghost use Rattle.component_linker.specs.Owners.{SitesAscend};
+ghost use Rattle.linked_starts.specs.Owners.{SitesAscend};
 ghost use Rattle.lcm_machine.specs.Row.{pc_at};
 ghost use Rattle.trace_tool.specs.Gaps.{last_word, behind, ahead, has, IsGap, IsAround, gap_address};
 
 use call_sequence::{CALL_WORDS, RETURN_WORDS};
-use component_linker::{Site, Start};
+use linked_starts::{Site, Start};
 
 /// The addresses from one on, up to below another.
 #[derive(Clone, Copy)]

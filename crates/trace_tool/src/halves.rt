@@ -2,12 +2,12 @@
 ghost use Rattle.std.specs.Prelude.{◌≡◌};
 ghost use Rattle.cap_words.specs.Face.{ContentInOrder};
 ghost use Rattle.trusted_border.specs.Reaches.{closure_owner, hop_in};
-ghost use Rattle.trace_tool.specs.Layout.{layout};
+ghost use Rattle.run_lines.specs.Layout.{layout};
 ghost use Rattle.trace_tool.specs.Halves.{halves_go};
 
 use crate::find::closure_owner;
 use cap_words::{Content, Opened};
-use component_linker::Start;
+use linked_starts::Start;
 use trusted_border::Back;
 use trusted_border::reach::hop_by;
 

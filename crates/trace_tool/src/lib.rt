@@ -11,7 +11,6 @@ mod event;
 mod find;
 mod gap;
 mod halves;
-pub mod laws;
 mod note;
 mod pairs;
 mod run;
@@ -21,5 +20,6 @@ mod write;
 
 pub use count::{Counted, run_counted};
 pub use end_lines::{EndLine, end_line, place_line};
-pub use run::{RunEnd, run_plain};
+pub use run::run_plain;
+pub use run_lines::RunEnd;
 pub use trace::run_overlay;

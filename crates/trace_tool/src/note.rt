@@ -1,34 +1,15 @@
 //! What is noted of an instruction before it is made.
 ghost use Rattle.std.specs.Prelude.{◌≡◌};
-ghost use Rattle.trace_tool.specs.Layout.{layout};
+ghost use Rattle.run_lines.specs.Layout.{layout};
 ghost use Rattle.lcm_machine.specs.Row.{jump_at};
-ghost use Rattle.trace_tool.specs.Events.{noted, inward_after};
+ghost use Rattle.run_lines.specs.Events.{noted, inward_after};
 
 use crate::find::{site_word, trusted_owner};
 use call_sequence::{CALL_WORDS, RETURN_WORDS};
-use component_linker::Start;
 use lcm_isa::{Instr, Reg};
 use lcm_machine::LcmState;
-
-/// An `xjmp` that is about to be made: the trusted part in which it stands, the site whose call it
-/// ends, and the seal that it is to open.
-#[derive(Clone, Copy)]
-pub struct Jump {
-    pub from: Option<u32>,
-    pub call: Option<u32>,
-    pub seal: Option<u32>,
-}
-
-/// What is noted of an instruction.
-#[derive(Clone, Copy)]
-pub enum Note {
-    /// It has no event.
-    Nothing,
-    /// It is the last word of this site.
-    Last(u32),
-    /// It is an `xjmp`.
-    Leap(Jump),
-}
+use linked_starts::Start;
+use run_lines::{Jump, Note};
 
 // The register that the `xjmp` at pc opens as code, where one stands there.
 #[tactic(auto, unfolding(lcm_machine::specs::Row::jump_at))]
@@ -42,7 +23,7 @@ fn jump_at(state: &LcmState) -> Option<Reg>
 }
 
 /// What is noted of the instruction that pc names.
-#[tactic(auto, unfolding(crate::specs::Events::noted, lcm_machine::specs::Row::faces, lcm_machine::specs::Row::opens))]
+#[tactic(auto, unfolding(run_lines::specs::Events::noted, lcm_machine::specs::Row::faces, lcm_machine::specs::Row::opens))]
 pub(crate) fn noted(start: &Start) -> Note
     ensures { result ≡ noted (layout start.now) start.now.state.maps }
 {

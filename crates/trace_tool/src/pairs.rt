@@ -1,37 +1,16 @@
 //! What an `xjmp` of an argument register and the next one would do.
 ghost use Rattle.std.specs.Prelude.{◌≡◌};
 ghost use Rattle.cap_words.specs.Face.{ContentInOrder};
-ghost use Rattle.trace_tool.specs.Layout.{layout};
-ghost use Rattle.trace_tool.specs.Pairs.{content_linear, pair_under, pair_of, pairs_of, is_nothing, none_paired};
+ghost use Rattle.run_lines.specs.Layout.{layout};
+ghost use Rattle.run_lines.specs.Pairs.{content_linear, pair_under, pair_of, pairs_of};
 
 use crate::halves::{goes, hop_in};
 use crate::view::Shown;
 use cap_words::{Content, Opened};
-use component_linker::Start;
 use lcm_isa::Reg;
+use linked_starts::Start;
+use run_lines::{Pairs, PassedPair};
 use trusted_border::Back;
-
-/// Of an argument register and the next one.
-#[derive(Clone, Copy)]
-pub enum PassedPair {
-    /// One of the two isn't a sealed word, or is linear.
-    Nothing,
-    /// It would fail.
-    Bad,
-    /// It would go, and to no entry of a trusted part.
-    Out,
-    /// It would go under the closure seal of a trusted part: the part, by its place among the parts,
-    /// and the entry, by its place among the part's.
-    Hop(u32, u32),
-}
-
-/// Of the four argument registers.
-#[derive(Clone, Copy)]
-pub struct Pairs {
-    pub p0: PassedPair,
-    pub p1: PassedPair,
-    pub p2: PassedPair,
-}
 
 fn is_linear(content: Content) -> bool
     ensures { result ≡ content_linear content }
@@ -82,22 +61,5 @@ pub(crate) fn pairs_of<V: Shown>(start: &Start, view: &V) -> Pairs
         p0: pair_of(start, view, Reg::A0, Reg::A1),
         p1: pair_of(start, view, Reg::A1, Reg::A2),
         p2: pair_of(start, view, Reg::A2, Reg::A3),
-    }
-}
-
-impl PassedPair {
-    fn is_nothing(self) -> bool
-        ensures { result ≡ is_nothing self }
-    {
-        matches!(self, PassedPair::Nothing)
-    }
-}
-
-impl Pairs {
-    /// Whether there is none.
-    pub(crate) fn are_nothing(self) -> bool
-        ensures { result ≡ none_paired self }
-    {
-        self.p0.is_nothing() && self.p1.is_nothing() && self.p2.is_nothing()
     }
 }

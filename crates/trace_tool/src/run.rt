@@ -2,43 +2,31 @@
 ghost use Rattle.std.specs.Prelude.{◌≡◌, ◌+◌, ◌<◌, ◌≤◌, ◌^◌, length, None, IfOk, false};
 ghost use Rattle.std.specs.Prelude.{ℕ, List};
 ghost use Rattle.std.specs.List.{list_any};
-ghost use Rattle.component_linker.specs.Parts.{PartSeen};
-ghost use Rattle.component_linker.specs.LinkedStarts.{IsLinkedStart};
-ghost use Rattle.trace_tool.specs.Headline.{Headline};
-ghost use Rattle.trace_tool.specs.OpenCalls.{CallsAreKept};
+ghost use Rattle.linked_starts.specs.Parts.{PartSeen};
+ghost use Rattle.linked_starts.specs.LinkedStarts.{IsLinkedStart};
+ghost use Rattle.headline.specs.Headline.{Headline};
+ghost use Rattle.headline.specs.OpenCalls.{CallsAreKept};
 ghost use Rattle.outside_io.specs.Writes.{Writes};
 ghost use Rattle.lcm_machine.specs.Run.{next_state, plain, answer};
-ghost use Rattle.trace_tool.specs.Layout.{layout};
-ghost use Rattle.trace_tool.specs.EndLines.{end_line};
+ghost use Rattle.run_lines.specs.Layout.{layout};
+ghost use Rattle.run_lines.specs.EndLines.{end_line};
 ghost use Rattle.trace_tool.specs.Gaps.{IsGap, AreWithin};
-ghost use Rattle.trace_tool.specs.Texts.{lines_pieces};
-ghost use Rattle.trace_tool.specs.Runs.{watching, watched_next, line_next, end_of, Runs, EndsBy};
+ghost use Rattle.run_lines.specs.Texts.{lines_pieces};
+ghost use Rattle.run_lines.specs.Runs.{watching, watched_next, line_next, end_of, Runs, EndsBy};
 
 use crate::end_lines::end_line;
 use crate::event::event_after;
 use crate::gap::{Gap, gap_around};
-use crate::laws::{open_calls_are_kept, the_headline};
 use crate::note::{inward_after, noted};
 use crate::write::{tell, write};
-use component_linker::Start;
+use headline::laws::{open_calls_are_kept, the_headline};
 use lcm_machine::Step;
+use linked_starts::Start;
 use outside_io::{Failed, Sink};
-
-/// How a run ended that writes its text.
-#[derive(Clone, Copy, PartialEq, Eq, Debug)]
-pub enum RunEnd {
-    /// The machine halted.
-    Halted,
-    /// A step of the machine failed.
-    Failed,
-    /// The steps were used up.
-    Running,
-    /// A write failed, and the run stopped there.
-    WriteFault,
-}
+use run_lines::RunEnd;
 
 // Makes one instruction, and writes its line where it has one.
-#[tactic(auto, unfolding(crate::specs::Runs::line_next))]
+#[tactic(auto, unfolding(run_lines::specs::Runs::line_next))]
 #[inline(never)]
 fn noted_turn<S: Sink>(start: &mut Start, inward: &mut bool, out: &mut S) -> Result<Step, Failed>
     requires { start.old.state.count < 2 ^ 63 }

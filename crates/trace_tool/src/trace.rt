@@ -1,19 +1,20 @@
 //! A run of the overlay, with its lines and its end line.
 ghost use Rattle.std.specs.Prelude.{◌≡◌, ◌≤◌, ◌^◌};
 ghost use Rattle.std.specs.Prelude.{ℕ, List};
-ghost use Rattle.component_linker.specs.Parts.{PartSeen};
-ghost use Rattle.component_linker.specs.LinkedStarts.{IsLinkedStart};
-ghost use Rattle.trace_tool.specs.Headline.{Headline};
+ghost use Rattle.linked_starts.specs.Parts.{PartSeen};
+ghost use Rattle.linked_starts.specs.LinkedStarts.{IsLinkedStart};
+ghost use Rattle.headline.specs.Headline.{Headline};
 ghost use Rattle.overlay_machine.specs.Seen.{IsOverlayOf};
-ghost use Rattle.trace_tool.specs.Traces.{Traces};
+ghost use Rattle.run_lines.specs.Traces.{Traces};
 
 use crate::end_lines::{failed_line, halted_line, running_line};
-use crate::laws::the_headline;
-use crate::run::{RunEnd, finish};
+use crate::run::finish;
 use crate::write::tell;
-use component_linker::Start;
+use headline::laws::the_headline;
+use linked_starts::Start;
 use outside_io::{Failed, Sink};
 use overlay_machine::{OStep, Overlay};
+use run_lines::RunEnd;
 
 /// Runs the overlay of a start while the weights of its steps keep within the limit, or up to its
 /// end, and writes the line of each event and the end line. It needs no memory.

@@ -3,7 +3,7 @@ ghost use Rattle.std.specs.Prelude.{◌≡◌, None, Some, option_map, MatchOpti
 ghost use Rattle.cap_words.specs.Text.{word_text_of};
 ghost use Rattle.cap_words.specs.Face.{opened_of, OpenedInOrder};
 ghost use Rattle.lcm_isa.specs.declared.Reg.TheVariants.{Pc};
-ghost use Rattle.trace_tool.specs.EndLines.{address_in};
+ghost use Rattle.run_lines.specs.EndLines.{address_in};
 
 use arrayvec::ArrayString;
 use cap_words::{Opened, Word, word_text};
@@ -13,7 +13,7 @@ use overlay_machine::{OWord, Overlay};
 
 /// A machine whose words can be shown, as the plain words that they are or stand for.
 pub trait Shown {
-    ghost use Rattle.trace_tool.specs.Views.{View};
+    ghost use Rattle.run_lines.specs.Views.{View};
 
     // the words that it shows
     ghost view: { Self → View };
@@ -39,7 +39,7 @@ pub trait Shown {
 }
 
 impl Shown for LcmState {
-    ghost use Rattle.trace_tool.specs.Views.{view_of};
+    ghost use Rattle.run_lines.specs.Views.{view_of};
 
     ghost view = { λ s. view_of s.maps };
 
@@ -68,7 +68,7 @@ impl Shown for LcmState {
 }
 
 impl Shown for Overlay {
-    ghost use Rattle.trace_tool.specs.Views.{overlay_view};
+    ghost use Rattle.run_lines.specs.Views.{overlay_view};
 
     ghost view = { λ o. overlay_view o };
 

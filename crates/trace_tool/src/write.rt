@@ -5,22 +5,23 @@ ghost use Rattle.std.specs.Prelude.{decimal};
 ghost use Rattle.arrayvec.specs.ArrayVec.{array_vec_len};
 ghost use Rattle.outside_io.specs.Writes.{Writes};
 ghost use Rattle.cap_words.specs.Text.{word_text_of};
-ghost use Rattle.trace_tool.specs.Layout.{layout, part_name, site_of};
-ghost use Rattle.trace_tool.specs.Pairs.{pairs_of};
-ghost use Rattle.trace_tool.specs.Lines.{list_of, args_of, words_seen, feed_back, feed_pair, line_of};
-ghost use Rattle.trace_tool.specs.Lines.{pass_line, pass_lines, lines_behind, lines_for};
+ghost use Rattle.run_lines.specs.Layout.{layout, part_name, site_of};
+ghost use Rattle.run_lines.specs.Pairs.{pairs_of};
+ghost use Rattle.run_lines.specs.Lines.{list_of, args_of, words_seen, feed_back, feed_pair, line_of};
+ghost use Rattle.run_lines.specs.Lines.{pass_line, pass_lines, lines_behind, lines_for};
 ghost use Rattle.source_events.specs.Forms.{back_text, pair_text};
-ghost use Rattle.trace_tool.specs.Texts.{field, args_text, place_text, head_text};
-ghost use Rattle.trace_tool.specs.Texts.{words_pieces, line_pieces, lines_pieces};
+ghost use Rattle.run_lines.specs.Texts.{field, args_text, place_text, head_text};
+ghost use Rattle.run_lines.specs.Texts.{words_pieces, line_pieces, lines_pieces};
 
 use crate::find::{entry_name, part_name, site_of};
-use crate::pairs::{Pairs, PassedPair, pairs_of};
+use crate::pairs::pairs_of;
 use crate::view::Shown;
 use arrayvec::ArrayVec;
-use component_linker::Start;
 use itoa::Buffer;
 use lcm_isa::Reg;
+use linked_starts::Start;
 use outside_io::{Failed, Sink};
+use run_lines::{Pairs, PassedPair};
 use trusted_border::{Back, Event};
 
 // Room for the longest head.
@@ -76,7 +77,7 @@ fn push_word<V: Shown>(head: &mut Head, view: &V, r: Reg)
 }
 
 // Appends the words of a0 to a3, each behind a blank.
-#[tactic(auto, unfolding(crate::specs::Texts::args_text))]
+#[tactic(auto, unfolding(run_lines::specs::Texts::args_text))]
 fn push_args<V: Shown>(head: &mut Head, view: &V)
     requires { array_vec_len head.old + 516 ≤ ROOM }
     ensures bytes { head.new.items ≡ head.old.items ++ args_text (args_of (V.view view.now)) }
@@ -89,7 +90,7 @@ fn push_args<V: Shown>(head: &mut Head, view: &V)
 }
 
 // Appends DIR, PART, SITE, BASE and END.
-#[tactic(auto, unfolding(crate::specs::Texts::place_text))]
+#[tactic(auto, unfolding(run_lines::specs::Texts::place_text))]
 fn push_place(head: &mut Head, start: &Start, call: Bracket)
     requires { array_vec_len head.old + 68 ≤ ROOM }
     ensures bytes { let l = layout start.now in let s = site_of l call.site in
@@ -274,7 +275,7 @@ fn write_ret<V: Shown, S: Sink>(
 }
 
 // Writes the line of an entry.
-#[tactic(auto, unfolding(crate::specs::Texts::line_text))]
+#[tactic(auto, unfolding(run_lines::specs::Texts::line_text))]
 fn write_enter<V: Shown, S: Sink>(
     start: &Start,
     view: &V,
@@ -299,7 +300,7 @@ fn write_enter<V: Shown, S: Sink>(
 }
 
 // Writes the line of a leave.
-#[tactic(auto, unfolding(crate::specs::Texts::line_text))]
+#[tactic(auto, unfolding(run_lines::specs::Texts::line_text))]
 fn write_leave<V: Shown, S: Sink>(
     start: &Start,
     view: &V,
@@ -362,7 +363,7 @@ fn write_event<V: Shown, S: Sink>(
 }
 
 // Writes the line of pairs.
-#[tactic(auto, unfolding(crate::specs::Texts::line_text))]
+#[tactic(auto, unfolding(run_lines::specs::Texts::line_text))]
 fn write_pairs<S: Sink>(start: &Start, pairs: Pairs, out: &mut S) -> Result<(), Failed>
     ensures { let line = pass_line (layout start.now) pairs in
         Writes (S.seen out.old) (line_pieces line) result (S.seen out.new) }

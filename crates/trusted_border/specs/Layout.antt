@@ -9,8 +9,8 @@ use Rattle.cap_words.specs.declared.Face.TheVariants.{Memory}
 use Rattle.cap_words.specs.Faces.{perm_number, target_of}
 use Rattle.cap_words.specs.Linear.{lin_is}
 use Rattle.lcm_machine.specs.declared.cells.Span.{Span}
-use Rattle.component_linker.specs.declared.owners.Site.{Site}
-use Rattle.component_linker.specs.declared.owners.Owner.{Owner}
+use Rattle.linked_starts.specs.declared.owners.Site.{Site}
+use Rattle.linked_starts.specs.declared.owners.Owner.{Owner}
 use Rattle.trusted_border.specs.declared.layout.Layout.{Layout}
 use Rattle.trusted_border.specs.declared.layout.SiteCode.{SiteCode}
 

@@ -1,8 +1,8 @@
 -- The names of numbers: of the parts, entries and sites of a layout.
 use Rattle.std.specs.Prelude.{ℕ, ◌==◌, List, [], Option, Some, None, find, slice_get}
-use Rattle.component_linker.specs.declared.owners.Site.{Site}
-use Rattle.component_linker.specs.declared.owners.Entry.{Entry}
-use Rattle.component_linker.specs.declared.owners.Owner.{Owner}
+use Rattle.linked_starts.specs.declared.owners.Site.{Site}
+use Rattle.linked_starts.specs.declared.owners.Entry.{Entry}
+use Rattle.linked_starts.specs.declared.owners.Owner.{Owner}
 use Rattle.trusted_border.specs.declared.layout.Layout.{Layout}
 
 -- empty where a number is of none, which no event of a start has

@@ -9,8 +9,8 @@ ghost use Rattle.trusted_border.specs.Layout.{has_entry_at, is_code, with_code, 
 
 use crate::reach::{numbered, runs_part};
 use cap_words::{CapFields, Face, Items, LAST_PLACE};
-use component_linker::{Entry, Owner, Site, SiteList};
 use lcm_machine::Span;
+use linked_starts::{Entry, Owner, Site, SiteList};
 
 /// The sites of a start, its owners, and where its stack is.
 #[derive(Drop)]

@@ -7,7 +7,7 @@ ghost use Rattle.trusted_border.specs.Reaches.{entry_number, content_base, hop_b
 
 use crate::events::Back;
 use cap_words::{CapFields, Content, Face};
-use component_linker::{Entry, Owner, SiteList};
+use linked_starts::{Entry, Owner, SiteList};
 
 /// The number of a place, where it has 32 bits.
 pub fn numbered(place: usize) -> Option<u32>

@@ -4,7 +4,7 @@ use Rattle.std.proofs.Common.{◌≡◌, ◌≢◌, ◌⊎◌, inl, inr, ℕ, po
 use Rattle.std.proofs.Common.{ap, ◌∙◌, subst, arith, eqb-true, eq-eqb}
 use Rattle.std.specs.Prelude.{not, ◌==◌, if◌then◌else◌}
 use Rattle.std.specs.List.{Contains}
-use Rattle.component_linker.proofs.Offers.{any_of}
+use Rattle.linked_starts.proofs.Offers.{any_of}
 use Rattle.cap_words.specs.declared.Word.{Word}
 use Rattle.cap_words.specs.declared.Word.TheVariants.{Int, Mem, Seal, Sealed}
 use Rattle.cap_words.specs.declared.Sealable.{Sealable}
@@ -28,11 +28,11 @@ use Rattle.lcm_machine.specs.Table.{is_pc, memory_content, unsealed, runs_in, no
 use Rattle.lcm_machine.specs.Row.{put, clear, perform, opens, plan_in, outcome, row, went}
 use Rattle.lcm_machine.proofs.Offers.{Gives, gives_goes, Gives-effect, Gives-ask, Gives-need, cases_reg}
 use Rattle.lcm_machine.proofs.Offers.{reg-set_same, reg-set_other}
-use Rattle.flow_check.specs.Kinds.{kind_of, entry_row}
-use Rattle.flow_check.specs.Holds.{data_cap, code_at, HasKind}
-use Rattle.flow_check.specs.Places.{begins_entry}
-use Rattle.component_linker.specs.Parts.{PartSeen}
-use Rattle.component_linker.specs.Start.{Exported, code_of}
+use Rattle.flow_rules.specs.Kinds.{kind_of, entry_row}
+use Rattle.flow_rules.specs.Holds.{data_cap, code_at, HasKind}
+use Rattle.flow_rules.specs.Places.{begins_entry}
+use Rattle.linked_starts.specs.Parts.{PartSeen}
+use Rattle.linked_starts.specs.Start.{Exported, code_of}
 use Rattle.overlay_machine.specs.declared.words.OWord.{OWord}
 use Rattle.overlay_machine.specs.declared.words.OWord.TheVariants.{Plain}
 use Rattle.overlay_machine.specs.Words.{look}

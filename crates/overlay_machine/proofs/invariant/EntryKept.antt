@@ -17,11 +17,11 @@ use Rattle.lcm_machine.specs.Maps.{Regs, State}
 use Rattle.lcm_machine.specs.Places.{reg}
 use Rattle.lcm_machine.specs.Table.{is_pc}
 use Rattle.lcm_machine.specs.Row.{faces, Fetched}
-use Rattle.flow_check.specs.Kinds.{kind_of, entry_row}
-use Rattle.flow_check.specs.Holds.{part_stack_cap, code_at, Up, HasKind}
-use Rattle.flow_check.specs.Places.{begins_entry}
-use Rattle.flow_check.proofs.Offers.{entry_flows}
-use Rattle.component_linker.specs.Parts.{PartSeen}
+use Rattle.flow_rules.specs.Kinds.{kind_of, entry_row}
+use Rattle.flow_rules.specs.Holds.{part_stack_cap, code_at, Up, HasKind}
+use Rattle.flow_rules.specs.Places.{begins_entry}
+use Rattle.flow_rules.proofs.Offers.{entry_flows}
+use Rattle.linked_starts.specs.Parts.{PartSeen}
 use Rattle.overlay_machine.specs.declared.words.OWord.{OWord}
 use Rattle.overlay_machine.specs.declared.words.OWord.TheVariants.{Plain}
 use Rattle.overlay_machine.specs.declared.cases.Case.{Case}

@@ -15,10 +15,10 @@ use Rattle.lcm_machine.specs.Row.{look_face}
 use Rattle.lcm_machine.specs.Runs.{Stands}
 use Rattle.call_sequence.specs.SequenceRuns.{IsOutsideRange}
 use Rattle.call_sequence.specs.Standing.{CodeStands}
-use Rattle.flow_check.specs.Holds.{part_stack_cap, Up}
-use Rattle.component_linker.specs.Parts.{PartSeen}
-use Rattle.component_linker.specs.Regions.{in_regions}
-use Rattle.component_linker.proofs.Offers.{in_regions_is}
+use Rattle.flow_rules.specs.Holds.{part_stack_cap, Up}
+use Rattle.linked_starts.specs.Parts.{PartSeen}
+use Rattle.linked_starts.specs.Regions.{in_regions}
+use Rattle.linked_starts.proofs.Offers.{in_regions_is}
 use Rattle.overlay_machine.specs.declared.words.OWord.{OWord}
 use Rattle.overlay_machine.specs.declared.words.OWord.TheVariants.{Plain, RetCode, RetData}
 use Rattle.overlay_machine.specs.Words.{look}

@@ -25,11 +25,11 @@ use Rattle.lcm_machine.specs.Table.{is_pc}
 use Rattle.lcm_machine.specs.Row.{put}
 use Rattle.lcm_machine.specs.Runs.{code_cap}
 use Rattle.lcm_machine.proofs.Offers.{cases_reg, reg-set_same, reg-set_other}
-use Rattle.flow_check.specs.Holds.{data_cap, part_stack_cap, Up}
-use Rattle.flow_check.proofs.Offers.{site_flows}
-use Rattle.component_linker.specs.Parts.{PartSeen}
-use Rattle.component_linker.specs.Regions.{in_regions}
-use Rattle.component_linker.proofs.Offers.{in_regions_is}
+use Rattle.flow_rules.specs.Holds.{data_cap, part_stack_cap, Up}
+use Rattle.flow_rules.proofs.Offers.{site_flows}
+use Rattle.linked_starts.specs.Parts.{PartSeen}
+use Rattle.linked_starts.specs.Regions.{in_regions}
+use Rattle.linked_starts.proofs.Offers.{in_regions_is}
 use Rattle.trusted_border.specs.declared.layout.Layout.{Layout}
 use Rattle.trusted_border.specs.declared.layout.SiteCode.{SiteCode}
 use Rattle.trusted_border.specs.Layout.{site_code}

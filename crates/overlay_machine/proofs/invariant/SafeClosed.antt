@@ -8,8 +8,8 @@ use Rattle.cap_words.specs.declared.SealFields.{SealFields}
 use Rattle.cap_words.specs.declared.Perm.{Perm}
 use Rattle.cap_words.specs.Faces.{is_below, can_split, seals_at, address}
 use Rattle.lcm_machine.specs.Closed.{Closed}
-use Rattle.component_linker.specs.Parts.{PartSeen}
-use Rattle.component_linker.specs.SealsApart.{is_seal_of}
+use Rattle.linked_starts.specs.Parts.{PartSeen}
+use Rattle.linked_starts.specs.SealsApart.{is_seal_of}
 use Rattle.overlay_machine.specs.declared.words.OWord.TheVariants.{Plain}
 use Rattle.overlay_machine.specs.Words.{look}
 use Rattle.overlay_machine.specs.State.{OpenFrame, framed}

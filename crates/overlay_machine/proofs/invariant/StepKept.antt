@@ -5,7 +5,7 @@ use Rattle.lcm_isa.specs.declared.Reg.TheVariants.{A0}
 use Rattle.lcm_machine.specs.Maps.{State}
 use Rattle.lcm_machine.specs.Row.{Outcome, went, halted, failed}
 use Rattle.lcm_machine.specs.Runs.{run_of}
-use Rattle.component_linker.specs.Parts.{PartSeen}
+use Rattle.linked_starts.specs.Parts.{PartSeen}
 use Rattle.overlay_machine.specs.declared.overlay.OStep.{OStep}
 use Rattle.overlay_machine.specs.declared.overlay.OEnd.{OEnd}
 use Rattle.overlay_machine.specs.Step.{Ending, goes, halts, fails, overlay_step, weight_of}

@@ -24,10 +24,10 @@ use Rattle.lcm_machine.specs.Row.{faces, cell_faces, fetch, Fetched, some}
 use Rattle.lcm_machine.proofs.Offers.{fetch_some}
 use Rattle.call_sequence.specs.Sequences.{call_code, entry_code}
 use Rattle.call_sequence.specs.Standing.{CodeStands}
-use Rattle.flow_check.specs.Holds.{code_at, PcAt}
-use Rattle.flow_check.specs.Places.{begins_entry, begins_site}
-use Rattle.component_linker.specs.declared.owners.Owner.{Owner}
-use Rattle.component_linker.specs.Parts.{PartSeen}
+use Rattle.flow_rules.specs.Holds.{code_at, PcAt}
+use Rattle.flow_rules.specs.Places.{begins_entry, begins_site}
+use Rattle.linked_starts.specs.declared.owners.Owner.{Owner}
+use Rattle.linked_starts.specs.Parts.{PartSeen}
 use Rattle.trusted_border.specs.declared.layout.SiteCode.{SiteCode}
 use Rattle.trusted_border.specs.Layout.{runs_part, trusted_at, site_at, site_code, has_entry_at}
 use Rattle.overlay_machine.specs.declared.words.OWord.{OWord}

@@ -18,14 +18,14 @@ use Rattle.cap_words.specs.Faces.{perm_number}
 use Rattle.cap_words.specs.Linear.{lin_is}
 use Rattle.component_file.specs.declared.component.ComponentFields.{ComponentFields}
 use Rattle.component_file.specs.declared.component.Export.{Export}
-use Rattle.flow_check.specs.Places.{begins_entry, begins_site}
-use Rattle.component_linker.specs.declared.owners.Site.{Site}
-use Rattle.component_linker.specs.declared.owners.Owner.{Owner}
-use Rattle.component_linker.specs.declared.owners.Entry.{Entry}
-use Rattle.component_linker.specs.Parts.{PartSeen}
-use Rattle.component_linker.specs.Owners.{IsSite, AreSites, AreOwners, owner_of, placed_entry}
-use Rattle.component_linker.specs.Linked.{Linked}
-use Rattle.component_linker.proofs.Offers.{apart_parts, code_in, whole}
+use Rattle.flow_rules.specs.Places.{begins_entry, begins_site}
+use Rattle.linked_starts.specs.declared.owners.Site.{Site}
+use Rattle.linked_starts.specs.declared.owners.Owner.{Owner}
+use Rattle.linked_starts.specs.declared.owners.Entry.{Entry}
+use Rattle.linked_starts.specs.Parts.{PartSeen}
+use Rattle.linked_starts.specs.Owners.{IsSite, AreSites, AreOwners, owner_of, placed_entry}
+use Rattle.linked_starts.specs.Linked.{Linked}
+use Rattle.linked_starts.proofs.Offers.{apart_parts, code_in, whole}
 use Rattle.trusted_border.specs.declared.layout.Layout.{Layout}
 use Rattle.trusted_border.specs.declared.layout.SiteCode.{SiteCode}
 use Rattle.trusted_border.specs.Layout.{runs_part, trusted_owner, numbered, site_at, has_entry_at, with_code}

@@ -8,18 +8,18 @@ use Rattle.std.proofs.lemmas.Bool.{both_ways}
 use Rattle.component_file.specs.declared.component.Export.{Export}
 use Rattle.lcm_machine.specs.declared.cells.Span.{Span}
 use Rattle.lcm_machine.specs.Regions.{Region}
-use Rattle.component_linker.specs.declared.owners.Site.{Site}
-use Rattle.component_linker.specs.Parts.{PartSeen, IsPart}
-use Rattle.component_linker.specs.Regions.{part_regions, region, regions_of, code_span, data_span}
-use Rattle.component_linker.specs.Regions.{linear_span, stack_span}
-use Rattle.component_linker.specs.SealsApart.{is_seal_of}
-use Rattle.component_linker.specs.declared.owners.Owner.{Owner}
-use Rattle.component_linker.specs.Owners.{owner_of, AreSites, AreOwners}
-use Rattle.component_linker.specs.Started.{StartSeen}
-use Rattle.component_linker.specs.Answer.{LinksTo}
-use Rattle.component_linker.specs.Linked as making
-use Rattle.component_linker.proofs.Offers.{are_linked, SitesStand, EntriesStand, seals_end, part_region_of}
-use Rattle.component_linker.proofs.Offers.{stack_region_of, all_within}
+use Rattle.linked_starts.specs.declared.owners.Site.{Site}
+use Rattle.linked_starts.specs.Parts.{PartSeen, IsPart}
+use Rattle.linked_starts.specs.Regions.{part_regions, region, regions_of, code_span, data_span}
+use Rattle.linked_starts.specs.Regions.{linear_span, stack_span}
+use Rattle.linked_starts.specs.SealsApart.{is_seal_of}
+use Rattle.linked_starts.specs.declared.owners.Owner.{Owner}
+use Rattle.linked_starts.specs.Owners.{owner_of, AreSites, AreOwners}
+use Rattle.linked_starts.specs.Started.{StartSeen}
+use Rattle.linked_starts.specs.Answer.{LinksTo}
+use Rattle.linked_starts.specs.Linked as making
+use Rattle.linked_starts.proofs.Offers.{are_linked, SitesStand, EntriesStand, seals_end, part_region_of}
+use Rattle.linked_starts.proofs.Offers.{stack_region_of, all_within}
 use Rattle.trusted_border.specs.declared.layout.Layout.{Layout}
 use Rattle.trusted_border.specs.declared.layout.SiteCode.{SiteCode}
 use Rattle.trusted_border.specs.Layout.{site_at, site_code}

@@ -1,14 +1,14 @@
 -- A start of accepted parts that keep the rules L is as `link` leaves it.
 use Rattle.std.proofs.Common.{ℕ, List, ◌∙◌}
-use Rattle.component_linker.specs.Parts.{PartSeen}
-use Rattle.component_linker.specs.Regions.{regions_of}
-use Rattle.component_linker.specs.Started.{StartSeen}
-use Rattle.component_linker.specs.Answer.{LinksTo}
-use Rattle.component_linker.specs.Linked.{Linked}
-use Rattle.component_linker.proofs.Offers.{are_linked, stack_bases, stack_begins, apart_all, parts_apart}
-use Rattle.component_linker.proofs.Offers.{sites_apart, started_once, SitesStand, EntriesStand, code_stands}
-use Rattle.component_linker.proofs.Offers.{trusted_stand}
-use Rattle.component_linker.specs.LinkedStarts.{IsLinkedStart}
+use Rattle.linked_starts.specs.Parts.{PartSeen}
+use Rattle.linked_starts.specs.Regions.{regions_of}
+use Rattle.linked_starts.specs.Started.{StartSeen}
+use Rattle.linked_starts.specs.Answer.{LinksTo}
+use Rattle.linked_starts.specs.Linked.{Linked}
+use Rattle.linked_starts.proofs.Offers.{are_linked, stack_bases, stack_begins, apart_all, parts_apart}
+use Rattle.linked_starts.proofs.Offers.{sites_apart, started_once, SitesStand, EntriesStand, code_stands}
+use Rattle.linked_starts.proofs.Offers.{trusted_stand}
+use Rattle.linked_starts.specs.LinkedStarts.{IsLinkedStart}
 
 pub links_of : SitesStand → EntriesStand → (parts : List PartSeen) (size : ℕ) (s : StartSeen)
     → IsLinkedStart parts size s → LinksTo parts size s

@@ -10,16 +10,16 @@ use Rattle.std.proofs.lemmas.List.{length-map}
 use Rattle.std.proofs.lemmas.List.Folds.{find_at}
 use Rattle.component_file.specs.declared.component.ComponentFields.{ComponentFields}
 use Rattle.component_file.specs.declared.component.Export.{Export}
-use Rattle.flow_check.specs.Places.{begins_entry}
-use Rattle.component_linker.specs.declared.owners.Site.{Site}
-use Rattle.component_linker.specs.declared.owners.Owner.{Owner}
-use Rattle.component_linker.specs.declared.owners.Entry.{Entry}
-use Rattle.component_linker.specs.Parts.{PartSeen}
-use Rattle.component_linker.specs.Owners.{AreSites, AreOwners, owner_of, placed_entry}
-use Rattle.component_linker.specs.SealsApart.{is_seal_of, PartsApart, SitesApart}
-use Rattle.component_linker.specs.Linked.{Linked}
-use Rattle.component_linker.proofs.Offers.{are_linked, parts_apart, sites_apart}
-use Rattle.component_linker.specs.LinkedStarts.{AreParts}
+use Rattle.flow_rules.specs.Places.{begins_entry}
+use Rattle.linked_starts.specs.declared.owners.Site.{Site}
+use Rattle.linked_starts.specs.declared.owners.Owner.{Owner}
+use Rattle.linked_starts.specs.declared.owners.Entry.{Entry}
+use Rattle.linked_starts.specs.Parts.{PartSeen}
+use Rattle.linked_starts.specs.Owners.{AreSites, AreOwners, owner_of, placed_entry}
+use Rattle.linked_starts.specs.SealsApart.{is_seal_of, PartsApart, SitesApart}
+use Rattle.linked_starts.specs.Linked.{Linked}
+use Rattle.linked_starts.proofs.Offers.{are_linked, parts_apart, sites_apart}
+use Rattle.linked_starts.specs.LinkedStarts.{AreParts}
 use Rattle.trusted_border.specs.declared.layout.Layout.{Layout}
 use Rattle.trusted_border.specs.declared.layout.SiteCode.{SiteCode}
 use Rattle.trusted_border.specs.Layout.{numbered, site_code}

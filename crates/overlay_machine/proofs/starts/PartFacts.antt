@@ -11,12 +11,12 @@ use Rattle.lcm_isa.specs.Numbers.{number_of}
 use Rattle.component_file.specs.declared.component.Export.{Export}
 use Rattle.call_sequence.specs.declared.TheConstants.{SITE_WORDS}
 use Rattle.call_sequence.specs.Standing.{CodeStands, SiteStands}
-use Rattle.flow_check.specs.Places.{begins_entry, begins_site}
-use Rattle.flow_check.proofs.Offers.{ListsKept, entry_within, placed_lists}
-use Rattle.component_linker.specs.Parts.{PartSeen, IsPart}
-use Rattle.component_linker.specs.TrustedCode.{all_seals}
-use Rattle.component_linker.proofs.Offers.{SitesStand, EntriesStand, fail_of, literal_of, seals_end}
-use Rattle.component_linker.proofs.Offers.{few_sites}
+use Rattle.flow_rules.specs.Places.{begins_entry, begins_site}
+use Rattle.flow_rules.proofs.Offers.{ListsKept, entry_within, placed_lists}
+use Rattle.linked_starts.specs.Parts.{PartSeen, IsPart}
+use Rattle.linked_starts.specs.TrustedCode.{all_seals}
+use Rattle.linked_starts.proofs.Offers.{SitesStand, EntriesStand, fail_of, literal_of, seals_end}
+use Rattle.linked_starts.proofs.Offers.{few_sites}
 use Rattle.overlay_machine.specs.Linked.{EntryOf}
 use Rattle.overlay_machine.proofs.starts.ListFacts.{listed_at, any_is}
 

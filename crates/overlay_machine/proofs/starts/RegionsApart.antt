@@ -4,11 +4,11 @@ use Rattle.std.specs.Prelude.{slice_get}
 use Rattle.std.specs.List.{Contains}
 use Rattle.std.proofs.lemmas.Bool.{cases_order}
 use Rattle.lcm_machine.specs.Regions.{Region}
-use Rattle.component_linker.specs.Parts.{PartSeen, IsPart}
-use Rattle.component_linker.specs.Regions.{Apart, part_regions, region, stack_span}
-use Rattle.component_linker.specs.Linked.{Linked}
-use Rattle.component_linker.proofs.Offers.{code_no_data, code_in, data_in, apart_parts, apart_stack}
-use Rattle.component_linker.proofs.Offers.{part_region_of, stack_region_of, all_within}
+use Rattle.linked_starts.specs.Parts.{PartSeen, IsPart}
+use Rattle.linked_starts.specs.Regions.{Apart, part_regions, region, stack_span}
+use Rattle.linked_starts.specs.Linked.{Linked}
+use Rattle.linked_starts.proofs.Offers.{code_no_data, code_in, data_in, apart_parts, apart_stack}
+use Rattle.linked_starts.proofs.Offers.{part_region_of, stack_region_of, all_within}
 use Rattle.overlay_machine.specs.Link.{code_region, data_region}
 use Rattle.overlay_machine.proofs.starts.ListFacts.{one_at}
 

@@ -1,7 +1,7 @@
 -- The instance of linked parts: what is said of linked starts is said of something.
 use Rattle.std.proofs.Common.{true, false, refl, arith}
-use Rattle.component_linker.proofs.Offers.{caller, other, pair, each, keeps, start, has_room, starts}
-use Rattle.component_linker.specs.LinkedStarts.{IsLinkedStart}
+use Rattle.linked_starts.proofs.Offers.{caller, other, pair, each, keeps, start, has_room, starts}
+use Rattle.linked_starts.specs.LinkedStarts.{IsLinkedStart}
 use Rattle.overlay_machine.specs.Starting.{overlay_at, StartThere}
 use Rattle.overlay_machine.proofs.starts.OneOverlay.{is_overlay}
 

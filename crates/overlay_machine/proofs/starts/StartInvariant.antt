@@ -20,17 +20,17 @@ use Rattle.lcm_machine.specs.Row.{word_at}
 use Rattle.lcm_machine.specs.Regions.{Region}
 use Rattle.lcm_machine.specs.Table.{is_pc}
 use Rattle.lcm_machine.specs.Mapped.{mapped_or}
-use Rattle.flow_check.specs.Kinds.{kind_of, entry_row}
-use Rattle.flow_check.specs.Holds.{HasKind, code_at}
-use Rattle.component_linker.specs.Parts.{PartSeen, IsPart}
-use Rattle.component_linker.specs.Regions.{regions_of, region, in_regions, stack_span}
-use Rattle.component_linker.specs.Start.{code_of, whole_stack_cap, stack_of, stack_base_of, start_cell}
-use Rattle.component_linker.specs.Start.{start_regs}
-use Rattle.component_linker.specs.Started.{StartSeen}
-use Rattle.component_linker.specs.Answer.{LinksTo}
-use Rattle.component_linker.specs.Linked as making
-use Rattle.component_linker.proofs.Offers.{are_linked, SitesStand, EntriesStand, stack_region_of, stack_is}
-use Rattle.component_linker.proofs.Offers.{IsExport, main_is_there, cell_in_region, region_has_cell}
+use Rattle.flow_rules.specs.Kinds.{kind_of, entry_row}
+use Rattle.flow_rules.specs.Holds.{HasKind, code_at}
+use Rattle.linked_starts.specs.Parts.{PartSeen, IsPart}
+use Rattle.linked_starts.specs.Regions.{regions_of, region, in_regions, stack_span}
+use Rattle.linked_starts.specs.Start.{code_of, whole_stack_cap, stack_of, stack_base_of, start_cell}
+use Rattle.linked_starts.specs.Start.{start_regs}
+use Rattle.linked_starts.specs.Started.{StartSeen}
+use Rattle.linked_starts.specs.Answer.{LinksTo}
+use Rattle.linked_starts.specs.Linked as making
+use Rattle.linked_starts.proofs.Offers.{are_linked, SitesStand, EntriesStand, stack_region_of, stack_is}
+use Rattle.linked_starts.proofs.Offers.{IsExport, main_is_there, cell_in_region, region_has_cell}
 use Rattle.overlay_machine.specs.declared.words.OWord.{OWord}
 use Rattle.overlay_machine.specs.declared.words.OWord.TheVariants.{Plain}
 use Rattle.overlay_machine.specs.Words.{look}

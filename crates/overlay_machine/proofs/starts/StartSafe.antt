@@ -8,13 +8,13 @@ use Rattle.cap_words.specs.declared.Word.{Word}
 use Rattle.cap_words.specs.declared.Word.TheVariants.{Int, Mem, Seal, Sealed}
 use Rattle.cap_words.specs.declared.CapFields.{CapFields}
 use Rattle.cap_words.specs.Faces.{may_run}
-use Rattle.component_linker.specs.Parts.{PartSeen, IsPart}
-use Rattle.component_linker.specs.Start.{Exported, code_of, data_of, code_half, data_half, whole_stack_cap}
-use Rattle.component_linker.specs.Start.{start_cell}
-use Rattle.component_linker.proofs.Offers.{whole, in_stretch, OwnCap, over_code, over_data, over_linear}
-use Rattle.component_linker.proofs.Offers.{OwnWord, own_code as own_code_word, own_data as own_data_word}
-use Rattle.component_linker.proofs.Offers.{data_number, IsExport, CellIs, of_code, of_data, of_slot, of_none}
-use Rattle.component_linker.proofs.Offers.{cell_is}
+use Rattle.linked_starts.specs.Parts.{PartSeen, IsPart}
+use Rattle.linked_starts.specs.Start.{Exported, code_of, data_of, code_half, data_half, whole_stack_cap}
+use Rattle.linked_starts.specs.Start.{start_cell}
+use Rattle.linked_starts.proofs.Offers.{whole, in_stretch, OwnCap, over_code, over_data, over_linear}
+use Rattle.linked_starts.proofs.Offers.{OwnWord, own_code as own_code_word, own_data as own_data_word}
+use Rattle.linked_starts.proofs.Offers.{data_number, IsExport, CellIs, of_code, of_data, of_slot, of_none}
+use Rattle.linked_starts.proofs.Offers.{cell_is}
 use Rattle.overlay_machine.specs.declared.words.OWord.TheVariants.{Plain}
 use Rattle.overlay_machine.specs.Link.{Link, IsUntrusted, IsUsable, own_code, own_data, own_linear, the_stack}
 use Rattle.overlay_machine.specs.Link.{IsOpenAt, code_region, data_region, stack_region}

@@ -1,8 +1,8 @@
 use Rattle.std.proofs.Common.{refl}
 use Rattle.overlay_machine.specs.Starting.{overlay_at}
 use Rattle.overlay_machine.specs.Keeping.{link_of}
-use Rattle.trace_tool.specs.Layout.{layout}
-use Rattle.trace_tool.specs.Cuts.{cut, cut_overlay}
+use Rattle.run_lines.specs.Layout.{layout}
+use Rattle.run_lines.specs.Cuts.{cut, cut_overlay}
 use Rattle.audited_runs.proofs.Followed.{frames_lie, follows}
 use Rattle.audited_runs.proofs.laws.lines_are_followed.Goals as goal
 

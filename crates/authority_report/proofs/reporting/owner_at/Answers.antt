@@ -1,6 +1,6 @@
 use Rattle.std.proofs.Common.{Some, None, ◌≡◌, ℕ, List, sym, ap, ◌∙◌}
 use Rattle.std.specs.List.{Contains}
-use Rattle.component_linker.specs.declared.owners.Owner.{Owner}
+use Rattle.linked_starts.specs.declared.owners.Owner.{Owner}
 use Rattle.std.specs.Prelude.{option_copied, is_some, true, false}
 use Rattle.authority_report.specs.Report.{owner_of_part}
 use Rattle.authority_report.proofs.OwnersSmall.{owner_listed, code_small, data_small, owner_there}

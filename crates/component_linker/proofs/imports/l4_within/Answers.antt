@@ -1,9 +1,9 @@
 use Rattle.std.proofs.Common.{rules}
 use Rattle.std.specs.Prelude.{is_none}
-use Rattle.component_linker.specs.Start.{imported}
-use Rattle.component_linker.specs.Pairs.{never, at_each}
-use Rattle.component_linker.specs.Links.{l4}
-use Rattle.component_linker.proofs.RuleLemmas.{told_in, each_item}
+use Rattle.linked_starts.specs.Start.{imported}
+use Rattle.linked_starts.specs.Pairs.{never, at_each}
+use Rattle.linked_starts.specs.Links.{l4}
+use Rattle.linked_starts.proofs.Offers.{each_item, told_in}
 use Rattle.component_linker.proofs.imports.l4_within.Goals as goal
 
 pub returns : goal.returns

@@ -1,8 +1,8 @@
 use Rattle.std.proofs.Common.{rules}
-use Rattle.component_linker.specs.Start.{imported}
-use Rattle.component_linker.specs.Pairs.{never, at_each}
-use Rattle.component_linker.specs.Links.{l5, is_private}
-use Rattle.component_linker.proofs.RuleLemmas.{told_in, each_item}
+use Rattle.linked_starts.specs.Start.{imported}
+use Rattle.linked_starts.specs.Pairs.{never, at_each}
+use Rattle.linked_starts.specs.Links.{l5, is_private}
+use Rattle.linked_starts.proofs.Offers.{each_item, told_in}
 use Rattle.component_linker.proofs.imports.l5_within.Goals as goal
 
 pub returns : goal.returns

@@ -2,9 +2,9 @@
 use Rattle.lcm_machine.specs.declared.Place.TheVariants.{Cell}
 use Rattle.lcm_machine.specs.Row.{put}
 use Rattle.std.proofs.Common.{◌+◌}
-use Rattle.component_linker.specs.Laying.{single}
-use Rattle.component_linker.specs.Start.{code_half, data_half}
-use Rattle.component_linker.proofs.Laid.{lays_put, lays_two, still_there}
+use Rattle.linked_starts.specs.Laying.{single}
+use Rattle.linked_starts.specs.Start.{code_half, data_half}
+use Rattle.linked_starts.proofs.Offers.{lays_put, lays_two, still_there}
 use Rattle.component_linker.proofs.laying.lay_halves.Goals as goal
 
 pub set-requires-2 : goal.set-requires-2

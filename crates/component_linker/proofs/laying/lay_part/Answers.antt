@@ -2,9 +2,8 @@
 use Rattle.std.proofs.Common.{length, ap, arith}
 use Rattle.std.specs.Prelude.{IsSome, slice_get}
 use Rattle.lcm_machine.specs.Cells.{cell}
-use Rattle.component_linker.specs.Start.{from, first_given, slot_word, part_word}
-use Rattle.component_linker.proofs.Laid.{still_there}
-use Rattle.component_linker.proofs.LaySteps.{with_some, data_there, code_there, part_laid}
+use Rattle.linked_starts.specs.Start.{from, first_given, slot_word, part_word}
+use Rattle.linked_starts.proofs.Offers.{code_there, data_there, part_laid, still_there, with_some}
 use Rattle.component_linker.proofs.laying.lay_part.Goals as goal
 
 pub lay_words-requires-clause-room : goal.lay_words-requires-clause-room

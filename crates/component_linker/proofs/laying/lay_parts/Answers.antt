@@ -1,8 +1,6 @@
 -- A turn lays one part more.
 use Rattle.std.proofs.Common.{◌≡◌, ◌∙◌, arith}
-use Rattle.component_linker.proofs.Laid.{still_there}
-use Rattle.component_linker.proofs.PartWords.{parts_upto}
-use Rattle.component_linker.proofs.LaySteps.{parts_laid, parts_end}
+use Rattle.linked_starts.proofs.Offers.{parts_end, parts_laid, parts_upto, still_there}
 use Rattle.component_linker.proofs.laying.lay_parts.Goals as goal
 
 pub lay_part-requires : goal.lay_part-requires

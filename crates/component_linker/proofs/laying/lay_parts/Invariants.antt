@@ -1,6 +1,6 @@
 -- The words of the parts so far are laid.
-use Rattle.component_linker.specs.Laying.{Lays}
-use Rattle.component_linker.proofs.PartWords.{parts_upto}
+use Rattle.linked_starts.specs.Laying.{Lays}
+use Rattle.linked_starts.proofs.Offers.{parts_upto}
 use Rattle.component_linker.proofs.laying.lay_parts.Given as goal
 
 abbrev pub invariant-loop-index : goal.invariant-loop-index

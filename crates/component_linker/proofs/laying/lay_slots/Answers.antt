@@ -1,9 +1,8 @@
 -- Each import names an entry of a part; its two words come behind those of the imports before.
 use Rattle.std.proofs.Common.{◌≡◌, ◌+◌, length, sym, ap, ◌∙◌, arith}
-use Rattle.component_linker.specs.Start.{from}
-use Rattle.component_linker.proofs.Laid.{still_there}
-use Rattle.component_linker.proofs.PartWords.{slots_upto}
-use Rattle.component_linker.proofs.LaySteps.{item_at, not_none, entry_kept, slots_laid, slots_end}
+use Rattle.linked_starts.specs.Start.{from}
+use Rattle.linked_starts.proofs.Offers.{entry_kept, item_at, not_none, slots_end, slots_laid, slots_upto}
+use Rattle.linked_starts.proofs.Offers.{still_there}
 use Rattle.component_linker.proofs.laying.lay_slots.Goals as goal
 
 pub unreachable-requires : goal.unreachable-requires

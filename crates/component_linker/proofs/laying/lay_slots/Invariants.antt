@@ -1,7 +1,7 @@
 -- The halves of the imports so far are laid.
-use Rattle.component_linker.specs.Start.{from}
-use Rattle.component_linker.specs.Laying.{Lays}
-use Rattle.component_linker.proofs.PartWords.{slots_upto}
+use Rattle.linked_starts.specs.Start.{from}
+use Rattle.linked_starts.specs.Laying.{Lays}
+use Rattle.linked_starts.proofs.Offers.{slots_upto}
 use Rattle.component_linker.proofs.laying.lay_slots.Given as goal
 
 abbrev pub invariant-loop-import : goal.invariant-loop-import

@@ -4,10 +4,10 @@ use Rattle.std.specs.Prelude.{slice_get, None, Some}
 use Rattle.std.specs.Option.{option_or}
 use Rattle.lcm_machine.specs.declared.Place.TheVariants.{Cell}
 use Rattle.lcm_machine.specs.Row.{put}
-use Rattle.component_linker.specs.Laying.{single}
-use Rattle.component_linker.specs.Start.{from}
-use Rattle.component_linker.proofs.Laid.{lays_none, lays_as, lays_then, lays_put, still_there, upto}
-use Rattle.component_linker.proofs.Laid.{upto_none, upto_more, upto_all}
+use Rattle.linked_starts.specs.Laying.{single}
+use Rattle.linked_starts.specs.Start.{from}
+use Rattle.linked_starts.proofs.Offers.{lays_as, lays_none, lays_put, lays_then, still_there, upto, upto_all}
+use Rattle.linked_starts.proofs.Offers.{upto_more, upto_none}
 use Rattle.component_linker.proofs.laying.lay_words.Goals as goal
 
 pub loop-index-init : goal.loop-index-init

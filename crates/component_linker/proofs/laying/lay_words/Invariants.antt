@@ -1,8 +1,8 @@
 -- The words so far are laid.
 use Rattle.std.specs.Prelude.{slice_get}
-use Rattle.component_linker.specs.Start.{from}
-use Rattle.component_linker.specs.Laying.{Lays}
-use Rattle.component_linker.proofs.Laid.{upto}
+use Rattle.linked_starts.specs.Start.{from}
+use Rattle.linked_starts.specs.Laying.{Lays}
+use Rattle.linked_starts.proofs.Offers.{upto}
 use Rattle.component_linker.proofs.laying.lay_words.Given as goal
 
 abbrev pub invariant-loop-index : goal.invariant-loop-index

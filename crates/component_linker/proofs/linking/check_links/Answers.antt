@@ -1,11 +1,9 @@
 use Rattle.std.proofs.Common.{ℕ, List, Result, Ok, Err}
 use Rattle.std.specs.Prelude.{OnOk}
-use Rattle.component_linker.specs.Pairs.{PairTest, IsFirstBrokenIn, NoneIsBroken}
-use Rattle.component_linker.specs.declared.pairs.PartPlace.{PartPlace}
-use Rattle.component_linker.specs.Links.{l10, rules_l, rules_of_link, rule_at}
-use Rattle.component_linker.proofs.LinksKept.{are_linked}
-use Rattle.component_linker.proofs.SealsKept.{parts_apart}
-use Rattle.component_linker.proofs.DropFirst.{others_kept, goes_on}
+use Rattle.linked_starts.specs.Pairs.{PairTest, IsFirstBrokenIn, NoneIsBroken}
+use Rattle.linked_starts.specs.declared.pairs.PartPlace.{PartPlace}
+use Rattle.linked_starts.specs.Links.{l10, rules_l, rules_of_link, rule_at}
+use Rattle.linked_starts.proofs.Offers.{are_linked, goes_on, others_kept, parts_apart}
 use Rattle.component_linker.proofs.linking.check_links.Goals as goal
 
 ok_only : {E : Type 0} (told : ℕ → PartPlace → E) (rules : List PairTest) (L : Type 0)

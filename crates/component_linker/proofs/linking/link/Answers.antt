@@ -1,5 +1,5 @@
-use Rattle.component_linker.specs.Standing.{placed}
-use Rattle.component_linker.proofs.DropFirst.{breaks_first}
+use Rattle.linked_starts.specs.Standing.{placed}
+use Rattle.linked_starts.proofs.Offers.{breaks_first}
 use Rattle.component_linker.proofs.linking.link.Goals as goal
 
 pub returns-in-Err : goal.returns-in-Err

@@ -1,9 +1,7 @@
 use Rattle.std.proofs.Common.{◌∙◌}
-use Rattle.component_linker.proofs.SealsKept.{sites_apart}
-use Rattle.component_linker.proofs.LinksKept.{stack_bases, stack_begins}
-use Rattle.component_linker.proofs.CodeStands.{code_stands}
-use Rattle.component_linker.specs.Links.{l10, rules_l}
-use Rattle.component_linker.proofs.DropFirst.{others_kept, first_kept}
+use Rattle.linked_starts.proofs.Offers.{code_stands, first_kept, others_kept, sites_apart, stack_bases}
+use Rattle.linked_starts.proofs.Offers.{stack_begins}
+use Rattle.linked_starts.specs.Links.{l10, rules_l}
 use Rattle.component_linker.proofs.linking.link_placed.Goals as goal
 
 pub returns : goal.returns

@@ -1,4 +1,4 @@
-use Rattle.component_linker.proofs.CodeStands.{trusted_stand}
+use Rattle.linked_starts.proofs.Offers.{trusted_stand}
 use Rattle.component_linker.proofs.linking.trusted_code_stands.Goals as goal
 
 pub returns : goal.returns

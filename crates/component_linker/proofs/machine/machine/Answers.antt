@@ -2,10 +2,9 @@
 use Rattle.std.proofs.Common.{sym, ap, ◌∙◌}
 use Rattle.lcm_machine.specs.declared.cells.Span.{Span}
 use Rattle.component_linker.specs.declared.grant.StackGrant.{StackGrant}
-use Rattle.component_linker.specs.Regions.{regions_of}
-use Rattle.component_linker.specs.Start.{registered}
-use Rattle.component_linker.proofs.RegionFacts.{apart_all}
-use Rattle.component_linker.proofs.StartIs.{main_kept, started, started_once}
+use Rattle.linked_starts.specs.Regions.{regions_of}
+use Rattle.linked_starts.specs.Start.{registered}
+use Rattle.linked_starts.proofs.Offers.{apart_all, main_kept, started, started_once}
 use Rattle.component_linker.proofs.machine.machine.Goals as goal
 
 pub set_registers-requires-clause-kept : goal.set_registers-requires-clause-kept

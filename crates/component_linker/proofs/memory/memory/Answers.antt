@@ -5,10 +5,9 @@ use Rattle.cap_words.specs.declared.Word.TheVariants.{Int}
 use Rattle.lcm_machine.specs.declared.cells.Span.{Span}
 use Rattle.lcm_machine.specs.Spans.{in_spans}
 use Rattle.lcm_machine.specs.Run.{Run}
-use Rattle.component_linker.specs.Regions.{regions_of, in_regions, AreSpansOf}
-use Rattle.component_linker.proofs.PartWords.{separate}
-use Rattle.component_linker.proofs.SortedSpans.{are_spans, are_spans_of, in_spans_is, room, is_slot}
-use Rattle.component_linker.proofs.SortedSpans.{cells_are}
+use Rattle.linked_starts.specs.Regions.{regions_of, in_regions, AreSpansOf}
+use Rattle.linked_starts.proofs.Offers.{are_spans, are_spans_of, in_spans_is, is_slot, room, separate}
+use Rattle.linked_starts.proofs.Offers.{sorted_cells_are as cells_are}
 use Rattle.component_linker.proofs.memory.memory.Goals as goal
 
 pub make-requires : goal.make-requires

@@ -1,4 +1,4 @@
-use Rattle.component_linker.proofs.SortedSpans.{spans_more}
+use Rattle.linked_starts.proofs.Offers.{spans_more}
 use Rattle.component_linker.proofs.memory.spans_of.Goals as goal
 
 pub loop-index-preserved : goal.loop-index-preserved

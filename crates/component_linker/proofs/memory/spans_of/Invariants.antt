@@ -1,7 +1,7 @@
 -- The spans of the parts so far.
 use Rattle.std.proofs.Common.{◌≡◌, map, take}
 use Rattle.std.specs.List.{flat_map}
-use Rattle.component_linker.specs.Regions.{part_regions, region_span}
+use Rattle.linked_starts.specs.Regions.{part_regions, region_span}
 use Rattle.component_linker.proofs.memory.spans_of.Given as goal
 
 abbrev pub invariant-loop-index : goal.invariant-loop-index

@@ -4,7 +4,7 @@ use Rattle.std.specs.Cmp.Lexicographic.{slice_cmp}
 use Rattle.std.specs.Ordering.{nat_cmp}
 use Rattle.std.proofs.lemmas.Fn.{always_returns_same}
 use Rattle.component_file.specs.declared.component.Export.{Export}
-use Rattle.component_linker.proofs.Halved.{export_found, export_missing}
+use Rattle.linked_starts.proofs.Offers.{export_found, export_missing}
 use Rattle.component_linker.proofs.names.export_named.Goals as goal
 
 pub returns-in-Ok : goal.returns-in-Ok

@@ -1,8 +1,8 @@
 use Rattle.std.proofs.Common.{sym, ap, ◌∙◌}
 use Rattle.std.specs.Prelude.{find}
 use Rattle.std.specs.Option.{option_copied}
-use Rattle.component_linker.specs.Start.{same_name, part_named}
-use Rattle.component_linker.proofs.Found.{exported_is, imported_is}
+use Rattle.linked_starts.specs.Start.{same_name, part_named}
+use Rattle.linked_starts.proofs.Offers.{exported_is, imported_is}
 use Rattle.component_linker.proofs.names.imported.Goals as goal
 
 pub returns : goal.returns

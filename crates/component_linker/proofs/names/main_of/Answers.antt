@@ -1,8 +1,8 @@
 -- A part is asked for a shared main.
 use Rattle.std.proofs.Common.{◌∙◌}
 use Rattle.std.specs.Option.{option_copied}
-use Rattle.component_linker.specs.Start.{is_main, export_that}
-use Rattle.component_linker.proofs.Found.{exported_is, given_first, none_given}
+use Rattle.linked_starts.specs.Start.{is_main, export_that}
+use Rattle.linked_starts.proofs.Offers.{exported_is, given_first, none_given}
 use Rattle.component_linker.proofs.names.main_of.Goals as goal
 
 pub returns-in-Some : goal.returns-in-Some

@@ -1,7 +1,7 @@
 -- A part is asked for its name.
 use Rattle.std.proofs.Common.{sym, ap, ◌∙◌}
-use Rattle.component_linker.specs.Start.{same_name}
-use Rattle.component_linker.proofs.Found.{found_here, not_here}
+use Rattle.linked_starts.specs.Start.{same_name}
+use Rattle.linked_starts.proofs.Offers.{found_here, not_here}
 use Rattle.component_linker.proofs.names.part_named.Goals as goal
 
 pub returns-then-eq : goal.returns-then-eq

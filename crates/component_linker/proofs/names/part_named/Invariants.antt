@@ -1,6 +1,6 @@
 -- The name is none of the parts before.
 use Rattle.std.proofs.Common.{◌≡◌, drop}
-use Rattle.component_linker.specs.Start.{part_named}
+use Rattle.linked_starts.specs.Start.{part_named}
 use Rattle.component_linker.proofs.names.part_named.Given as goal
 
 abbrev pub invariant-loop-index : goal.invariant-loop-index

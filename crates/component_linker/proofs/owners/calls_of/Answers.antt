@@ -1,5 +1,5 @@
 use Rattle.std.proofs.Common.{arith}
-use Rattle.component_linker.proofs.LaySteps.{item_at}
+use Rattle.linked_starts.proofs.Offers.{item_at}
 use Rattle.component_linker.proofs.owners.calls_of.Goals as goal
 
 pub overflow_add-base : goal.overflow_add-base

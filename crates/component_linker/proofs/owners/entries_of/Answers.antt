@@ -1,6 +1,5 @@
 use Rattle.std.proofs.Common.{None, arith}
-use Rattle.component_linker.proofs.LaySteps.{item_at}
-use Rattle.component_linker.proofs.ListedOwners.{export_fits}
+use Rattle.linked_starts.proofs.Offers.{export_fits, item_at}
 use Rattle.component_linker.proofs.owners.entries_of.Goals as goal
 
 pub overflow_add-base : goal.overflow_add-base

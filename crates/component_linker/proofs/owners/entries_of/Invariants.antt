@@ -1,6 +1,6 @@
 -- The entries of the exports so far are listed.
 use Rattle.std.proofs.Common.{◌≡◌, map, take}
-use Rattle.component_linker.specs.Owners.{placed_entry}
+use Rattle.linked_starts.specs.Owners.{placed_entry}
 use Rattle.component_linker.proofs.owners.entries_of.Given as goal
 
 abbrev pub invariant-loop-export : goal.invariant-loop-export

@@ -1,6 +1,6 @@
 -- Each field is the part's.
 use Rattle.std.proofs.Common.{refl}
-use Rattle.component_linker.specs.Owners.{owner_of}
+use Rattle.linked_starts.specs.Owners.{owner_of}
 use Rattle.component_linker.proofs.owners.named.Goals as goal
 
 pub returns : goal.returns

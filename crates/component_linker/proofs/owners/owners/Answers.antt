@@ -1,7 +1,7 @@
 -- All are listed, and then put in order.
 use Rattle.std.proofs.Common.{◌≡◌, length, arith, rules}
 use Rattle.std.proofs.lemmas.List.Sorted.{IsNonDecreasingBy-from_sort_by_key}
-use Rattle.component_linker.proofs.ListedOwners.{owners_none, next_owner, owners_sorted}
+use Rattle.linked_starts.proofs.Offers.{next_owner, owners_none, owners_sorted}
 use Rattle.component_linker.proofs.owners.owners.Goals as goal
 
 pub loop-number-init : goal.loop-number-init

@@ -1,5 +1,5 @@
 -- The owners of the parts so far are listed.
-use Rattle.component_linker.specs.Listing.{OwnersUpto}
+use Rattle.linked_starts.specs.Listing.{OwnersUpto}
 use Rattle.component_linker.proofs.owners.owners.Given as goal
 
 abbrev pub invariant-loop-number : goal.invariant-loop-number

@@ -3,9 +3,9 @@
 use Rattle.std.proofs.Common.{◌+◌, get_or, length, refl, sym, ap, ◌∙◌, arith, None}
 use Rattle.std.specs.Prelude.{slice_get}
 use Rattle.std.proofs.lemmas.Option.{slice_get-get_or}
-use Rattle.component_linker.specs.declared.owners.Site.{Site}
-use Rattle.component_linker.specs.Owners.{IsSite}
-use Rattle.component_linker.proofs.ListedOwners.{next_site, untrusted_done, sites_done, site_fits}
+use Rattle.linked_starts.specs.declared.owners.Site.{Site}
+use Rattle.linked_starts.specs.Owners.{IsSite}
+use Rattle.linked_starts.proofs.Offers.{next_site, site_fits, sites_done, untrusted_done}
 use Rattle.component_linker.proofs.owners.push_sites.Goals as goal
 
 pub returns-then-not-trusted : goal.returns-then-not-trusted

@@ -1,5 +1,5 @@
 -- The part's sites so far are listed.
-use Rattle.component_linker.specs.Listing.{SitesUpto}
+use Rattle.linked_starts.specs.Listing.{SitesUpto}
 use Rattle.component_linker.proofs.owners.push_sites.Given as goal
 
 abbrev pub invariant-loop-index : goal.invariant-loop-index

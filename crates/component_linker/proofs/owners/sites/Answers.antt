@@ -1,7 +1,7 @@
 -- All are listed, and then put in order.
 use Rattle.std.proofs.Common.{◌≡◌, length, arith, rules}
 use Rattle.std.proofs.lemmas.List.Sorted.{IsNonDecreasingBy-from_sort_by_key}
-use Rattle.component_linker.proofs.ListedOwners.{sites_none, sites_sorted}
+use Rattle.linked_starts.proofs.Offers.{sites_none, sites_sorted}
 use Rattle.component_linker.proofs.SitesInOrder.{in_order}
 use Rattle.component_linker.proofs.owners.sites.Goals as goal
 

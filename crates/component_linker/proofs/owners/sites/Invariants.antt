@@ -1,5 +1,5 @@
 -- The sites of the parts so far are listed.
-use Rattle.component_linker.specs.Listing.{SitesUpto}
+use Rattle.linked_starts.specs.Listing.{SitesUpto}
 use Rattle.component_linker.proofs.owners.sites.Given as goal
 
 abbrev pub invariant-loop-number : goal.invariant-loop-number

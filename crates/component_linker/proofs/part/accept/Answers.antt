@@ -1,7 +1,7 @@
 use Rattle.std.proofs.Common.{rules, ◌≡◌, ◌∙◌, Ok, Err, subst}
 use Rattle.component_file.specs.Limits.{IsComponent}
-use Rattle.component_linker.specs.Parts.{PartSeen}
-use Rattle.component_linker.proofs.Accepted.{accepts_is}
+use Rattle.linked_starts.specs.Parts.{PartSeen}
+use Rattle.linked_starts.proofs.Offers.{accepts_is}
 use Rattle.component_linker.proofs.part.accept.Goals as goal
 
 pub invariant_of-result : goal.invariant_of-result

@@ -1,9 +1,9 @@
 use Rattle.std.proofs.Common.{rules}
 use Rattle.std.specs.Prelude.{take}
-use Rattle.component_linker.specs.Start.{same_name}
-use Rattle.component_linker.specs.Pairs.{never, at_each}
-use Rattle.component_linker.specs.Links.{l3}
-use Rattle.component_linker.proofs.RuleLemmas.{told_in, each_before}
+use Rattle.linked_starts.specs.Start.{same_name}
+use Rattle.linked_starts.specs.Pairs.{never, at_each}
+use Rattle.linked_starts.specs.Links.{l3}
+use Rattle.linked_starts.proofs.Offers.{each_before, told_in}
 use Rattle.component_linker.proofs.parts.l3_within.Goals as goal
 
 pub returns : goal.returns

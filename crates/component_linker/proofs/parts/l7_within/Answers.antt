@@ -1,9 +1,9 @@
 use Rattle.std.proofs.Common.{rules, not}
 use Rattle.std.specs.Prelude.{◌==◌}
-use Rattle.component_linker.specs.Start.{stack_base_of}
-use Rattle.component_linker.specs.Pairs.{never, once}
-use Rattle.component_linker.specs.Links.{l7}
-use Rattle.component_linker.proofs.RuleLemmas.{told_in}
+use Rattle.linked_starts.specs.Start.{stack_base_of}
+use Rattle.linked_starts.specs.Pairs.{never, once}
+use Rattle.linked_starts.specs.Links.{l7}
+use Rattle.linked_starts.proofs.Offers.{told_in}
 use Rattle.component_linker.proofs.parts.l7_within.Goals as goal
 
 pub returns : goal.returns

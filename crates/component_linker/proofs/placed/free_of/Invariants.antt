@@ -1,7 +1,7 @@
 use Rattle.std.proofs.Common.{◌≡◌, ◌≤◌, ◌^◌, take}
 use Rattle.std.specs.List.{fold}
-use Rattle.component_linker.specs.Regions.{stack_span}
-use Rattle.component_linker.specs.Standing.{behind_stack, past_fixed}
+use Rattle.linked_starts.specs.Regions.{stack_span}
+use Rattle.linked_starts.specs.Standing.{behind_stack, past_fixed}
 use Rattle.component_linker.proofs.placed.free_of.Given as goal
 
 abbrev pub invariant-loop-index : goal.invariant-loop-index

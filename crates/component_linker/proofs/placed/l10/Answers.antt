@@ -4,12 +4,12 @@ use Rattle.std.specs.Prelude.{slice_get}
 use Rattle.std.proofs.lemmas.Bool.{cases_eq}
 use Rattle.std.proofs.lemmas.Option.{slice_get_within, slice_get_read}
 use Rattle.component_check.specs.Places.{first_place}
-use Rattle.component_linker.specs.declared.placed.Free.{Free}
-use Rattle.component_linker.specs.Parts.{PartSeen, IsPart}
-use Rattle.component_linker.specs.Links.{l10, room_test}
-use Rattle.component_linker.specs.Standing.{placed_part, past, placed_from}
-use Rattle.component_linker.proofs.Settling.{free_at, placed_at, free_more, room_at, no_room, all_have_room}
-use Rattle.component_linker.proofs.Settling.{as_many}
+use Rattle.linked_starts.specs.declared.moving.Free.{Free}
+use Rattle.linked_starts.specs.Parts.{PartSeen, IsPart}
+use Rattle.linked_starts.specs.Links.{l10, room_test}
+use Rattle.linked_starts.specs.Standing.{placed_part, past, placed_from}
+use Rattle.linked_starts.proofs.Offers.{all_have_room, as_many, free_at, free_more, no_room, placed_at}
+use Rattle.linked_starts.proofs.Offers.{room_at}
 use Rattle.component_linker.proofs.placed.l10.Goals as goal
 
 -- ---- one more part

@@ -1,10 +1,10 @@
 use Rattle.std.proofs.Common.{◌≡◌, ℕ, ◌<◌, ◌≤◌, ◌^◌, Some, None}
 use Rattle.std.specs.Prelude.{slice_get}
 use Rattle.component_check.specs.Places.{first_place}
-use Rattle.component_linker.specs.Parts.{PartSeen, IsPart}
-use Rattle.component_linker.specs.Links.{l10}
-use Rattle.component_linker.specs.Standing.{placed_from}
-use Rattle.component_linker.proofs.Settling.{free_at}
+use Rattle.linked_starts.specs.Parts.{PartSeen, IsPart}
+use Rattle.linked_starts.specs.Links.{l10}
+use Rattle.linked_starts.specs.Standing.{placed_from}
+use Rattle.linked_starts.proofs.Offers.{free_at}
 use Rattle.component_linker.proofs.placed.l10.Given as goal
 
 abbrev pub invariant-loop-index : goal.invariant-loop-index

@@ -1,5 +1,5 @@
 use Rattle.std.proofs.Common.{sym, ◌∙◌, refl}
-use Rattle.component_linker.proofs.Settling.{room_told, told_part}
+use Rattle.linked_starts.proofs.Offers.{room_told, told_part}
 use Rattle.component_linker.proofs.placed.lacks_room.Goals as goal
 
 pub returns-clause-is : goal.returns-clause-is

@@ -2,10 +2,10 @@ use Rattle.std.proofs.Common.{◌≡◌, ℕ, ◌<◌, List, length, Some, refl,
 use Rattle.std.specs.Prelude.{slice_get}
 use Rattle.std.proofs.lemmas.Option.{slice_get_read}
 use Rattle.component_file.specs.Limits.{IsComponent}
-use Rattle.component_linker.specs.declared.placed.Free.{Free}
-use Rattle.component_linker.specs.Parts.{PartSeen, IsPart}
-use Rattle.component_linker.specs.Standing.{settled, placed_part, past, placed_from}
-use Rattle.component_linker.proofs.Settling.{free_at, placed_at, free_more}
+use Rattle.linked_starts.specs.declared.moving.Free.{Free}
+use Rattle.linked_starts.specs.Parts.{PartSeen, IsPart}
+use Rattle.linked_starts.specs.Standing.{settled, placed_part, past, placed_from}
+use Rattle.linked_starts.proofs.Offers.{free_at, free_more, placed_at}
 use Rattle.component_linker.proofs.placed.part_from.Goals as goal
 
 fits : (first free : Free) (parts : List PartSeen) (k : ℕ) (p : PartSeen)

@@ -1,5 +1,5 @@
 use Rattle.std.proofs.Common.{◌≡◌, ◌≤◌, ◌^◌}
-use Rattle.component_linker.proofs.Settling.{free_at}
+use Rattle.linked_starts.proofs.Offers.{free_at}
 use Rattle.component_linker.proofs.placed.part_from.Given as goal
 
 abbrev pub invariant-loop-k : goal.invariant-loop-k

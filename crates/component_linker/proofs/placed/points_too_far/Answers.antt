@@ -1,7 +1,7 @@
 use Rattle.std.proofs.Common.{refl, sym, ap, ◌∙◌}
 use Rattle.std.specs.List.{list_all}
-use Rattle.component_linker.specs.Placing.{moved_word, points_in_range}
-use Rattle.component_linker.proofs.Settling.{points_of}
+use Rattle.linked_starts.specs.Placing.{moved_word, points_in_range}
+use Rattle.linked_starts.proofs.Offers.{points_of}
 use Rattle.component_linker.proofs.placed.points_too_far.Goals as goal
 
 pub returns-then-not-points_in_range : goal.returns-then-not-points_in_range

@@ -2,11 +2,11 @@ use Rattle.std.proofs.Common.{rules, length, ◌≤◌, ℕ, List, [], None, ap,
 use Rattle.std.specs.Prelude.{take, slice_index_or}
 use Rattle.component_check.specs.Places.{Test, plainly, first_place}
 use Rattle.component_check.proofs.Offers.{plain_first}
-use Rattle.component_linker.specs.Regions.{stack_span}
-use Rattle.component_linker.specs.Pairs.{once}
-use Rattle.component_linker.specs.Parts.{PartSeen}
-use Rattle.component_linker.specs.Links.{l1, near_before, part_spans}
-use Rattle.component_linker.proofs.RuleLemmas.{told_in, told_behind, take_whole}
+use Rattle.linked_starts.specs.Regions.{stack_span}
+use Rattle.linked_starts.specs.Pairs.{once}
+use Rattle.linked_starts.specs.Parts.{PartSeen}
+use Rattle.linked_starts.specs.Links.{l1, near_before, part_spans}
+use Rattle.linked_starts.proofs.Offers.{take_whole, told_behind, told_in}
 use Rattle.component_linker.proofs.regions.l1_within.Goals as goal
 
 abbrev breaks : List PartSeen → ℕ → PartSeen → ℕ → Bool

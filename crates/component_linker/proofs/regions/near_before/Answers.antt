@@ -1,6 +1,6 @@
 use Rattle.std.proofs.Common.{rules, refl}
-use Rattle.component_linker.specs.Links.{near_part}
-use Rattle.component_linker.proofs.RuleLemmas.{none_more, any_settled}
+use Rattle.linked_starts.specs.Links.{near_part}
+use Rattle.linked_starts.proofs.Offers.{any_settled, none_more}
 use Rattle.component_linker.proofs.regions.near_before.Goals as goal
 
 pub returns-then-near_any : goal.returns-then-near_any

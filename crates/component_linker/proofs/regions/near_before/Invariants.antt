@@ -1,6 +1,6 @@
 use Rattle.std.proofs.Common.{◌≡◌, take, false}
 use Rattle.std.specs.List.{list_any}
-use Rattle.component_linker.specs.Links.{near_part}
+use Rattle.linked_starts.specs.Links.{near_part}
 use Rattle.component_linker.proofs.regions.near_before.Given as goal
 
 abbrev pub invariant-loop-i : goal.invariant-loop-i

@@ -1,4 +1,4 @@
-use Rattle.component_linker.proofs.PartWords.{separate}
+use Rattle.linked_starts.proofs.Offers.{separate}
 use Rattle.component_linker.proofs.LaidOut.{are_laid}
 use Rattle.component_linker.proofs.SitesInOrder.{in_order}
 use Rattle.component_linker.proofs.started.start_of.Goals as goal

@@ -1,6 +1,6 @@
 use Rattle.std.proofs.Common.{rules}
-use Rattle.component_linker.specs.Links.{l6}
-use Rattle.component_linker.proofs.FirstIn.{first_in_is}
+use Rattle.linked_starts.specs.Links.{l6}
+use Rattle.linked_starts.proofs.Offers.{first_in_is}
 use Rattle.component_linker.proofs.whole.l6.Goals as goal
 
 pub returns : goal.returns

@@ -2,11 +2,11 @@ use Rattle.std.proofs.Common.{rules, length, ◌≤◌, ℕ, List, ap, ◌∙◌
 use Rattle.std.specs.Prelude.{◌&&◌, take}
 use Rattle.std.specs.List.{list_any}
 use Rattle.component_check.specs.Places.{Test, first_place}
-use Rattle.component_linker.specs.Start.{is_main}
-use Rattle.component_linker.specs.Pairs.{once, at_each}
-use Rattle.component_linker.specs.Parts.{PartSeen}
-use Rattle.component_linker.specs.Links.{l6, has_main}
-use Rattle.component_linker.proofs.RuleLemmas.{told_in, told_behind, each_item, take_whole}
+use Rattle.linked_starts.specs.Start.{is_main}
+use Rattle.linked_starts.specs.Pairs.{once, at_each}
+use Rattle.linked_starts.specs.Parts.{PartSeen}
+use Rattle.linked_starts.specs.Links.{l6, has_main}
+use Rattle.linked_starts.proofs.Offers.{each_item, take_whole, told_behind, told_in}
 use Rattle.component_linker.proofs.whole.l6_within.Goals as goal
 
 abbrev second : List PartSeen → ℕ → PartSeen → Test ℕ

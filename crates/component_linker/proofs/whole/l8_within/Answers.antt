@@ -1,10 +1,10 @@
 use Rattle.std.proofs.Common.{rules, ◌+◌, arith, not}
 use Rattle.std.specs.Prelude.{◌&&◌, nat_le}
-use Rattle.component_linker.specs.Regions.{is_stack_size}
-use Rattle.component_linker.specs.Start.{stack_base_of}
-use Rattle.component_linker.specs.Pairs.{never, once}
-use Rattle.component_linker.specs.Links.{l8}
-use Rattle.component_linker.proofs.RuleLemmas.{told_nowhere, told_behind}
+use Rattle.linked_starts.specs.Regions.{is_stack_size}
+use Rattle.linked_starts.specs.Start.{stack_base_of}
+use Rattle.linked_starts.specs.Pairs.{never, once}
+use Rattle.linked_starts.specs.Links.{l8}
+use Rattle.linked_starts.proofs.Offers.{told_behind, told_nowhere}
 use Rattle.component_linker.proofs.whole.l8_within.Goals as goal
 
 pub returns-then-i-len : goal.returns-then-i-len

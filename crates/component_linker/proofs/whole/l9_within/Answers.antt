@@ -1,10 +1,10 @@
 use Rattle.std.proofs.Common.{rules, length, ◌≡◌, ℕ, true, false, List, arith, Bool}
 use Rattle.std.specs.Prelude.{if◌then◌else◌, ◌==◌, nat_lt}
 use Rattle.std.proofs.lemmas.Bool.Decides.{nat_tests}
-use Rattle.component_linker.specs.Pairs.{never, once}
-use Rattle.component_linker.specs.Parts.{PartSeen}
-use Rattle.component_linker.specs.Links.{l9, are_few, sites_upto}
-use Rattle.component_linker.proofs.RuleLemmas.{told_in}
+use Rattle.linked_starts.specs.Pairs.{never, once}
+use Rattle.linked_starts.specs.Parts.{PartSeen}
+use Rattle.linked_starts.specs.Links.{l9, are_few, sites_upto}
+use Rattle.linked_starts.proofs.Offers.{told_in}
 use Rattle.component_linker.proofs.whole.l9_within.Goals as goal
 use Rattle.component_file.proofs.Offers.{inside}
 

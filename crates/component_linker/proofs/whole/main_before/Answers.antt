@@ -1,6 +1,6 @@
 use Rattle.std.proofs.Common.{rules, sym}
-use Rattle.component_linker.specs.Links.{has_main}
-use Rattle.component_linker.proofs.RuleLemmas.{none_more, any_settled}
+use Rattle.linked_starts.specs.Links.{has_main}
+use Rattle.linked_starts.proofs.Offers.{any_settled, none_more}
 use Rattle.component_linker.proofs.whole.main_before.Goals as goal
 
 pub returns-then-has_main : goal.returns-then-has_main

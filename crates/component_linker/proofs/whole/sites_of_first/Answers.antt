@@ -1,6 +1,6 @@
 use Rattle.std.proofs.Common.{sym, arith}
-use Rattle.component_linker.specs.Links.{trusted_sites}
-use Rattle.component_linker.proofs.RuleLemmas.{sum_more}
+use Rattle.linked_starts.specs.Links.{trusted_sites}
+use Rattle.linked_starts.proofs.Offers.{sum_more}
 use Rattle.component_linker.proofs.whole.sites_of_first.Goals as goal
 
 pub loop-i-preserved : goal.loop-i-preserved

@@ -1,6 +1,6 @@
 use Rattle.std.proofs.Common.{◌≡◌, ◌≤◌, ◌*◌, take}
 use Rattle.std.specs.Prelude.{sum_by}
-use Rattle.component_linker.specs.Links.{trusted_sites}
+use Rattle.linked_starts.specs.Links.{trusted_sites}
 use Rattle.component_linker.proofs.whole.sites_of_first.Given as goal
 
 abbrev pub invariant-loop-i : goal.invariant-loop-i

@@ -1,10 +1,11 @@
 use Rattle.std.proofs.Common.{[], refl}
 use Rattle.overlay_machine.specs.Starting.{overlay_at}
 use Rattle.overlay_machine.specs.Keeping.{link_of}
-use Rattle.trace_tool.specs.Layout.{layout}
-use Rattle.trace_tool.specs.Runs.{written}
-use Rattle.trace_tool.specs.Cuts.{cut, cut_overlay}
-use Rattle.trace_tool.proofs.Offers.{reached_by, open_is}
+use Rattle.run_lines.specs.Layout.{layout}
+use Rattle.run_lines.specs.Runs.{written}
+use Rattle.run_lines.specs.Cuts.{cut, cut_overlay}
+use Rattle.headline.proofs.Offers.{open_is}
+use Rattle.run_lines.proofs.Offers.{reached_by}
 use Rattle.drawn_runs.specs.Drawn.{text_of}
 use Rattle.drawn_runs.proofs.Lines.{begins}
 use Rattle.drawn_runs.proofs.Dark.{dark_there, open_dark}

@@ -1,6 +1,6 @@
 use Rattle.std.proofs.Common.{arith}
-use Rattle.trace_tool.specs.Layout.{layout}
-use Rattle.trace_tool.specs.Runs.{written}
+use Rattle.run_lines.specs.Layout.{layout}
+use Rattle.run_lines.specs.Runs.{written}
 use Rattle.drawn_runs.specs.Drawn.{text_of}
 use Rattle.drawn_runs.proofs.Lines.{begins}
 use Rattle.drawn_runs.proofs.Dark.{dark_there}

@@ -1,4 +1,4 @@
-use Rattle.flow_check.proofs.Listing.{has_room}
+use Rattle.flow_rules.proofs.Offers.{has_room}
 use Rattle.flow_check.proofs.lists.difference.Goals as goal
 
 pub site_difference-requires-clause-room : goal.site_difference-requires-clause-room

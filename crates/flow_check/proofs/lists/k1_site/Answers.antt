@@ -1,5 +1,5 @@
 use Rattle.std.proofs.Common.{rules}
-use Rattle.flow_check.specs.Lists.{k1}
+use Rattle.flow_rules.specs.Lists.{k1}
 use Rattle.component_check.proofs.Offers.{first_of_is}
 use Rattle.flow_check.proofs.lists.k1_site.Goals as goal
 

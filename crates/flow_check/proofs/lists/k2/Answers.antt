@@ -1,5 +1,5 @@
 use Rattle.std.proofs.Common.{◌∙◌}
-use Rattle.flow_check.proofs.Listing.{difference_first}
+use Rattle.flow_rules.proofs.Offers.{difference_first}
 use Rattle.flow_check.proofs.lists.k2.Goals as goal
 
 pub returns-in-Some : goal.returns-in-Some

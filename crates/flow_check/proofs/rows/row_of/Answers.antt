@@ -1,10 +1,10 @@
 use Rattle.std.proofs.Common.{◌≡◌, ◌∙◌, refl, suc, sym, ap, subst, arith}
-use Rattle.flow_check.specs.declared.walking.Walk.TheVariants.{Before, Ended, Broken}
+use Rattle.flow_rules.specs.declared.flow.Walk.TheVariants.{Before, Ended, Broken}
 use Rattle.std.specs.Option.{option_or}
-use Rattle.flow_check.specs.Places.{declared}
-use Rattle.flow_check.specs.Walk.{Comes, next, next_from}
-use Rattle.flow_check.proofs.Walks.{rises, passed_over, none_behind}
-use Rattle.flow_check.proofs.Rowed.{no_row, row_is, row_none, each_outside, entry_outside}
+use Rattle.flow_rules.specs.Places.{declared}
+use Rattle.flow_rules.specs.Walk.{Comes, next, next_from}
+use Rattle.flow_rules.proofs.Offers.{each_outside, entry_outside, no_row, none_behind, passed_over, rises}
+use Rattle.flow_rules.proofs.Offers.{row_is, row_none}
 use Rattle.flow_check.proofs.rows.row_of.Goals as goal
 
 pub returns-then-begins_entry-clause-outside : goal.returns-then-begins_entry-clause-outside

@@ -1,6 +1,6 @@
 use Rattle.std.proofs.Common.{◌-◌, ◌≤◌}
-use Rattle.flow_check.specs.declared.walking.Walk.TheVariants.{Before}
-use Rattle.flow_check.specs.Walk.{Comes}
+use Rattle.flow_rules.specs.declared.flow.Walk.TheVariants.{Before}
+use Rattle.flow_rules.specs.Walk.{Comes}
 use Rattle.flow_check.proofs.rows.row_of.Given as goal
 
 abbrev pub invariant-loop-at : goal.invariant-loop-at

@@ -1,6 +1,6 @@
 use Rattle.std.proofs.Common.{length, ◌-◌, suc}
-use Rattle.flow_check.specs.declared.walking.Walk.TheVariants.{Before}
-use Rattle.flow_check.specs.Walk.{Comes}
+use Rattle.flow_rules.specs.declared.flow.Walk.TheVariants.{Before}
+use Rattle.flow_rules.specs.Walk.{Comes}
 use Rattle.flow_check.proofs.walking.check_walk.Given as goal
 
 abbrev pub invariant-walk : goal.invariant-walk

@@ -1,6 +1,6 @@
 use Rattle.std.proofs.Common.{Ok, Err, subst, arith}
 use Rattle.std.proofs.lemmas.Result.{err_from_is_err_and}
-use Rattle.component_linker.specs.Answer.{Answers}
+use Rattle.linked_starts.specs.Answer.{Answers}
 use Rattle.image_loader.proofs.ImageLaws.{found_whole}
 use Rattle.image_loader.proofs.Loaded.{fault_told, linking_told, loads_found, loads_only}
 use Rattle.image_loader.proofs.loading.load_image.Goals as goal

@@ -1,6 +1,6 @@
 use Rattle.std.proofs.Common.{◌≡◌, ◌++◌, take}
 use Rattle.std.specs.List.{flat_map, AllByRecursion}
-use Rattle.component_linker.specs.Parts.{IsPart}
+use Rattle.linked_starts.specs.Parts.{IsPart}
 use Rattle.image_loader.specs.Image.{part_bytes}
 use Rattle.image_loader.proofs.writing.push_parts.Given as goal
 

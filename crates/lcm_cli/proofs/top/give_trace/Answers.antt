@@ -3,9 +3,9 @@ use Rattle.outside_io.specs.FilesSeen.{FilesSeen}
 use Rattle.outside_io.specs.SinkSeen.{SinkSeen}
 use Rattle.lcm_machine.specs.Run.{Run as Machine}
 use Rattle.overlay_machine.specs.Seen.{OverlaySeen}
-use Rattle.trace_tool.specs.declared.run.RunEnd.{RunEnd}
-use Rattle.trace_tool.specs.declared.run.RunEnd.TheVariants.{Halted, Failed, Running, WriteFault}
-use Rattle.trace_tool.specs.Traces.{TracesTo, Traces}
+use Rattle.run_lines.specs.declared.run.RunEnd.{RunEnd}
+use Rattle.run_lines.specs.declared.run.RunEnd.TheVariants.{Halted, Failed, Running, WriteFault}
+use Rattle.run_lines.specs.Traces.{TracesTo, Traces}
 use Rattle.refusal_lines.specs.declared.status.Status.{Status}
 use Rattle.lcm_cli.specs.Answers.{Gives, whole, unwritten, outside, end_status, ran_overlay}
 use Rattle.lcm_cli.proofs.top.give_trace.Goals as goal

@@ -1,7 +1,7 @@
 use Rattle.std.proofs.Common.{rules, ◌≡◌, true, subst}
 use Rattle.std.specs.Prelude.{Err}
 use Rattle.std.proofs.lemmas.Result.{err_from_is_err_and}
-use Rattle.component_linker.specs.Accepted.{accepted}
+use Rattle.linked_starts.specs.Accepted.{accepted}
 use Rattle.proc_sources.specs.Sources.{sourced}
 use Rattle.proc_language.specs.declared.dialect.Dialect.TheVariants.{Plain}
 use Rattle.generated_load.specs.Loads.{module_text}

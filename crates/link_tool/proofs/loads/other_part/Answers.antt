@@ -1,5 +1,5 @@
 use Rattle.std.proofs.Common.{false, subst}
-use Rattle.component_linker.specs.Accepted.{accepted}
+use Rattle.linked_starts.specs.Accepted.{accepted}
 use Rattle.file_plans.specs.Plans.{unless, Meets}
 use Rattle.link_tool.specs.Parts.{broken_in}
 use Rattle.link_tool.specs.Loads.{load_other}

@@ -1,4 +1,4 @@
-use Rattle.component_linker.specs.Accepted.{accepted}
+use Rattle.linked_starts.specs.Accepted.{accepted}
 use Rattle.link_tool.specs.Parts.{broken_in}
 use Rattle.file_plans.proofs.Offers.{unless_made, unless_ended}
 use Rattle.link_tool.proofs.parts.accept_at.Goals as goal

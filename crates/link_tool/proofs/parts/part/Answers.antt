@@ -1,5 +1,5 @@
 use Rattle.std.proofs.Common.{subst}
-use Rattle.component_linker.specs.Accepted.{accepted}
+use Rattle.linked_starts.specs.Accepted.{accepted}
 use Rattle.file_plans.specs.Plans.{unless, Meets}
 use Rattle.command_words.specs.Part.{is_trusted_mark}
 use Rattle.link_tool.specs.Parts.{broken_in, component_at, part_at}

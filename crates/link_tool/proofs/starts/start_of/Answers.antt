@@ -1,10 +1,10 @@
 use Rattle.std.proofs.Common.{sym, subst, ◌≡◌}
 use Rattle.std.specs.Prelude.{Ok, Err}
 use Rattle.file_plans.specs.declared.refusal.Refusal.TheVariants.{Rule}
-use Rattle.component_linker.specs.LinkedStarts.{IsStartOf}
+use Rattle.linked_starts.specs.LinkedStarts.{IsStartOf}
 use Rattle.link_tool.specs.Parts.{linked}
-use Rattle.component_linker.proofs.Offers.{keeps_all}
-use Rattle.component_linker.specs.Standing.{placed}
+use Rattle.linked_starts.proofs.Offers.{keeps_all}
+use Rattle.linked_starts.specs.Standing.{placed}
 use Rattle.file_plans.proofs.Offers.{unless_made, unless_ended}
 use Rattle.link_tool.proofs.FirstOf.{linked_none, linked_broken}
 use Rattle.link_tool.proofs.starts.start_of.Goals as goal

@@ -1,4 +1,4 @@
-use Rattle.component_linker.proofs.Offers.{first_broken_in}
+use Rattle.linked_starts.proofs.Offers.{first_broken_in}
 use Rattle.module_rules.specs.Rules.{module_rules, told_as}
 use Rattle.module_rules.proofs.check.check_modules.Goals as goal
 

@@ -1,6 +1,6 @@
 use Rattle.std.proofs.Common.{rules}
-use Rattle.component_linker.specs.Pairs.{never, at_each}
-use Rattle.component_linker.proofs.Offers.{told_in, each_item}
+use Rattle.linked_starts.specs.Pairs.{never, at_each}
+use Rattle.linked_starts.proofs.Offers.{told_in, each_item}
 use Rattle.module_rules.specs.Rules.{module_named, is_private, imports_are_shared}
 use Rattle.module_rules.proofs.imports.private_within.Goals as goal
 

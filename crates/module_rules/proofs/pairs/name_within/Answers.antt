@@ -1,7 +1,7 @@
 use Rattle.std.proofs.Common.{rules}
 use Rattle.std.specs.Prelude.{take}
-use Rattle.component_linker.specs.Pairs.{never, at_each}
-use Rattle.component_linker.proofs.Offers.{told_in, each_before}
+use Rattle.linked_starts.specs.Pairs.{never, at_each}
+use Rattle.linked_starts.proofs.Offers.{told_in, each_before}
 use Rattle.module_rules.specs.Rules.{same_name, names_differ}
 use Rattle.module_rules.proofs.pairs.name_within.Goals as goal
 

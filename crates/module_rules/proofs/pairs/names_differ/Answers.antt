@@ -1,5 +1,5 @@
 use Rattle.std.proofs.Common.{rules}
-use Rattle.component_linker.proofs.Offers.{first_in_is}
+use Rattle.linked_starts.proofs.Offers.{first_in_is}
 use Rattle.module_rules.specs.Rules.{names_differ as rule}
 use Rattle.module_rules.proofs.pairs.names_differ.Goals as goal
 

@@ -1,7 +1,7 @@
 use Rattle.std.proofs.Common.{rules}
 use Rattle.std.specs.Prelude.{not, ◌==◌}
-use Rattle.component_linker.specs.Pairs.{never, once}
-use Rattle.component_linker.proofs.Offers.{told_in}
+use Rattle.linked_starts.specs.Pairs.{never, once}
+use Rattle.linked_starts.proofs.Offers.{told_in}
 use Rattle.module_rules.specs.Rules.{stack_base_of, stacks_agree}
 use Rattle.module_rules.proofs.pairs.stack_within.Goals as goal
 

@@ -1,8 +1,8 @@
 use Rattle.std.proofs.Common.{rules}
 use Rattle.std.specs.Prelude.{take, ◌&&◌}
 use Rattle.std.specs.List.{list_any}
-use Rattle.component_linker.specs.Pairs.{never, once}
-use Rattle.component_linker.proofs.Offers.{told_in}
+use Rattle.linked_starts.specs.Pairs.{never, once}
+use Rattle.linked_starts.proofs.Offers.{told_in}
 use Rattle.module_rules.specs.Rules.{has_main, main_rank, one_main}
 use Rattle.module_rules.proofs.whole.main_within.Goals as goal
 

@@ -1,5 +1,5 @@
 use Rattle.std.proofs.Common.{rules}
-use Rattle.component_linker.proofs.Offers.{first_in_is}
+use Rattle.linked_starts.proofs.Offers.{first_in_is}
 use Rattle.module_rules.specs.Rules.{one_main as rule}
 use Rattle.module_rules.proofs.whole.one_main.Goals as goal
 

@@ -1,7 +1,7 @@
 use Rattle.std.proofs.Common.{rules, arith}
 use Rattle.std.specs.Prelude.{not}
-use Rattle.component_linker.specs.Pairs.{never, once}
-use Rattle.component_linker.proofs.Offers.{told_behind, told_nowhere}
+use Rattle.linked_starts.specs.Pairs.{never, once}
+use Rattle.linked_starts.proofs.Offers.{told_behind, told_nowhere}
 use Rattle.module_rules.specs.Rules.{stack_is_in_place, stack_fits}
 use Rattle.module_rules.proofs.whole.size_within.Goals as goal
 

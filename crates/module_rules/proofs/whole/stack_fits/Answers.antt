@@ -1,5 +1,5 @@
 use Rattle.std.proofs.Common.{rules}
-use Rattle.component_linker.proofs.Offers.{first_in_is}
+use Rattle.linked_starts.proofs.Offers.{first_in_is}
 use Rattle.module_rules.specs.Rules.{stack_fits as rule}
 use Rattle.module_rules.proofs.whole.stack_fits.Goals as goal
 

@@ -1,10 +1,10 @@
 use Rattle.std.proofs.Common.{ap, ◌∙◌, ◌++◌}
 use Rattle.lcm_machine.specs.Run.{plain}
 use Rattle.overlay_machine.specs.Starting.{overlay_at}
-use Rattle.trace_tool.specs.Texts.{lines_text}
-use Rattle.trace_tool.specs.EndLines.{end_line}
-use Rattle.trace_tool.specs.Runs.{run_text, written}
-use Rattle.trace_tool.specs.Traces.{trace_of}
+use Rattle.run_lines.specs.Texts.{lines_text}
+use Rattle.run_lines.specs.EndLines.{end_line}
+use Rattle.run_lines.specs.Runs.{run_text, written}
+use Rattle.run_lines.specs.Traces.{trace_of}
 use Rattle.run_feed.specs.Feed.{fed}
 use Rattle.run_items.proofs.EndLinesSeen.{end_is}
 use Rattle.run_items.proofs.TraceEnds.{trace_ends}

@@ -1,7 +1,7 @@
 use Rattle.std.proofs.Common.{rules, sym, ap, ◌∙◌, subst, ◌≤◌, length}
 use Rattle.std.specs.Prelude.{slice_get}
 use Rattle.cap_words.specs.declared.TheConstants.{LONGEST_NAME}
-use Rattle.trace_tool.specs.Layout.{layout}
+use Rattle.run_lines.specs.Layout.{layout}
 use Rattle.trace_tool.proofs.Names.{entry_is_short, no_entry}
 use Rattle.trace_tool.proofs.find.entry_name.Goals as goal
 

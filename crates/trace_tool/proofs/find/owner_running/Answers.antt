@@ -1,7 +1,7 @@
 -- What halving finds, the definition does.
 use Rattle.std.proofs.Common.{rules, sym}
 use Rattle.std.proofs.lemmas.List.Sorted.{answers_always}
-use Rattle.component_linker.specs.declared.owners.Owner.{Owner}
+use Rattle.linked_starts.specs.declared.owners.Owner.{Owner}
 use Rattle.trace_tool.proofs.Found.{owner_runs, owner_elsewhere, owner_missing}
 use Rattle.trace_tool.proofs.find.owner_running.Goals as goal
 

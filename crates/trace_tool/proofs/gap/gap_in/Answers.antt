@@ -1,6 +1,6 @@
 use Rattle.std.proofs.Common.{rules, leb}
 use Rattle.std.proofs.lemmas.List.Sorted.{IsPartitionPoint-from_clause}
-use Rattle.component_linker.specs.declared.owners.Site.{Site}
+use Rattle.linked_starts.specs.declared.owners.Site.{Site}
 use Rattle.trace_tool.specs.Gaps.{last_word}
 use Rattle.trace_tool.proofs.Between.{gap_between, ends_parted, around_at}
 use Rattle.trace_tool.proofs.gap.gap_in.Goals as goal

@@ -1,6 +1,6 @@
 use Rattle.std.proofs.Common.{ap, subst, ◌∙◌}
-use Rattle.trace_tool.specs.EndLines.{end_line}
-use Rattle.trace_tool.specs.Runs.{EndsBy, end_of}
+use Rattle.run_lines.specs.EndLines.{end_line}
+use Rattle.run_lines.specs.Runs.{EndsBy, end_of}
 use Rattle.trace_tool.proofs.run.end_run.Goals as goal
 
 pub returns : goal.returns

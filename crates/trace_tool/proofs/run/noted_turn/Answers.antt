@@ -2,15 +2,15 @@ use Rattle.std.proofs.Common.{rules, ◌≡◌, ◌∙◌, ℕ, Bool, List, Opti
 use Rattle.outside_io.specs.Writes.{AddsPieces, FailsAtPiece}
 use Rattle.lcm_machine.specs.declared.Step.TheVariants.{Went}
 use Rattle.lcm_machine.specs.Run.{Run, next_state, answer}
-use Rattle.component_linker.specs.Started.{StartSeen}
+use Rattle.linked_starts.specs.Started.{StartSeen}
 use Rattle.trusted_border.specs.declared.events.Event.{Event}
-use Rattle.trace_tool.specs.Layout.{layout}
-use Rattle.trace_tool.specs.Views.{view_of}
-use Rattle.trace_tool.specs.Events.{noted, event_after}
-use Rattle.trace_tool.specs.Lines.{lines_for}
-use Rattle.trace_tool.specs.Texts.{lines_pieces}
-use Rattle.trace_tool.specs.Runs.{watching, line_next}
-use Rattle.trace_tool.proofs.Going.{event_lines}
+use Rattle.run_lines.specs.Layout.{layout}
+use Rattle.run_lines.specs.Views.{view_of}
+use Rattle.run_lines.specs.Events.{noted, event_after}
+use Rattle.run_lines.specs.Lines.{lines_for}
+use Rattle.run_lines.specs.Texts.{lines_pieces}
+use Rattle.run_lines.specs.Runs.{watching, line_next}
+use Rattle.run_lines.proofs.Offers.{event_lines}
 use Rattle.trace_tool.proofs.run.noted_turn.Goals as goal
 
 -- what is said of the lines that are shown is said of those of the instruction

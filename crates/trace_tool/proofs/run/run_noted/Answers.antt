@@ -1,8 +1,8 @@
 use Rattle.std.proofs.Common.{rules, ◌≡◌, ◌<◌, ◌+◌, ◌∙◌, ap, sym, arith, refl, subst}
 use Rattle.lcm_machine.specs.declared.Step.TheVariants.{Went}
-use Rattle.component_linker.specs.Started.{StartSeen}
+use Rattle.linked_starts.specs.Started.{StartSeen}
 use Rattle.trace_tool.specs.Gaps.{IsGap}
-use Rattle.trace_tool.proofs.Going.{Going, going_more, line_fails, ends_early, ends_running}
+use Rattle.run_lines.proofs.Offers.{Going, going_more, line_fails, ends_early, ends_running}
 use Rattle.trace_tool.proofs.InGaps.{going_on, ends_in}
 use Rattle.trace_tool.proofs.run.run_noted.Goals as goal
 

@@ -1,6 +1,6 @@
 use Rattle.std.proofs.Common.{◌≤◌, ◌-◌}
 use Rattle.trace_tool.specs.Gaps.{IsGap}
-use Rattle.trace_tool.proofs.Going.{Going}
+use Rattle.run_lines.proofs.Offers.{Going}
 use Rattle.trace_tool.proofs.run.run_noted.Given as goal
 
 -- the instructions done went, and their lines are written

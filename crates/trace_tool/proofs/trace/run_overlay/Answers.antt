@@ -3,11 +3,11 @@ use Rattle.overlay_machine.proofs.Offers.{weight_some}
 use Rattle.outside_io.specs.Writes.{AddsPieces, FailsAtPiece}
 use Rattle.overlay_machine.specs.declared.overlay.OStep.TheVariants.{Went}
 use Rattle.overlay_machine.specs.Seen.{OverlaySeen, answer_of}
-use Rattle.trace_tool.specs.Views.{overlay_view}
-use Rattle.trace_tool.specs.Lines.{lines_for}
-use Rattle.trace_tool.specs.Texts.{lines_pieces}
-use Rattle.trace_tool.specs.EndLines.{running_text, halted_text, failed_text}
-use Rattle.trace_tool.specs.Traces.{weight_with}
+use Rattle.run_lines.specs.Views.{overlay_view}
+use Rattle.run_lines.specs.Lines.{lines_for}
+use Rattle.run_lines.specs.Texts.{lines_pieces}
+use Rattle.run_lines.specs.EndLines.{running_text, halted_text, failed_text}
+use Rattle.run_lines.specs.Traces.{weight_with}
 use Rattle.trace_tool.proofs.Tracing.{went_weight, going_none, going_more, going_fails, ends_running}
 use Rattle.trace_tool.proofs.Tracing.{ends_halted, ends_failed, start_layout}
 use Rattle.trace_tool.proofs.trace.run_overlay.Goals as goal

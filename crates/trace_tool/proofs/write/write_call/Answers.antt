@@ -1,8 +1,8 @@
 use Rattle.std.proofs.Common.{rules, ◌∙◌}
 use Rattle.trusted_border.specs.declared.events.Event.TheVariants.{Called}
-use Rattle.trace_tool.specs.Layout.{layout}
-use Rattle.trace_tool.specs.Lines.{line_of}
-use Rattle.trace_tool.proofs.LineLemmas.{head_fails, line_written}
+use Rattle.run_lines.specs.Layout.{layout}
+use Rattle.run_lines.specs.Lines.{line_of}
+use Rattle.run_lines.proofs.Offers.{head_fails, line_written}
 use Rattle.trace_tool.proofs.write.write_call.Goals as goal
 
 pub returns-in_err-write : goal.returns-in_err-write

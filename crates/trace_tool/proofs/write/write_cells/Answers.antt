@@ -1,5 +1,5 @@
 use Rattle.outside_io.proofs.Offers.{pieces_none, failed_writes}
-use Rattle.trace_tool.proofs.LineLemmas.{cell_more, cell_fails}
+use Rattle.run_lines.proofs.Offers.{cell_more, cell_fails}
 use Rattle.trace_tool.proofs.write.write_cells.Goals as goal
 
 pub loop-i-init : goal.loop-i-init

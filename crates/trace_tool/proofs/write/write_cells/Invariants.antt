@@ -1,5 +1,5 @@
 use Rattle.outside_io.specs.Writes.{AddsPieces}
-use Rattle.trace_tool.proofs.LineLemmas.{cells_pieces}
+use Rattle.run_lines.proofs.Offers.{cells_pieces}
 use Rattle.trace_tool.proofs.write.write_cells.Given as goal
 
 -- the words of the cells passed are written

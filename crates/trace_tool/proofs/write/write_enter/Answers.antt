@@ -5,8 +5,8 @@ use Rattle.cap_words.specs.declared.Word.{Word}
 use Rattle.cap_words.specs.Text.{word_text_of}
 use Rattle.source_events.specs.declared.FeedBack.{FeedBack}
 use Rattle.source_events.specs.Forms.{back_text}
-use Rattle.trace_tool.specs.Lines.{Args, enter}
-use Rattle.trace_tool.specs.Texts.{field, args_text, line_text}
+use Rattle.run_lines.specs.Lines.{Args, enter}
+use Rattle.run_lines.specs.Texts.{field, args_text, line_text}
 use Rattle.trace_tool.proofs.write.write_enter.Goals as goal
 
 -- the pieces of the line, one behind the other

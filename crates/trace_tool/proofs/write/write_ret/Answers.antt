@@ -1,9 +1,9 @@
 use Rattle.std.proofs.Common.{rules, ◌∙◌, ◌+◌, ◌-◌, refl}
 use Rattle.lcm_isa.specs.declared.Reg.TheVariants.{Dat}
 use Rattle.trusted_border.specs.declared.events.Event.TheVariants.{Returned}
-use Rattle.trace_tool.specs.Layout.{layout}
-use Rattle.trace_tool.specs.Lines.{words_seen, line_of}
-use Rattle.trace_tool.proofs.LineLemmas.{head_fails, word_fails, word_written}
+use Rattle.run_lines.specs.Layout.{layout}
+use Rattle.run_lines.specs.Lines.{words_seen, line_of}
+use Rattle.run_lines.proofs.Offers.{head_fails, word_fails, word_written}
 use Rattle.trace_tool.proofs.write.write_ret.Goals as goal
 
 pub returns-in_err-write : goal.returns-in_err-write

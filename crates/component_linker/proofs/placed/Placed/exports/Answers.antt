@@ -1,7 +1,7 @@
 -- The limits of a component have its exports ascend.
 use Rattle.std.proofs.Common.{sym, subst, None}
-use Rattle.component_linker.specs.Start.{NamesAscend}
-use Rattle.component_linker.proofs.Halved.{exports_ascend}
+use Rattle.linked_starts.specs.Start.{NamesAscend}
+use Rattle.linked_starts.proofs.Offers.{exports_ascend}
 use Rattle.component_linker.proofs.placed.Placed.exports.Goals as goal
 
 pub returns-clause-ascend : goal.returns-clause-ascend

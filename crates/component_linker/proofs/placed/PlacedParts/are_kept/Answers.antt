@@ -1,6 +1,6 @@
 use Rattle.std.proofs.Common.{List, ap, ◌∙◌}
 use Rattle.std.specs.Prelude.{slice_get}
-use Rattle.component_linker.specs.Parts.{PartSeen}
+use Rattle.linked_starts.specs.Parts.{PartSeen}
 use Rattle.component_linker.proofs.placed.PlacedParts.are_kept.Goals as goal
 
 pub returns : goal.returns

@@ -1,7 +1,7 @@
 use Rattle.std.proofs.Common.{List, length, sym, ap, ◌∙◌}
-use Rattle.component_linker.specs.Parts.{PartSeen}
-use Rattle.component_linker.specs.Standing.{free_of}
-use Rattle.component_linker.proofs.Settling.{as_many}
+use Rattle.linked_starts.specs.Parts.{PartSeen}
+use Rattle.linked_starts.specs.Standing.{free_of}
+use Rattle.linked_starts.proofs.Offers.{as_many}
 use Rattle.component_linker.proofs.placed.PlacedParts.len.Goals as goal
 
 pub returns-clause-is : goal.returns-clause-is

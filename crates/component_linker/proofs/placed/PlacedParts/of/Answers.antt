@@ -1,6 +1,6 @@
 use Rattle.std.proofs.Common.{ap, ◌∙◌}
 use Rattle.std.specs.Prelude.{slice_get}
-use Rattle.component_linker.specs.Standing.{placed_from}
+use Rattle.linked_starts.specs.Standing.{placed_from}
 use Rattle.component_linker.proofs.placed.PlacedParts.of.Goals as goal
 
 pub invariant_of-result : goal.invariant_of-result

@@ -1,8 +1,8 @@
 use Rattle.std.proofs.Common.{◌<◌, List, length, sym, ap, subst, ◌∙◌}
 use Rattle.std.specs.Prelude.{slice_get}
-use Rattle.component_linker.specs.Parts.{PartSeen}
-use Rattle.component_linker.specs.Standing.{placed_from, free_of}
-use Rattle.component_linker.proofs.Settling.{as_many}
+use Rattle.linked_starts.specs.Parts.{PartSeen}
+use Rattle.linked_starts.specs.Standing.{placed_from, free_of}
+use Rattle.linked_starts.proofs.Offers.{as_many}
 use Rattle.component_linker.proofs.placed.PlacedParts.part.Goals as goal
 
 pub part_from-requires-clause-within : goal.part_from-requires-clause-within

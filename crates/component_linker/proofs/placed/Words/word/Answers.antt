@@ -3,9 +3,9 @@ use Rattle.std.specs.Prelude.{slice_get, option_map}
 use Rattle.std.proofs.lemmas.List.{length-map}
 use Rattle.std.proofs.lemmas.Option.{slice_get-get_or, slice_get-map}
 use Rattle.cap_words.specs.declared.Word.{Word}
-use Rattle.component_linker.specs.Placing.{moved_word, words_at}
-use Rattle.component_linker.specs.declared.moving.Move.{Move}
-use Rattle.component_linker.proofs.StartHeld.{each_at}
+use Rattle.linked_starts.specs.Placing.{moved_word, words_at}
+use Rattle.linked_starts.specs.declared.moving.Move.{Move}
+use Rattle.linked_starts.proofs.Offers.{each_at}
 use Rattle.component_linker.proofs.placed.Words.word.Goals as goal
 
 moved_at : (m : Move) (ws : List Word) (i : ℕ) {w : Word} → i < length (map (moved_word m) ws)

@@ -1,0 +1,11 @@
+pub mod ReturnLines
+pub mod LinesBracketed
+pub mod TracesAlike
+pub mod Agreeing
+pub mod CallLines
+pub mod LeftAlone
+pub mod alike
+pub mod privacy
+pub mod secrecy
+pub mod InstanceRun
+pub mod Offers

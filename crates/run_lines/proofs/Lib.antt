@@ -1,0 +1,11 @@
+pub mod LineLemmas
+pub mod Going
+pub mod Split
+pub mod TraceTold
+pub mod fit
+pub mod OwnPairs
+pub mod OwnEntries
+pub mod StepTold
+pub mod CutPoints
+pub mod FeedJoins
+pub mod Offers

@@ -1,0 +1,14 @@
+pub mod Layout
+pub mod Views
+pub mod Events
+pub mod Lines
+pub mod Pairs
+pub mod Texts
+pub mod EndLines
+pub mod Runs
+pub mod Traces
+pub mod Told
+pub mod Cuts
+pub mod Fits
+pub mod StepLines
+pub mod Feed

@@ -1,5 +1,0 @@
-use Rattle.trace_tool.proofs.alike.Alike.{lines_agree}
-use Rattle.trace_tool.proofs.laws.linked_lines_agree.Goals as goal
-
-pub returns : goal.returns
-returns c = λ g o t linked inv. lines_agree g linked o t inv
