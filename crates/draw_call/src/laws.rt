@@ -15,9 +15,10 @@ pub fn each_status_has_its_cause()
     traces_are_found();
 }
 
-/// Words and text determine what `stk_draw` answers, if nothing outside fails and memory isn't refused.
+/// Over files that tell their contents, words and text determine what `stk_draw` answers, unless something
+/// outside fails or memory is refused.
 ///
-/// The files tell what they hold, and the text is that of the file of `--feed`.
+/// The text is that of the file of `--feed`.
 pub fn one_answer_is_due()
     ensures { (asked : Option DrawCall) (old : CallSeen) (status : DrawStatus) (new : CallSeen)
         → Answers asked old status new → IsComplete asked old status new }

@@ -22,9 +22,9 @@ use run_lines::laws::traces_tell_steps;
 
 /// If the overlay's invariant holds, each ret line closes the newest open call line, and matches it.
 ///
-/// It has its part, site, base, last and words. A call line is open until a ret line closes it. The lines of
-/// a run of the overlay so lead from the frames that are open at first to those that are open then, and so do
-/// those that a trace writes.
+/// The ret line has the call line's part, site, base, last and words. A call line is open until a ret line
+/// closes it. The lines of a run of the overlay so lead from the frames that are open at first to those that
+/// are open then, and so do those that a trace writes.
 pub fn lines_are_bracketed()
     ensures steps { (g : Link) (o : OState) (t : State Word) → Linked g → Invariant g o t
         → LinesAreBracketed g.layout o }

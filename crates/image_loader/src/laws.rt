@@ -10,13 +10,13 @@ ghost use Rattle.image_loader.specs.Image.{IsImage, image_bytes, SpellsImage};
 ghost use Rattle.image_loader.specs.Reading.{image_of};
 ghost use Rattle.image_loader.specs.Answer.{LinksRead, Loads};
 
-/// Each image has one spelling, of no other image, and none begins another.
+/// Each image has one spelling, of no other, and none begins another.
 pub fn one_spelling()
     ensures { (i j : Image) (a b x y : List ℕ) →
         SpellsImage a i → SpellsImage b j → a ++ x ≡ b ++ y → (i ≡ j) × (a ≡ b) × (x ≡ y) }
 {}
 
-/// Reading the spelling of an image gives that image.
+/// Reading an image's spelling gives that image.
 pub fn spelling_is_read()
     ensures { (i : Image) → IsImage i → image_of (image_bytes i) ≡ Ok i }
 {}
@@ -27,7 +27,7 @@ pub fn what_was_written_is_linked()
         Loads (image_bytes i) answer → LinksRead (Ok i) answer ⊎ (answer ≡ Err NoMemory) }
 {}
 
-/// Bytes after the spelling of an image are `Trailing`, at the first of them.
+/// Bytes after an image's spelling are `Trailing`, at the first of them.
 pub fn no_more_is_read()
     ensures { (i : Image) (byte : ℕ) (more : List ℕ) → IsImage i →
         image_of (image_bytes i ++ byte ∷ more) ≡ Err (Trailing (length (image_bytes i))) }

@@ -21,7 +21,7 @@ use proc_program::laws::{calls_are_kept, programs_keep_limits};
 use proc_sources::laws::sources_are_modules;
 use proc_templates::laws::{components_keep_rules, names_differ};
 
-/// Linked parts are refused for the first of the rules L that they break, and for nothing else.
+/// Parts are refused together for the first of the rules L that they break, and for nothing else.
 ///
 /// It is told in the first part and at the first place there.
 pub fn first_rule_is_told()
@@ -42,8 +42,8 @@ pub fn one_answer()
     reports_are_one();
 }
 
-/// If `mean` of a run's sources over its text, with its stack, ends with 0 to 2, it tells the meaning in the
-/// theorem of sources.
+/// If `mean` of a run's sources over its text, with its size of stack, ends with 0 to 2, it tells the meaning
+/// in the theorem of sources.
 ///
 /// With fuel enough it tells just the events that went out by that text, or, if trusted code was still
 /// running, begins with them. The run may be of the sources, of what was made of them, or of an image

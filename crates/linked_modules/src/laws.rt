@@ -3,7 +3,7 @@ ghost use Rattle.linked_modules.specs.Among.{LinkedModulesKeepRules};
 
 use proc_templates::laws::names_differ;
 
-/// Resolved modules whose components are linked, in their order, keep the rules of modules.
+/// Resolved modules whose components are among linked parts, in their order, keep the rules of modules.
 ///
 /// The size of stack is that of the link.
 pub fn linked_modules_keep_rules()

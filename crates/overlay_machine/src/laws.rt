@@ -47,8 +47,8 @@ pub fn steps_keep_the_invariant()
     ensures { StepsKeep }
 {}
 
-/// No linear address is held twice exactly if each counts at most once over the overlay's registers, cells
-/// and frames.
+/// No linear address is held twice if and only if each counts at most once over the overlay's registers,
+/// cells and frames.
 ///
 /// 'Held twice' is said of the plain state for which the overlay stands, whose frames lie in order. A word of
 /// the overlay counts if it stands for a memory capability over the address, a RetData for one over its
@@ -73,8 +73,9 @@ pub fn linked_runs_agree()
 /// If the invariant holds, no plain instruction touches an open call's frame, nor does the `xjmp` back, up to
 /// each matched point.
 ///
-/// The run is from an overlay of linked parts with the invariant at which the call is open. To touch an
-/// address is to fetch from it, load from it or store to it.
+/// The run is from an overlay of linked parts with the invariant at which the call is open, up to each
+/// matched point at which it is open still. To touch an address is to fetch from it, load from it or store to
+/// it.
 pub fn frames_are_private()
     ensures { AllFramesArePrivate }
 {}

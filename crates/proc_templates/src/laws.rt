@@ -29,7 +29,7 @@ pub fn names_differ()
     ensures { (m : ModuleFields) → name_faults m ≡ [] → NamesDiffer (part_of m).procs }
 {}
 
-/// The component of a program has a site for each of its calls.
+/// A program's component has a site for each of its calls.
 #[tactic(auto, using(crate::proofs::Counted::component_sites))]
 pub fn sites_are_counted()
     ensures { (m : Program) → length (component_of m).sites ≡ part_calls m }
