@@ -27,9 +27,7 @@ use Rattle.overlay_machine.specs.Safe.{IsOpenSeal, IsMet}
 use Rattle.overlay_machine.proofs.Offers.{map_get}
 use Rattle.run_lines.specs.Layout.{part_name, site_of}
 use Rattle.source_events.specs.declared.OutArg.TheVariants.{Int as IntArg, Half}
-use Rattle.source_events.specs.declared.OutEvent.{OutEvent}
-use Rattle.source_events.specs.declared.OutEvent.TheVariants.{LeaveOut}
-use Rattle.source_events.specs.Outs.{out_arg}
+use Rattle.source_events.specs.Outs.{OutLine, leave_out, out_arg}
 use Rattle.run_lines.specs.Feed.{integer_in}
 use Rattle.template_runs.specs.Border.{Opened, code_word, half_word, content_of, ShowsCall, ShowsLeave}
 use Rattle.template_runs.specs.Border.{ShowsBy, by_call, by_leave, Shows}
@@ -116,7 +114,7 @@ record LeaveIs (q : OState) (o : Option ℤ) (back : ℕ → Back) (v : ℤ) (k 
 
 leave_is : (l : Layout) (q : OState) (p : ℕ) (o : Option ℤ) (word : Whence → OWord) (back : ℕ → Back)
     (part : List ℕ) (v : ℤ) (low : Option ℕ) (k : ℕ)
-    → left_shown (LeaveOut (part_name l p) (out_arg o)) (left_with q)
+    → left_shown (leave_out (part_name l p) (out_arg o)) (left_with q)
     ≡ shown_of (event_to word back (Leaves part v low k)) ∷ []
     → LeaveIs q o back v k
 leave_is l q p o word back part v low k e =
@@ -127,14 +125,14 @@ leave_is l q p o word back part v low k e =
     }
   where
     by : (o : Option ℤ)
-        → LeaveOut (part_name l p) (out_arg o) ≡ LeaveOut part (IntArg v) → o ≡ Some v
+        → leave_out (part_name l p) (out_arg o) ≡ leave_out part (IntArg v) → o ≡ Some v
     by None e = absurd (let z : Half ≡ IntArg v = cc in cc)
     by (Some y) e = (let z : IntArg y ≡ IntArg v = cc in let u : y ≡ v = cc in ap Some u)
 
 no_leave : (l : Layout) (q : OState) (i base : ℕ) (s : Shown) → s.went ≡ None → call_shown l q i base ≡ s → ⊥
 no_leave l q i base s n e = let w = ap (λ (z : Shown). z.went) e ∙ n in cc
 
-no_call : (e : OutEvent) (b : Back) (s : Shown) (w : Went) → s.went ≡ Some w
+no_call : (e : OutLine) (b : Back) (s : Shown) (w : Went) → s.went ≡ Some w
     → record { event = e; went = None; back = Some b } ≡ s → ⊥
 no_call e b s w n h = let k = ap (λ (z : Shown). z.went) h ∙ n in cc
 
@@ -366,9 +364,9 @@ module _ (g h : Link) (names : SameNames g h) {calls : CallNames} (by_names : Go
         → ShowsLeave h.layout e end b.after
         → (part : List ℕ) (v : ℤ) (low : Option ℕ) (k : ℕ) (part' : List ℕ) (v' : ℤ) (low' : Option ℕ)
         (k' : ℕ)
-        → left_shown (LeaveOut (part_name g.layout p) (out_arg (Va A0))) (left_with a.after)
+        → left_shown (leave_out (part_name g.layout p) (out_arg (Va A0))) (left_with a.after)
         ≡ shown_of (event_to word back (Leaves part v low k)) ∷ []
-        → left_shown (LeaveOut (part_name h.layout q) (out_arg (Vb A0))) (left_with b.after)
+        → left_shown (leave_out (part_name h.layout q) (out_arg (Vb A0))) (left_with b.after)
         ≡ shown_of (event_to word' back' (Leaves part' v' low' k')) ∷ []
         → event_named calls.one (event_to name (λ (k : ℕ). k) (Leaves part v low k))
         ≡ event_named calls.other (event_to name' (λ (k : ℕ). k) (Leaves part' v' low' k')) → Crossed
@@ -432,7 +430,7 @@ module _ (g h : Link) (names : SameNames g h) {calls : CallNames} (by_names : Go
             refl
             (head_same hx))
         by _ _ ev ew (by_leave p d top sl) t (Calls part site base low m n xs) y hx hy hn =
-            absurd (no_call (LeaveOut (part_name g.layout p) (out_arg (Va A0))) (left_with a.after)
+            absurd (no_call (leave_out (part_name g.layout p) (out_arg (Va A0))) (left_with a.after)
             (shown_of (event_to word back (Calls part site base low m n xs))) _ refl (head_same hx))
         by _ _ ev ew s (by_call d f sc) x (Leaves part v low k) hx hy hn =
             absurd
@@ -440,7 +438,7 @@ module _ (g h : Link) (names : SameNames g h) {calls : CallNames} (by_names : Go
             (shown_of (event_to word' back' (Leaves part v low k))) refl
             (head_same hy))
         by _ _ ev ew s (by_leave p d top sl) x (Calls part site base low m n xs) hx hy hn =
-            absurd (no_call (LeaveOut (part_name h.layout p) (out_arg (Vb A0))) (left_with b.after)
+            absurd (no_call (leave_out (part_name h.layout p) (out_arg (Vb A0))) (left_with b.after)
             (shown_of (event_to word' back' (Calls part site base low m n xs))) _ refl (head_same hy))
         by _ _ ev ew s t (Calls part site base low m n xs) (Leaves part' v' low' k') hx hy hn = absurd cc
         by _ _ ev ew s t (Leaves part v low k) (Calls part' site' base' low' m' n' ys) hx hy hn = absurd cc

@@ -30,10 +30,10 @@ use Rattle.template_runs.specs.Runs.{is_inside}
 use Rattle.proc_semantics.specs.Values.{World}
 use Rattle.proc_semantics.specs.Meaning.{meaning}
 use Rattle.proc_semantics.specs.Marked.{Thing}
-use Rattle.source_events.specs.declared.OutEvent.{OutEvent}
 use Rattle.source_events.specs.declared.Item.{Item}
 use Rattle.source_events.specs.declared.End.{End}
 use Rattle.source_events.specs.declared.End.TheVariants.{Halt as Halted, Fail as Fails, OutOfFuel}
+use Rattle.source_events.specs.Outs.{OutLine, out_line, out_lines}
 use Rattle.source_laws.specs.Seen.{Shown, Back}
 use Rattle.source_laws.specs.Seen as seen
 use Rattle.source_laws.specs.Trace as lines
@@ -223,7 +223,7 @@ module _ (l : Layout) where
   lines_calm q (Some (Entered p k b)) c = absurd c
   lines_calm q (Some (Left p)) c = absurd c
 
-  far_shows : (s : OState) (es : List OutEvent) (is : List Item) (p q : OState) (n j w : ℕ) → Far p n q
+  far_shows : (s : OState) (es : List OutLine) (is : List Item) (p q : OState) (n j w : ℕ) → Far p n q
       → Shows l s j w es is p → (i v : ℕ) × Shows l s i v es is q × (n ≤ v)
   far_shows s es is p _ _ j w (here i) t = (j, w, t, omega arith)
   far_shows s es is p m _ j w (more {n = n} {q = q} f e i) t =
@@ -266,7 +266,7 @@ module _ (world : World) (size : ℕ) (s : StartSeen) (means : MeansAlways world
       let b = length-append xs rest in
       omega (arith, a, b, f, le)
 
-  abbrev Outs : List Shown → List OutEvent
+  abbrev Outs : List Shown → List OutLine
   Outs es = map (λ (x : Shown). x.event) es
 
   abbrev Items : List (Thing OWord Back) → List Item
@@ -285,13 +285,15 @@ module _ (world : World) (size : ℕ) (s : StartSeen) (means : MeansAlways world
       → (q m : OState) × Until L p q × (overlay_step L q ≡ goes m) × (is_inside L m ≡ false)
   goes_out es is p t i told = by (fate L p (told.0 * 200 + 1) i)
     where
-      long : (f : ℕ) → told.0 ≤ f → length (Outs es) + 1 ≤ length (meaning world size (Items is) f).events
+      long : (f : ℕ) → told.0 ≤ f
+          → length (Outs es) + 1 ≤ length (out_lines (meaning world size (Items is) f).events)
       long f le =
           let a = told.1 f le in
           let b = length-map es (λ (x : Shown). x.event) in
-          omega (arith, a, b)
+          let c = length-map (meaning world size (Items is) f).events out_line in
+          omega (arith, a, b, c)
 
-      never : (f : ℕ) → told.0 ≤ f → (meaning world size (Items is) f).events ≡ Outs es → ⊥
+      never : (f : ℕ) → told.0 ≤ f → out_lines (meaning world size (Items is) f).events ≡ Outs es → ⊥
       never f le e = let a = long f le in let b = ap length e in omega (arith, a, b)
 
       by : Fate L p (told.0 * 200 + 1)

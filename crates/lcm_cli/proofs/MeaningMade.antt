@@ -7,7 +7,6 @@ use Rattle.command_words.specs.declared.command.Command.{Command}
 use Rattle.command_words.specs.declared.command.Command.TheVariants.{Mean}
 use Rattle.proc_program.specs.Lower.{part_of}
 use Rattle.proc_semantics.specs.Meaning.{meaning}
-use Rattle.proc_semantics.proofs.Offers.{meanings_leave}
 use Rattle.file_plans.specs.declared.refusal.Refusal.{Refusal}
 use Rattle.file_plans.specs.Plans.{Plan}
 use Rattle.meaning_tool.specs.Subjects.{Subject, told_of, subject_in}
@@ -51,7 +50,6 @@ module _ (words : List PartWord) (size fuel : ℕ) (feed : List ℕ) (read : Lis
             (Ok (Tell (record { modules = s.modules; size = n; feed = s.feed }) fuel))) c.size_is k;
         status_is = h.status_is;
         written = h.written;
-        integers = meanings_leave (map part_of s.modules) size s.feed fuel;
         kept_is = h.kept_is;
       }
 

@@ -8,6 +8,7 @@ use Rattle.proc_language.specs.declared.module.ModuleFields.{ModuleFields}
 use Rattle.proc_program.specs.Lower.{part_of}
 use Rattle.source_events.specs.declared.Item.{Item}
 use Rattle.source_events.specs.declared.Told.{Told}
+use Rattle.source_events.specs.Outs.{out_lines}
 use Rattle.proc_semantics.specs.Meaning.{meaning}
 use Rattle.proc_semantics.specs.Fuel.{Prefix}
 use Rattle.module_rules.specs.Rules.{stack_base_of}
@@ -39,10 +40,10 @@ tells_of modules l steps read old new from fuel before ended after told is statu
       written = adds;
       tells = λ end ends enough. (
         ap (λ t. t.end) is ∙ ends.ends fuel enough,
-        ap (λ t. t.events) is ∙ ends.told fuel enough,
+        ap (λ t. out_lines t.events) is ∙ ends.told fuel enough,
       );
       begins = λ begun enough.
-          subst (λ t. Prefix (went_out from.start steps) t.events) (sym is)
+          subst (λ t. Prefix (went_out from.start steps) (out_lines t.events)) (sym is)
           (begun.begins fuel enough);
     }
 

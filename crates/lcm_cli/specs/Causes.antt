@@ -68,7 +68,6 @@ use Rattle.proc_language.specs.declared.dialect.Dialect.{Dialect}
 use Rattle.source_events.specs.declared.Item.{Item}
 use Rattle.source_events.specs.declared.End.{End}
 use Rattle.source_events.specs.declared.End.TheVariants as meaning_end
-use Rattle.source_events.specs.Outs.{LeaveIntegers}
 use Rattle.proc_semantics.specs.Meaning.{meaning}
 use Rattle.module_rules.specs.Rules.{stack_base_of, ruled}
 use Rattle.run_feed.specs.declared.fault.FeedFault.{FeedFault}
@@ -553,8 +552,6 @@ pub record MeaningGiven (words : List PartWord) (size fuel : ℕ) (feed : List �
       (Ok (Tell (record { modules = modules; size = size; feed = items }) fuel))
   pub status_is : status ≡ meaning_status (meaning (map part_of modules) size items fuel).end
   pub written : Adds old.sink (told_text (meaning (map part_of modules) size items fuel)) new.sink
-  -- each procedure that leaves by it gives an integer
-  pub integers : LeaveIntegers (meaning (map part_of modules) size items fuel).events
   pub kept_is : new.kept ≡ old.kept
 
 -- the file of `--feed` came, the one that was read, its text is a trace of a run, and `ok` was written

@@ -21,6 +21,7 @@ use Rattle.module_rules.specs.Rules.{stack_base_of, ruled}
 use Rattle.run_feed.specs.Feed.{fed}
 use Rattle.source_events.specs.declared.End.{End}
 use Rattle.source_events.specs.declared.Told.{Told}
+use Rattle.source_events.specs.Outs.{out_lines}
 use Rattle.source_starts.specs.Sources.{AreSources}
 use Rattle.source_laws.specs.Sources.{MeaningEnds, MeaningBegins}
 use Rattle.source_starts.specs.RunMeans.{went_out, came_in, RunMeans}
@@ -140,11 +141,11 @@ pub record TellsOfRun (modules : List ModuleFields) (l : Linked) (steps : ℕ) (
   pub tells : (end : End)
       (ends : MeaningEnds (map part_of modules) from.size (came_in from.start steps)
       (went_out from.start steps) end)
-      → ends.enough ≤ fuel → (told.end ≡ end) × (told.events ≡ went_out from.start steps)
+      → ends.enough ≤ fuel → (told.end ≡ end) × (out_lines told.events ≡ went_out from.start steps)
   pub begins :
       (begun : MeaningBegins (map part_of modules) from.size (came_in from.start steps)
       (went_out from.start steps))
-      → begun.enough ≤ fuel → Prefix (went_out from.start steps) told.events
+      → begun.enough ≤ fuel → Prefix (went_out from.start steps) (out_lines told.events)
 
 -- wherever `mean` is asked of the sources of a run, over the text of that run
 abbrev pub MeanTellsRuns : Type 0

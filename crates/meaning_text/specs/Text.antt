@@ -23,7 +23,7 @@ abbrev pub event_text : OutEvent → List ℕ
 event_text (CallOut part site args) =
     codes "call" ++ field_text part ++ field_text (decimal site) ++ out_args_text args ++ newline
 event_text (LeaveOut part value) =
-    codes "leave" ++ field_text part ++ field_text (out_arg_text value) ++ newline
+    codes "leave" ++ field_text part ++ field_text (signed_decimal value) ++ newline
 
 abbrev pub events_text : List OutEvent → List ℕ
 events_text events = flat_map event_text events

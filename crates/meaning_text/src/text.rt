@@ -36,13 +36,13 @@ fn push_call(
 }
 
 // Appends the line of a procedure that goes back to code outside.
-fn push_leave(text: &mut Vec<u8>, part: &Items<u8>, value: OutArg) -> Result<(), AllocError>
+fn push_leave(text: &mut Vec<u8>, part: &Items<u8>, value: i64) -> Result<(), AllocError>
     ensures { OnOk result (text.new.items
         ≡ text.old.items ++ event_text (OutEvent.LeaveOut part.now value)) }
 {
     push(text, "leave")?;
     push_field(text, part.as_slice())?;
-    push_arg(text, value)?;
+    push_integer(text, value)?;
     end_line(text)
 }
 

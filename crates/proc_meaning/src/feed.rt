@@ -14,7 +14,7 @@ use crate::places::{Run, registers};
 use crate::work::{Ahead, Now, Whence, Work};
 use proc_program::Program;
 use proc_semantics::Value;
-use source_events::{End, FeedBack, Item, OutArg, OutEvent};
+use source_events::{End, FeedBack, Item, OutEvent};
 use std::alloc::{AllocError, Global};
 
 // ---- the newest call that waits
@@ -138,7 +138,7 @@ pub(crate) fn leave<'a>(
 {
     match way {
         FeedBack::Out => {
-            let event = OutEvent::LeaveOut(part_name(alloc, world, home)?, OutArg::Int(value));
+            let event = OutEvent::LeaveOut(part_name(alloc, world, home)?, value);
             Ok(Ahead::Said(event, Now::Wait))
         }
         FeedBack::Bad => Ok(Ahead::Stop(End::Fail)),

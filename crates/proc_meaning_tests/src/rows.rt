@@ -126,7 +126,7 @@ fn push_event(text: &mut Vec<u8>, alloc: Global, event: &OutEvent) -> Result<(),
         OutEvent::LeaveOut(part, value) => {
             text.extend_from_slice(b"leave ")?;
             text.extend_from_slice(part.as_slice())?;
-            push_arg(text, alloc, value)?;
+            text.extend_from_slice(format!(in alloc; " {}", value)?.as_bytes())?;
         }
     }
     text.extend_from_slice(b"; ")

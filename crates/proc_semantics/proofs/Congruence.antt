@@ -19,7 +19,6 @@ use Rattle.source_events.specs.declared.Item.TheVariants.{Enter, Ret}
 use Rattle.source_events.specs.declared.FeedBack.{FeedBack}
 use Rattle.source_events.specs.declared.FeedBack.TheVariants as way
 use Rattle.source_events.specs.declared.OutEvent.{OutEvent}
-use Rattle.source_events.specs.declared.OutArg.TheVariants.{Int}
 use Rattle.source_events.specs.declared.OutEvent.TheVariants.{LeaveOut}
 use Rattle.source_events.specs.declared.End.TheVariants.{Halt as Halted}
 use Rattle.proc_semantics.specs.declared.value.Pair.{Pair}
@@ -260,7 +259,7 @@ module _ (R : ℕ → Comp → Comp → Type 0) (kept : IsKept R) (world : World
 
   pub left_kept : (part : List ℕ) (c c' : Option Wait) (left : Option ℕ) (back : FeedBack) → RWait R b c c'
       → RThen R b (left_by world l part c left back) (left_by world l' part c' left back)
-  left_kept part c c' left way.Out h v st = kept.emitting b (LeaveOut part (Int v)) _ _ (same.waits c c' st h)
+  left_kept part c c' left way.Out h v st = kept.emitting b (LeaveOut part v) _ _ (same.waits c c' st h)
   left_kept part c c' left way.Bad h v st = kept.failing b
   left_kept part c c' left (way.Hop p n) h v st = hopped_kept c c' left (found world p n) v st h
   left_kept part c c' left (way.Pair p site base) h v st = returned_kept R kept b c c' left p site base v st h

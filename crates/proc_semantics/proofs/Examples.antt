@@ -65,7 +65,7 @@ deposits = Enter (codes "bank") (codes "deposit") (Some 64)
     ∷ Ret (codes "bank") 0 65595 (int 105) ∷ []
 
 the_bank : meaning bank 64 deposits 1000 ≡ record {
-  events = CallOut (codes "bank") 0 (one 105) ∷ LeaveOut (codes "bank") (Int (pos 105)) ∷ [];
+  events = CallOut (codes "bank") 0 (one 105) ∷ LeaveOut (codes "bank") (pos 105) ∷ [];
   end = Waiting;
   ticks = 19;
 }

@@ -1,7 +1,6 @@
 pub mod Congruence
 pub mod Kin
 pub mod Marked
-pub mod Leaves
 pub mod Recursive
 pub mod Fuelled
 mod Examples

@@ -5,7 +5,5 @@ pub use Rattle.proc_semantics.proofs.Kin.{Kin, RLevel, RWait, item_kept, levels_
 pub use Rattle.proc_semantics.proofs.Kin.{then_less, turn_kept, wait_less}
 -- what is forgotten of the refined meaning leaves the meaning
 pub use Rattle.proc_semantics.proofs.Marked.{mark_laws, marked_forgets, marked_renames}
--- each procedure that leaves gives an integer, as the refined meaning has no other value to tell
-pub use Rattle.proc_semantics.proofs.Leaves.{meanings_leave}
 -- the meaning without levels obeys the recursion, and any level that is enough gives the meaning
 pub use Rattle.proc_semantics.proofs.Recursive.{recursive, starts}

@@ -1,14 +1,13 @@
 -- What more fuel does to a meaning.
 use Rattle.std.specs.Prelude.{◌≡◌, ℕ, ◌+◌, ◌<◌, ◌≤◌, ◌⊎◌, List, ◌++◌}
 use Rattle.source_events.specs.declared.Item.{Item}
-use Rattle.source_events.specs.declared.OutEvent.{OutEvent}
 use Rattle.source_events.specs.declared.End.TheVariants.{OutOfFuel}
 use Rattle.source_events.specs.declared.Told.{Told}
 use Rattle.proc_semantics.specs.Values.{World}
 use Rattle.proc_semantics.specs.Meaning.{meaning}
 
-abbrev pub Prefix : List OutEvent → List OutEvent → Type 0
-Prefix xs ys = (rest : List OutEvent) × (ys ≡ xs ++ rest)
+abbrev pub Prefix : {A : Type 0} → List A → List A → Type 0
+Prefix {A} xs ys = (rest : List A) × (ys ≡ xs ++ rest)
 
 -- no more ticks than the fuel, and as many where it ran out
 abbrev pub Within : ℕ → Told → Type 0

@@ -6,4 +6,3 @@ pub mod Marked
 pub mod Apart
 pub mod Whole
 pub mod Fuel
-pub mod Leaves

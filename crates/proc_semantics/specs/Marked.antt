@@ -199,7 +199,7 @@ plain_arg (OfPair m) = Half
 
 abbrev pub plain_event : {T E : Type 0} → Event T E → OutEvent
 plain_event (Calls part site base low x y xs) = CallOut part site (map plain_arg xs)
-plain_event (Leaves part v low e) = LeaveOut part (Int v)
+plain_event (Leaves part v low e) = LeaveOut part v
 
 abbrev pub plain_report : {T E : Type 0} → Report T E → Told
 plain_report t = record { events = map plain_event t.events; end = t.end; ticks = t.ticks }

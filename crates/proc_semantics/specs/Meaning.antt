@@ -2,7 +2,6 @@
 use Rattle.std.specs.Prelude.{ℕ, ◌+◌, ℤ, Bool, List, [], ◌∷◌, map, length, Option}
 use Rattle.source_events.specs.declared.Item.{Item}
 use Rattle.source_events.specs.declared.FeedBack.{FeedBack}
-use Rattle.source_events.specs.declared.OutArg.TheVariants.{Int}
 use Rattle.source_events.specs.declared.OutEvent.TheVariants.{CallOut, LeaveOut}
 use Rattle.source_events.specs.declared.End.TheVariants.{Halt as Halted, OutOfFuel}
 use Rattle.source_events.specs.declared.Told.{Told}
@@ -38,7 +37,7 @@ plain_domain = record {
   ticking = tick;
   taking = take_item;
   calling = λ part site base w vs m. emit (CallOut part site (value_args vs)) m;
-  leaving = λ part x v m. emit (LeaveOut part (Int v)) m;
+  leaving = λ part x v m. emit (LeaveOut part v) m;
   beginning = λ left need m. m;
   answered = λ base m. m;
   item = λ x. x;

@@ -4,7 +4,6 @@ ghost use Rattle.proc_semantics.specs.Apart.{ToldApart};
 ghost use Rattle.proc_semantics.specs.Marked.{MarkLaws};
 ghost use Rattle.proc_semantics.specs.Whole.{IsRecursive};
 ghost use Rattle.proc_semantics.specs.Fuel.{FuelLaws};
-ghost use Rattle.proc_semantics.specs.Leaves.{MeaningsLeaveIntegers};
 
 /// With more fuel a meaning goes on only if it had run out, so a feed has one end at most.
 ///
@@ -29,12 +28,6 @@ pub fn recursion()
 #[tactic(auto, using(crate::proofs::Marked::mark_laws))]
 pub fn marks_are_beside()
     ensures { MarkLaws }
-{}
-
-/// Each procedure that leaves by a meaning gives an integer.
-#[tactic(auto, using(crate::proofs::Leaves::meanings_leave))]
-pub fn leaves_are_integers()
-    ensures { MeaningsLeaveIntegers }
 {}
 
 /// There are modules that tell the same events of a feed and call with other words.

@@ -13,7 +13,7 @@ fn call(alloc: Global, part: &[u8], site: u32, args: [OutArg; 4]) -> Result<OutE
 
 fn leave(alloc: Global, part: &[u8], value: i64) -> Result<OutEvent, AllocError> {
     let part = Items::of(Vec::from_slice(alloc, part)?);
-    Ok(OutEvent::LeaveOut(part, OutArg::Int(value)))
+    Ok(OutEvent::LeaveOut(part, value))
 }
 
 fn events(alloc: Global) -> Result<Items<OutEvent>, AllocError> {

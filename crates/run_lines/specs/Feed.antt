@@ -11,11 +11,9 @@ use Rattle.source_events.specs.declared.FeedPair.{FeedPair}
 use Rattle.source_events.specs.declared.Item.{Item}
 use Rattle.source_events.specs.declared.Item.TheVariants.{Enter, Ret}
 use Rattle.source_events.specs.declared.OutArg.{OutArg}
-use Rattle.source_events.specs.declared.OutEvent.{OutEvent}
-use Rattle.source_events.specs.declared.OutEvent.TheVariants.{CallOut, LeaveOut}
 use Rattle.source_events.specs.Forms.{no_pairs}
 use Rattle.source_events.specs.Left.{left_in}
-use Rattle.source_events.specs.Outs.{out_arg}
+use Rattle.source_events.specs.Outs.{OutLine, call_out, leave_out, out_arg}
 use Rattle.run_lines.specs.declared.pairs.Pairs.{Pairs}
 use Rattle.run_lines.specs.Layout.{part_name, entry_name}
 use Rattle.run_lines.specs.Views.{View}
@@ -42,15 +40,15 @@ out_args a =
     ∷ out_arg (integer_in a.a2) ∷ out_arg (integer_in a.a3) ∷ []
 
 -- calls and leaves to code that isn't trusted
-abbrev pub out_of : Line → List OutEvent
+abbrev pub out_of : Line → List OutLine
 out_of (call true part site base last args words) = []
-out_of (call false part site base last args words) = CallOut part site (out_args args) ∷ []
+out_of (call false part site base last args words) = call_out part site (out_args args) ∷ []
 out_of (ret inward part site base last a0 words) = []
 out_of (enter part export stk args back) = []
 out_of (pass p0 p1 p2) = []
-out_of (leave part a0) = LeaveOut part (out_arg (integer_in a0)) ∷ []
+out_of (leave part a0) = leave_out part (out_arg (integer_in a0)) ∷ []
 
-abbrev pub outs_of : List Line → List OutEvent
+abbrev pub outs_of : List Line → List OutLine
 outs_of [] = []
 outs_of (x ∷ xs) = out_of x ++ outs_of xs
 

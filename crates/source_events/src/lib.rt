@@ -74,14 +74,13 @@ pub enum OutArg {
     Half,
 }
 
-/// What leaves trusted code.
+/// What leaves the modules.
 #[derive(Drop)]
 pub enum OutEvent {
     /// A call: the name of its part, its number, and what the four argument registers hold.
     CallOut(Items<u8>, u32, [OutArg; 4]),
-    /// The return of a procedure that was entered: the name of its part, and the value, which is an integer
-    /// wherever a module tells it.
-    LeaveOut(Items<u8>, OutArg),
+    /// The return of a procedure that was entered: the name of its part, and the value.
+    LeaveOut(Items<u8>, i64),
 }
 
 /// How a meaning ends.

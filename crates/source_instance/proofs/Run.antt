@@ -44,9 +44,8 @@ use Rattle.source_events.specs.declared.Item.{Item}
 use Rattle.source_events.specs.declared.Item.TheVariants.{Enter, Ret}
 use Rattle.source_events.specs.declared.OutArg.{OutArg}
 use Rattle.source_events.specs.declared.OutArg.TheVariants as given
-use Rattle.source_events.specs.declared.OutEvent.{OutEvent}
-use Rattle.source_events.specs.declared.OutEvent.TheVariants.{CallOut, LeaveOut}
 use Rattle.source_events.specs.declared.End.TheVariants.{Waiting}
+use Rattle.source_events.specs.Outs.{OutLine, call_out, leave_out}
 use Rattle.proc_semantics.specs.Values.{World}
 use Rattle.template_runs.specs.Runs.{is_inside}
 use Rattle.source_laws.specs.Sources.{Shows, MeansAlways, MeaningEnds}
@@ -65,7 +64,7 @@ use Rattle.source_instance.proofs.Leaves as leaves
 
 -- ---- a run that tells lines, and shows what goes out and what comes in
 
-pub record Comes (j : ℕ) (ls : List Line) (es : List OutEvent) (is : List Item) (p : OState)
+pub record Comes (j : ℕ) (ls : List Line) (es : List OutLine) (is : List Item) (p : OState)
     : Type 0 where
   pub reached : Reached L enters.o0 j p
   pub lines : Told L enters.o0 j ls p
@@ -76,14 +75,14 @@ begins : Comes 0 [] [] [] enters.o0
 begins = record { reached = reached.begins; lines = told.none_yet; weight = 0; shows = shown.none_yet }
 
 -- the lines and items of a step's event
-pub record Tells (q : OState) (v : Option Event) (ls : List Line) (es : List OutEvent)
+pub record Tells (q : OState) (v : Option Event) (ls : List Line) (es : List OutLine)
     (is : List Item) : Type 0 where
   pub lines : lines_for L (flat_view L q) v ≡ ls
   pub outs : event_outs L (flat_view L q) v ≡ es
   pub items : event_items L (flat_view L q) v ≡ is
 
 -- one more step, whatever it tells
-tells : {j n : ℕ} {ls more : List Line} {es going : List OutEvent} {is coming : List Item} {p q : OState}
+tells : {j n : ℕ} {ls more : List Line} {es going : List OutLine} {is coming : List Item} {p q : OState}
     {v : Option Event} → Comes j ls es is p → Makes p q n v → Tells q v more going coming
     → Comes (j + n) (ls ++ more) (es ++ going) (is ++ coming) q
 tells {j} {n} {ls} {more} {es} {going} {is} {coming} {p} {q} {v} r m t = record {
@@ -96,7 +95,7 @@ tells {j} {n} {ls} {more} {es} {going} {is} {coming} {p} {q} {v} r m t = record 
   weight = next_weight;
   shows =
       subst (λ (k : ℕ). Shows L enters.o0 (j + k) next_weight (es ++ going) (is ++ coming) q) m.weight
-      (subst (λ (xs : List OutEvent). Shows L enters.o0 (j + weight_of L p) next_weight (es ++ xs)
+      (subst (λ (xs : List OutLine). Shows L enters.o0 (j + weight_of L p) next_weight (es ++ xs)
       (is ++ coming) q) (ap (event_outs L (flat_view L q)) m.event ∙ t.outs)
       (subst (λ (xs : List Item). Shows L enters.o0 (j + weight_of L p) next_weight
       (es ++ event_outs L (flat_view L q) (step_event L p q)) (is ++ xs) q)
@@ -144,11 +143,11 @@ enter_item = Enter (116 ∷ []) (102 ∷ []) (Some 8) ints no_pairs way.Out
 abbrev pub ret_item : Item
 ret_item = Ret (116 ∷ []) 0 116 (Some (pos 0))
 
-abbrev call_out : OutEvent
-call_out = CallOut (116 ∷ []) 0 numbers
+abbrev called_out : OutLine
+called_out = call_out (116 ∷ []) 0 numbers
 
-abbrev leave_out : OutEvent
-leave_out = LeaveOut (116 ∷ []) (given.Int (pos 0))
+abbrev left_out : OutLine
+left_out = leave_out (116 ∷ []) (given.Int (pos 0))
 
 pub enter_told : Tells enters.o8 (Some enters.entry_event) (enter_line ∷ []) [] (enter_item ∷ [])
 unfolding flat owner_of part_name entry_name entry_code call_code return_code
@@ -157,7 +156,7 @@ enter_told = record { lines = refl; outs = refl; items = refl }
 gone : (a : ℕ) → 116 ≤ a → a ≤ 118 → cell calls.taken a ≡ None
 gone a low high = cell-without_in calls.pushed 116 118 a low high
 
-call_told : Tells calls.o26 (Some calls.call_event) (call_line ∷ []) (call_out ∷ []) []
+call_told : Tells calls.o26 (Some calls.call_event) (call_line ∷ []) (called_out ∷ []) []
 unfolding flat beside word_of site_code owner_of part_name site_of entry_code call_code return_code
 call_told = record {
   lines = rw (
@@ -173,7 +172,7 @@ pub ret_told : Tells calls.o27 (Some calls.return_event) (ret_line ∷ []) [] (r
 unfolding flat owner_of part_name site_of entry_code call_code return_code
 ret_told = record { lines = rw (calls.data117, calls.code118); outs = refl; items = refl }
 
-leave_told : Tells leaves.o49 (Some leaves.leave_event) (leave_line ∷ []) (leave_out ∷ []) []
+leave_told : Tells leaves.o49 (Some leaves.leave_event) (leave_line ∷ []) (left_out ∷ []) []
 unfolding flat owner_of part_name entry_code call_code return_code
 leave_told = record { lines = refl; outs = refl; items = refl }
 
@@ -212,10 +211,11 @@ to_call =
     let r15 = tells r14 calls.step23 no_event in
     tells r15 calls.step24 no_event
 
-pub called : Comes (44 + CALL_WORDS) (enter_line ∷ call_line ∷ []) (call_out ∷ []) (enter_item ∷ []) calls.o26
+pub called : Comes (44 + CALL_WORDS) (enter_line ∷ call_line ∷ []) (called_out ∷ [])
+    (enter_item ∷ []) calls.o26
 called = tells to_call calls.call_made call_told
 
-answered : Comes (44 + SITE_WORDS + 1) (enter_line ∷ call_line ∷ ret_line ∷ []) (call_out ∷ [])
+answered : Comes (44 + SITE_WORDS + 1) (enter_line ∷ call_line ∷ ret_line ∷ []) (called_out ∷ [])
     (enter_item ∷ ret_item ∷ []) calls.o27
 answered = tells called calls.return_made ret_told
 
@@ -223,7 +223,7 @@ answered = tells called calls.return_made ret_told
 abbrev pub leaving_at : ℕ
 leaving_at = 44 + SITE_WORDS + 22
 
-pub to_leave : Comes leaving_at (enter_line ∷ call_line ∷ ret_line ∷ []) (call_out ∷ [])
+pub to_leave : Comes leaving_at (enter_line ∷ call_line ∷ ret_line ∷ []) (called_out ∷ [])
     (enter_item ∷ ret_item ∷ []) leaves.o48
 to_leave =
     let r0 = tells answered leaves.step27 no_event in
@@ -249,7 +249,7 @@ to_leave =
     tells r19 leaves.step47 no_event
 
 left : Comes (leaving_at + 1) (enter_line ∷ call_line ∷ ret_line ∷ leave_line ∷ [])
-    (call_out ∷ leave_out ∷ [])
+    (called_out ∷ left_out ∷ [])
     (enter_item ∷ ret_item ∷ []) leaves.o49
 left = tells to_leave leaves.step48 leave_told
 
@@ -285,7 +285,7 @@ world = map part_of (source ∷ [])
 
 -- where it stands outside, the meaning waits
 it_means : MeansAlways world 8 start
-    → MeaningEnds world 8 (enter_item ∷ ret_item ∷ []) (call_out ∷ leave_out ∷ []) Waiting
+    → MeaningEnds world 8 (enter_item ∷ ret_item ∷ []) (called_out ∷ left_out ∷ []) Waiting
 it_means mean = (mean (leaving_at + 1) left.weight _ _ leaves.o49 left.shows).waits stands_outside
 
 abbrev StartsMean : Type 0
@@ -327,10 +327,10 @@ source_there headline agree mean = record {
   left = 8;
   came = came agree;
   outs = numbers;
-  events = call_out ∷ leave_out ∷ [];
+  events = called_out ∷ left_out ∷ [];
   events_are = refl;
   went = ap outs_in (it_writes agree);
   means =
-      subst (λ items. MeaningEnds world 8 items (call_out ∷ leave_out ∷ []) Waiting) (sym (came agree))
+      subst (λ items. MeaningEnds world 8 items (called_out ∷ left_out ∷ []) Waiting) (sym (came agree))
       (it_means (mean (source ∷ []) parts 8 start is_start_of are_sources));
 }

@@ -21,9 +21,8 @@ use Rattle.source_events.specs.declared.FeedPair.TheVariants.{Nothing}
 use Rattle.source_events.specs.declared.Item.TheVariants.{Enter, Ret}
 use Rattle.source_events.specs.declared.OutArg.{OutArg}
 use Rattle.source_events.specs.declared.OutArg.TheVariants as arg
-use Rattle.source_events.specs.declared.OutEvent.{OutEvent}
-use Rattle.source_events.specs.declared.OutEvent.TheVariants.{CallOut, LeaveOut}
 use Rattle.source_events.specs.declared.End.TheVariants.{Waiting}
+use Rattle.source_events.specs.Outs.{OutLine, call_out, leave_out}
 use Rattle.source_laws.specs.Sources.{MeaningEnds}
 use Rattle.source_starts.specs.Sources.{AreSources}
 use Rattle.source_starts.specs.RunMeans.{runs_trusted}
@@ -67,8 +66,8 @@ pub record SourceThere : Type 0 where
       ∷ Ret part site base (Some answer) ∷ []
   -- and this went out: the call, with these arguments, and the leaving
   pub outs : List OutArg
-  pub events : List OutEvent
-  pub events_are : events ≡ CallOut part site outs ∷ LeaveOut part (arg.Int result) ∷ []
+  pub events : List OutLine
+  pub events_are : events ≡ call_out part site outs ∷ leave_out part (arg.Int result) ∷ []
   pub went : outs_of (written start steps) ≡ events
   -- what the modules mean by what came in is that so much goes out, and that they wait for more
   pub means : MeaningEnds (map part_of modules) size

@@ -23,9 +23,7 @@ use Rattle.run_lines.specs.Feed.{integer_in, out_args}
 use Rattle.source_events.specs.declared.Item.{Item}
 use Rattle.source_events.specs.declared.Item.TheVariants.{Enter, Ret}
 use Rattle.source_events.specs.declared.OutArg.TheVariants.{Int}
-use Rattle.source_events.specs.declared.OutEvent.{OutEvent}
-use Rattle.source_events.specs.declared.OutEvent.TheVariants.{CallOut, LeaveOut}
-use Rattle.source_events.specs.Outs.{out_arg}
+use Rattle.source_events.specs.Outs.{OutLine, call_out, leave_out, out_arg, out_lines}
 use Rattle.source_events.specs.declared.End.TheVariants.{OutOfFuel}
 use Rattle.proc_semantics.specs.Values as values
 use Rattle.proc_semantics.specs.Meaning as plain
@@ -49,7 +47,7 @@ pub map-both : {A B : Type 0} (f : A → B) (xs ys : List A) → map f (xs ++ ys
 map-both f [] ys = refl
 map-both f (x ∷ xs) ys = ap (λ z. f x ∷ z) (map-both f xs ys)
 
-abbrev event_of : Shown → OutEvent
+abbrev event_of : Shown → OutLine
 event_of x = x.event
 
 abbrev item_of : Thing OWord Entry → Item
@@ -88,7 +86,7 @@ module _ (l : Layout) where
   outs_line q None = refl
   outs_line q (Some (Called true i base last)) = refl
   outs_line q (Some (Called false i base last)) =
-      ap (λ z. CallOut (part_name l (site_of l i).part) (site_of l i).index z ∷ []) (args_line q)
+      ap (λ z. call_out (part_name l (site_of l i).part) (site_of l i).index z ∷ []) (args_line q)
   outs_line q (Some (Returned inward i base last)) = refl
   outs_line q (Some (Entered part k back)) = refl
   outs_line q (Some (Left part)) = refl
@@ -149,14 +147,15 @@ module _ (l : Layout) where
 
 -- ---- meanings
 
-events_line : (es : List (marked.Event OWord Entry)) → map plain_event es ≡ map event_of (map shown_of es)
+events_line : (es : List (marked.Event OWord Entry))
+    → out_lines (map plain_event es) ≡ map event_of (map shown_of es)
 events_line [] = refl
 events_line (marked.Calls part site base low x y xs ∷ es) =
-    ap (λ z. CallOut part site (map plain_arg xs) ∷ z) (events_line es)
-events_line (marked.Leaves part v low e ∷ es) = ap (λ z. LeaveOut part (Int v) ∷ z) (events_line es)
+    ap (λ z. call_out part site (map plain_arg xs) ∷ z) (events_line es)
+events_line (marked.Leaves part v low e ∷ es) = ap (λ z. leave_out part (Int v) ∷ z) (events_line es)
 
 prefix_line : (out : List Shown) (r : Report) → (rest : List Shown) × (events_of r ≡ out ++ rest)
-    → Prefix (map event_of out) (plain_report r).events
+    → Prefix (map event_of out) (out_lines (plain_report r).events)
 prefix_line out r h =
     (map event_of h.0, events_line r.events ∙ ap (map event_of) h.1 ∙ map-both event_of out h.0)
 
@@ -168,7 +167,7 @@ fits_line (HaltedWith w) out r h = (h.0, h.1, h.2, events_line r.events ∙ ap (
 fits_line Failed out r h = (h.0, events_line r.events ∙ ap (map event_of) h.1)
 
 slow_line : (out : List Shown) (r : Report) → (rest : List Shown) × (out ≡ events_of r ++ rest)
-    → Prefix (plain_report r).events (map event_of out)
+    → Prefix (out_lines (plain_report r).events) (map event_of out)
 slow_line out r h = (
   map event_of h.0,
   ap (map event_of) h.1 ∙ map-both event_of (events_of r) h.0
@@ -192,7 +191,8 @@ forgets world stack t a = record {
   fits = λ f le. subst (good.TellsFinal t.final (map event_of t.out)) (same f)
       (fits_line t.final t.out (marked_meaning OWord Entry world.marks world.parts stack t.items f)
       (a.fits f le));
-  slow = λ f lt. subst (λ z. (z.end ≡ OutOfFuel) × Prefix z.events (map event_of t.out)) (same f) (
+  slow = λ f lt. subst
+      (λ z. (z.end ≡ OutOfFuel) × Prefix (out_lines z.events) (map event_of t.out)) (same f) (
     (a.slow f lt).0,
     slow_line t.out (marked_meaning OWord Entry world.marks world.parts stack t.items f)
         ((a.slow f lt).1),

@@ -60,7 +60,6 @@ use Rattle.proc_semantics.specs.Marked.{Leaves}
 use Rattle.source_events.specs.declared.End.TheVariants.{Fail as Fails}
 use Rattle.template_runs.specs.Border.{GivesBack, Shows, by_leave}
 use Rattle.source_events.specs.declared.OutArg.TheVariants as arg
-use Rattle.source_events.specs.declared.OutEvent.TheVariants.{LeaveOut}
 use Rattle.source_events.specs.Outs.{out_arg}
 use Rattle.template_runs.specs.Runs.{is_inside}
 use Rattle.source_laws.proofs.Follows.{Agrees}
@@ -428,11 +427,11 @@ module _ (scene : Scene) where
               ap (flat g.layout q'.frames) (l.a0 ∙ a.value) in
               let value : out_arg (integer_in ((flat_view g.layout q').reg A0)) ≡ arg.Int v =
               ap (λ z. out_arg (integer_in z)) a0 ∙ rw (a.fits) refl in
-              let shows = ap (λ z. left_shown (LeaveOut z
+              let shows = ap (λ z. left_shown (leave_out z
               (out_arg (integer_in ((flat_view g.layout q').reg A0)))) (left_with q'))
               (names l.owner l.owner_is)
-              ∙ ap (λ z. left_shown (LeaveOut (part_of world t.home) z) (left_with q')) value
-              ∙ ap (left_shown (LeaveOut (part_of world t.home) (arg.Int v)))
+              ∙ ap (λ z. left_shown (leave_out (part_of world t.home) z) (left_with q')) value
+              ∙ ap (left_shown (leave_out (part_of world t.home) (arg.Int v)))
               (gives_same scene p en o q q' v mem a entry l.keeps opened sl half l.frames) in
               let less : 1 + c ≤ c + 100 = omega arith in
               let fr' : q'.frames ≡ under.frames = l.frames ∙ frames in
@@ -443,7 +442,7 @@ module _ (scene : Scene) where
               (go_out g n 1 c (Some (Left l.owner.part))
               (λ low. Leaves (part_of world t.home) v low (back_here g.layout en))
               (record {
-                event = LeaveOut (part_of world t.home) (arg.Int v);
+                event = leave_out (part_of world t.home) (arg.Int v);
                 went = None;
                 back = Some (back_here g.layout en);
               }) q q'

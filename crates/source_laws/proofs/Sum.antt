@@ -12,9 +12,8 @@ use Rattle.run_lines.specs.Layout.{layout}
 use Rattle.run_lines.specs.Views.{flat_view}
 use Rattle.proc_semantics.specs.Values.{World}
 use Rattle.source_events.specs.declared.Item.{Item}
-use Rattle.source_events.specs.declared.OutEvent.{OutEvent}
 use Rattle.source_events.specs.declared.End.TheVariants.{Halt as Halted, Waiting}
-use Rattle.source_events.specs.Outs.{LeaveIntegers}
+use Rattle.source_events.specs.Outs.{OutLine, out_lines, LeaveIntegers}
 use Rattle.proc_semantics.specs.Told.{Comp}
 use Rattle.proc_semantics.specs.Meaning.{meaning}
 use Rattle.source_laws.specs.Trace.{Running, Outside, HaltedWith, Failed, rests, shown, event_outs}
@@ -25,7 +24,7 @@ use Rattle.source_laws.specs.Sources.{Shows, none_yet, and_then, MeaningEnds, Me
 use Rattle.source_laws.specs.Sources.{MeansAt, AgreeingRunsMean}
 use Rattle.source_laws.proofs.Integers.{where_ends, where_begins}
 
-shown_shown : (es fs : List OutEvent) (is ks : List Item) (n m : ℕ) (t : Trace)
+shown_shown : (es fs : List OutLine) (is ks : List Item) (n m : ℕ) (t : Trace)
     → shown es is n (shown fs ks m t) ≡ shown (es ++ fs) (is ++ ks) (n + m) t
 shown_shown es fs is ks n m t =
     let w : n + (m + t.weight) ≡ n + m + t.weight = omega arith in
@@ -49,7 +48,7 @@ module _ (l : Layout) where
   trace_step k p q e = ap (λ x. show l p x (trace l k)) e
 
   -- a run shows what its first steps show, and then the rest
-  pub shows_trace : (o : OState) (j n : ℕ) (es : List OutEvent) (is : List Item) (p : OState)
+  pub shows_trace : (o : OState) (j n : ℕ) (es : List OutLine) (is : List Item) (p : OState)
       → Shows l o j n es is p → (i : ℕ) × ((k : ℕ) → trace l (i + k) o ≡ shown es is n (trace l k p))
   shows_trace o _ _ _ _ _ none_yet = (
     0,
@@ -94,7 +93,7 @@ module _ (world : World) (stack : ℕ) (l : Layout) (o : OState)
   M : Comp
   M fuel feed = meaning world stack feed fuel
 
-  module _ (j n : ℕ) (es : List OutEvent) (is : List Item) (p : OState) (s : Shows l o j n es is p) where
+  module _ (j n : ℕ) (es : List OutLine) (is : List Item) (p : OState) (s : Shows l o j n es is p) where
     -- what is said of the run that ends after these steps, with what comes next
     agrees_at : (k m : ℕ) (f : Final) → trace l k p ≡ rests m f
         → MeaningAgrees 0 (record { out = es; items = is; weight = n + m; final = f })
@@ -162,7 +161,7 @@ module _ (world : World) (stack : ℕ) (l : Layout) (o : OState)
             }) (λ fuel feed. meaning world stack feed fuel))
             (v : ℤ) → (flat_view l p).reg A0 ≡ Int v
             → (f : ℕ) → a.enough ≤ f → ((meaning world stack is f).end ≡ Halted v)
-            × ((meaning world stack is f).events ≡ es)
+            × (out_lines (meaning world stack is f).events ≡ es)
         halted a v e f le =
             let b = a.fits f le in
             let same : Int b.0 ≡ Int v = sym b.1 ∙ e in

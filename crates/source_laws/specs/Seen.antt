@@ -24,9 +24,7 @@ use Rattle.run_lines.specs.Feed.{integer_in}
 use Rattle.source_events.specs.declared.Item.{Item}
 use Rattle.source_events.specs.declared.Item.TheVariants.{Enter, Ret}
 use Rattle.source_events.specs.declared.OutArg.TheVariants as arg
-use Rattle.source_events.specs.declared.OutEvent.{OutEvent}
-use Rattle.source_events.specs.declared.OutEvent.TheVariants.{CallOut, LeaveOut}
-use Rattle.source_events.specs.Outs.{out_arg}
+use Rattle.source_events.specs.Outs.{OutLine, call_out, leave_out, out_arg}
 use Rattle.template_runs.specs.Runs.{is_inside}
 use Rattle.proc_semantics.specs.Marked as marked
 use Rattle.proc_semantics.specs.Marked.{Thing, Arg, Number, OfPair, Report, plain_arg}
@@ -59,22 +57,22 @@ nothing_back = record {
 }
 
 pub record Shown : Type 0 where
-  pub event : OutEvent
+  pub event : OutLine
   pub went : Option Went
   pub back : Option Back
 
-abbrev pub left_shown : OutEvent → Back → List Shown
+abbrev pub left_shown : OutLine → Back → List Shown
 left_shown e b = record { event = e; went = None; back = Some b } ∷ []
 
 -- what the meaning says of it, whatever was wiped
 abbrev pub shown_of : marked.Event OWord Back → Shown
 shown_of (marked.Calls part site base low x y xs) = record {
-  event = CallOut part site (map plain_arg xs);
+  event = call_out part site (map plain_arg xs);
   went = Some (record { base = base; first = x; second = y; args = xs });
   back = None;
 }
 shown_of (marked.Leaves part v low e) =
-    record { event = LeaveOut part (arg.Int v); went = None; back = Some e }
+    record { event = leave_out part (arg.Int v); went = None; back = Some e }
 
 abbrev pub events_of : Report OWord Back → List Shown
 events_of t = map shown_of t.events
@@ -129,7 +127,7 @@ module _ (l : Layout) where
 
   abbrev pub call_shown : OState → ℕ → ℕ → Shown
   call_shown q i base = record {
-    event = CallOut (part_name l (site_of l i).part) (site_of l i).index (map plain_arg (args_shown q));
+    event = call_out (part_name l (site_of l i).part) (site_of l i).index (map plain_arg (args_shown q));
     went = Some (record {
       base = base;
       first = Some q.maps.regs.c1;
@@ -146,7 +144,7 @@ module _ (l : Layout) where
   event_outs q (Some (Returned inward i base last)) = []
   event_outs q (Some (Entered part k back)) = []
   event_outs q (Some (Left part)) =
-      left_shown (LeaveOut (part_name l part) (out_arg (integer_in ((flat_view l q).reg A0))))
+      left_shown (leave_out (part_name l part) (out_arg (integer_in ((flat_view l q).reg A0))))
       (left_with q)
 
   -- an item, with the words where it is an entry

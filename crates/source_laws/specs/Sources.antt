@@ -13,11 +13,10 @@ use Rattle.run_lines.specs.Layout.{layout}
 use Rattle.run_lines.specs.Views.{flat_view}
 use Rattle.proc_semantics.specs.Values.{World}
 use Rattle.source_events.specs.declared.Item.{Item}
-use Rattle.source_events.specs.declared.OutEvent.{OutEvent}
 use Rattle.source_events.specs.declared.End.{End}
 use Rattle.source_events.specs.declared.End.TheVariants.{Halt as Halted, Fail as Fails, Waiting}
 use Rattle.source_events.specs.declared.End.TheVariants.{OutOfFuel}
-use Rattle.source_events.specs.Outs.{LeaveIntegers}
+use Rattle.source_events.specs.Outs.{OutLine, out_lines, LeaveIntegers}
 use Rattle.proc_semantics.specs.Meaning.{meaning}
 use Rattle.proc_semantics.specs.Fuel.{Prefix}
 use Rattle.template_runs.specs.Runs.{is_inside}
@@ -26,9 +25,9 @@ use Rattle.source_laws.specs.Good.{MeaningAgrees}
 
 -- from one overlay a run of this weight comes to another, which is a matched point: of it the weight of the
 -- steps that began in trusted code, what went out of the modules, and the items of the feed
-pub data Shows (l : Layout) (o : OState) : ℕ → ℕ → List OutEvent → List Item → OState → Type 0 where
+pub data Shows (l : Layout) (o : OState) : ℕ → ℕ → List OutLine → List Item → OState → Type 0 where
   none_yet : Shows l o 0 0 [] [] o
-  and_then : {j n : ℕ} {es : List OutEvent} {is : List Item} {p q : OState} → Shows l o j n es is p
+  and_then : {j n : ℕ} {es : List OutLine} {is : List Item} {p q : OState} → Shows l o j n es is p
       → overlay_step l p ≡ goes q
       → Shows l o (j + weight_of l p) (n + weighed (is_inside l p) (weight_of l p))
       (es ++ event_outs l (flat_view l q) (step_event l p q))
@@ -40,29 +39,29 @@ pub data Shows (l : Layout) (o : OState) : ℕ → ℕ → List OutEvent → Lis
 abbrev pub PER_TICK : ℕ
 PER_TICK = 200
 
-module _ (world : World) (size : ℕ) (items : List Item) (events : List OutEvent) where
-  -- an end, with these events, under every large enough fuel
+module _ (world : World) (size : ℕ) (items : List Item) (lines : List OutLine) where
+  -- an end, with the events that these lines tell, under every large enough fuel
   pub record MeaningEnds (end : End) : Type 0 where
     pub enough : ℕ
     pub ends : (fuel : ℕ) → enough ≤ fuel → (meaning world size items fuel).end ≡ end
-    pub told : (fuel : ℕ) → enough ≤ fuel → (meaning world size items fuel).events ≡ events
+    pub told : (fuel : ℕ) → enough ≤ fuel → out_lines (meaning world size items fuel).events ≡ lines
 
   -- under every large enough fuel these events, and perhaps more
   pub record MeaningBegins : Type 0 where
     pub enough : ℕ
-    pub begins : (fuel : ℕ) → enough ≤ fuel → Prefix events (meaning world size items fuel).events
+    pub begins : (fuel : ℕ) → enough ≤ fuel → Prefix lines (out_lines (meaning world size items fuel).events)
 
   -- no end and not more than these events, under a fuel whose ticks pay for fewer instructions than so many
   abbrev pub MeaningTakes : ℕ → Type 0
   MeaningTakes n =
       (fuel : ℕ) → fuel * PER_TICK < n → ((meaning world size items fuel).end ≡ OutOfFuel)
-      × Prefix (meaning world size items fuel).events events
+      × Prefix (out_lines (meaning world size items fuel).events) lines
 
 -- ---- at each matched point
 
 -- at a matched point: where it stands outside, where the next step halts or fails in trusted code, where it
 -- goes on there, and the bound of instructions on a tick; and each procedure that left gave an integer
-pub record MeansAt (world : World) (stack : ℕ) (l : Layout) (n : ℕ) (es : List OutEvent) (is : List Item)
+pub record MeansAt (world : World) (stack : ℕ) (l : Layout) (n : ℕ) (es : List OutLine) (is : List Item)
     (p : OState) : Type 0 where
   pub waits : is_inside l p ≡ false → MeaningEnds world stack is es Waiting
   pub halts : is_inside l p ≡ true → overlay_step l p ≡ halts
@@ -77,7 +76,7 @@ pub record MeansAt (world : World) (stack : ℕ) (l : Layout) (n : ℕ) (es : Li
 -- at each matched point of the run from a start
 abbrev pub MeansAlways : World → ℕ → StartSeen → Type 0
 MeansAlways world stack s =
-    (j n : ℕ) (es : List OutEvent) (is : List Item) (p : OState)
+    (j n : ℕ) (es : List OutLine) (is : List Item) (p : OState)
     → Shows (layout s) (overlay_at s).state j n es is p → MeansAt world stack (layout s) n es is p
 
 -- the meaning agrees with the run of each number of steps

@@ -16,24 +16,22 @@ use Rattle.run_lines.specs.Lines.{args_of, feed_back}
 use Rattle.run_lines.specs.Feed.{integer_in, integers_in, out_args, feed_pairs}
 use Rattle.source_events.specs.declared.Item.{Item}
 use Rattle.source_events.specs.declared.Item.TheVariants.{Enter, Ret}
-use Rattle.source_events.specs.declared.OutEvent.{OutEvent}
-use Rattle.source_events.specs.declared.OutEvent.TheVariants.{CallOut, LeaveOut}
 use Rattle.source_events.specs.Left.{left_in}
-use Rattle.source_events.specs.Outs.{out_arg}
+use Rattle.source_events.specs.Outs.{OutLine, call_out, leave_out, out_arg}
 use Rattle.template_runs.specs.Runs.{is_inside}
 pub use Rattle.run_lines.specs.Cuts.{weighed}
 
 module _ (l : Layout) where
   -- ---- of an event, whose state behind it shows these words
 
-  abbrev pub event_outs : View → Option Event → List OutEvent
+  abbrev pub event_outs : View → Option Event → List OutLine
   event_outs v None = []
   event_outs v (Some (Called true i base last)) = []
   event_outs v (Some (Called false i base last)) =
-      CallOut (part_name l (site_of l i).part) (site_of l i).index (out_args (args_of v)) ∷ []
+      call_out (part_name l (site_of l i).part) (site_of l i).index (out_args (args_of v)) ∷ []
   event_outs v (Some (Returned inward i base last)) = []
   event_outs v (Some (Entered part k back)) = []
-  event_outs v (Some (Left part)) = LeaveOut (part_name l part) (out_arg (integer_in (v.reg A0))) ∷ []
+  event_outs v (Some (Left part)) = leave_out (part_name l part) (out_arg (integer_in (v.reg A0))) ∷ []
 
   abbrev pub event_items : View → Option Event → List Item
   event_items v None = []
@@ -56,12 +54,12 @@ pub data Final : Type 0 where
   Failed : Final
 
 pub record Trace : Type 0 where
-  pub out : List OutEvent
+  pub out : List OutLine
   pub items : List Item
   pub weight : ℕ
   pub final : Final
 
-abbrev pub shown : List OutEvent → List Item → ℕ → Trace → Trace
+abbrev pub shown : List OutLine → List Item → ℕ → Trace → Trace
 shown es is n t =
     record { out = es ++ t.out; items = is ++ t.items; weight = n + t.weight; final = t.final }
 

@@ -19,7 +19,7 @@ use Rattle.run_lines.specs.Cuts as cuts
 use Rattle.run_lines.specs.Feed as line
 use Rattle.run_lines.specs.Feed.{OutsJoin, ItemsJoin, EntriesAreItems}
 use Rattle.source_events.specs.declared.Item.{Item}
-use Rattle.source_events.specs.declared.OutEvent.{OutEvent}
+use Rattle.source_events.specs.Outs.{OutLine}
 use Rattle.template_runs.specs.Runs.{is_inside}
 use Rattle.source_laws.specs.Trace.{event_outs, event_items, weighed}
 use Rattle.source_laws.specs.Sources as runs
@@ -76,7 +76,7 @@ module _ (l : Layout) (o : OState) (join : OutsJoin) (items_join : ItemsJoin) (e
       )
 
 -- steps that show something lead to where they come to
-pub shows_lead : (l : Layout) (o : OState) (j n : ℕ) (es : List OutEvent) (is : List Item) (p : OState)
+pub shows_lead : (l : Layout) (o : OState) (j n : ℕ) (es : List OutLine) (is : List Item) (p : OState)
     → Shows l o j n es is p → Leads l o j n p
 shows_lead l o _ _ _ _ _ runs.none_yet = cuts.no_step
 shows_lead l o _ _ _ _ q (runs.and_then {j = j} {n = n} {es = es} {is = is} {p = p} h e) =

@@ -20,9 +20,8 @@ use Rattle.run_lines.specs.Cuts.{cut, cut_overlay, trusted_weight}
 use Rattle.proc_language.specs.declared.module.ModuleFields.{ModuleFields}
 use Rattle.proc_program.specs.Lower.{part_of}
 use Rattle.source_events.specs.declared.Item.{Item}
-use Rattle.source_events.specs.declared.OutEvent.{OutEvent}
 use Rattle.source_events.specs.declared.End.TheVariants.{Halt, Fail, Waiting}
-use Rattle.source_events.specs.Outs.{LeaveIntegers}
+use Rattle.source_events.specs.Outs.{OutLine, LeaveIntegers}
 use Rattle.proc_semantics.specs.Values.{World}
 use Rattle.source_laws.specs.Sources.{Shows, MeaningEnds, MeaningBegins, MeaningTakes}
 use Rattle.source_starts.specs.Sources.{AreSources}
@@ -40,7 +39,7 @@ abbrev pub trusted_with : StartSeen → ℕ → ℕ
 trusted_with s n = trusted_weight s n + weight_of (layout s) (cut_overlay s n)
 
 -- what went out of the modules by the lines that so many instructions write
-abbrev pub went_out : StartSeen → ℕ → List OutEvent
+abbrev pub went_out : StartSeen → ℕ → List OutLine
 went_out s n = outs_of (written s n)
 
 -- and what came in

@@ -7,7 +7,6 @@ use Rattle.source_events.specs.declared.Item.{Item}
 use Rattle.source_events.specs.declared.Item.TheVariants.{Enter, Ret}
 use Rattle.source_events.specs.declared.FeedBack.{FeedBack}
 use Rattle.source_events.specs.declared.FeedBack.TheVariants as way
-use Rattle.source_events.specs.declared.OutArg.TheVariants.{Int}
 use Rattle.source_events.specs.declared.OutEvent.TheVariants.{CallOut, LeaveOut}
 use Rattle.source_events.specs.declared.End.TheVariants.{Halt as Halted, OutOfFuel}
 use Rattle.proc_language.specs.declared.tree.Name.{Name}
@@ -260,7 +259,7 @@ module _ (modules : List TokenModuleFields) where
 
   -- a procedure of this part, which was entered from outside, ends with a value
   abbrev pub left_by : Level → List ℕ → Option Wait → Option ℕ → FeedBack → Then
-  left_by l part c left way.Out v st = emit (LeaveOut part (Int v)) (l.wait c st)
+  left_by l part c left way.Out v st = emit (LeaveOut part v) (l.wait c st)
   left_by l part c left way.Bad v st = fails
   left_by l part c left (way.Hop p n) v st = or_fail (found world p n) (λ t. l.hop c left t v st)
   left_by l part c left (way.Pair p site base) v st =

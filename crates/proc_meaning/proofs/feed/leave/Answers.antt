@@ -1,5 +1,4 @@
 use Rattle.std.proofs.Common.{rules, ◌≡◌, [], ◌∷◌, sym, ap, ap₂, ◌∙◌, reverse, w64, to_z, of_z}
-use Rattle.source_events.specs.declared.OutArg.TheVariants.{Int}
 use Rattle.source_events.specs.declared.OutEvent.TheVariants.{LeaveOut}
 use Rattle.proc_semantics.specs.declared.value.Value.TheVariants.{Num}
 use Rattle.proc_meaning.specs.declared.work.Now.TheVariants as now
@@ -18,9 +17,9 @@ returns-in_ok-part_name-in-Out-clause-same c st =
     let w = waiting world (reverse items) in let v = c.args.value in
     let z : to_z w64 (of_z w64 v) ≡ v = search rules in
     ap (λ b. left_by world (whole world) (part_name_of world c.args.home) w c.args.left b v st) c.in-Out.is
-    ∙ ap₂ (λ n v. emit (LeaveOut n (Int v)) ((whole world).wait w st)) (sym c.in_ok-part_name-in-Out.ensures)
+    ∙ ap₂ (λ n v. emit (LeaveOut n v) ((whole world).wait w st)) (sym c.in_ok-part_name-in-Out.ensures)
     (sym z)
-    ∙ ap (emit (LeaveOut c.in_ok-part_name-in-Out.field-0 (Int (to_z w64 (of_z w64 v)))))
+    ∙ ap (emit (LeaveOut c.in_ok-part_name-in-Out.field-0 (to_z w64 (of_z w64 v))))
     (sym (kept world now.Wait items c.args.run.now st))
 
 pub returns-in_ok-registers-in-Hop-clause-same : goal.returns-in_ok-registers-in-Hop-clause-same
