@@ -72,27 +72,9 @@ fn events_are_written(rt: HostRuntime) -> Result<(), Fail> {
 
 #[test]
 fn ends_are_written(rt: HostRuntime) -> Result<(), Fail> {
-    end_is_written(
-        &rt,
-        rt.alloc(),
-        End::Halt(7),
-        23,
-        b"halt 7 ticks 23\n",
-    )?;
-    end_is_written(
-        &rt,
-        rt.alloc(),
-        End::Halt(-8),
-        1,
-        b"halt -8 ticks 1\n",
-    )?;
-    end_is_written(
-        &rt,
-        rt.alloc(),
-        End::Waiting,
-        0,
-        b"waiting ticks 0\n",
-    )?;
+    end_is_written(&rt, rt.alloc(), End::Halt(7), 23, b"halt 7 ticks 23\n")?;
+    end_is_written(&rt, rt.alloc(), End::Halt(-8), 1, b"halt -8 ticks 1\n")?;
+    end_is_written(&rt, rt.alloc(), End::Waiting, 0, b"waiting ticks 0\n")?;
     end_is_written(
         &rt,
         rt.alloc(),
