@@ -31,7 +31,7 @@ pub fn passers_are_called_back()
     same_meanings_are_not_told_apart();
 }
 
-/// There are two modules whose main calls out, which mean the same and first let go alike.
+/// There are two modules, whose main calls out, that mean the same and first let go alike.
 ///
 /// The one lets go for the first time by that call, and so does the other, with the same shown. Their main
 /// calls out with 6, or with 3 + 3, and halts with the answer. There are links of both beside each other;

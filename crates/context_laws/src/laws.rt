@@ -89,7 +89,7 @@ pub fn first_arrivals_are_alike()
     sources_leave_nothing();
 }
 
-/// With an untrusted main code outside takes the same steps from the starts on, as long as sources show it
+/// With an untrusted main, code outside takes the same steps from both starts on, as long as sources show it
 /// the same.
 ///
 /// The links are beside each other. Untrusted parts import the same exports, or twins, in both.

@@ -15,7 +15,7 @@ pub fn words_are_read()
     ensures { WordsAreRead }
 {}
 
-/// A text is read as where a return leads, or as a pair, exactly if it is its text.
+/// What a return would do, and what a pair is, are each read of their text alone.
 pub fn jumps_are_read()
     ensures backs { BacksAreRead }
     ensures pairs { HandedAreRead }

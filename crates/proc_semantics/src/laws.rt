@@ -14,9 +14,10 @@ pub fn fuel_laws()
     ensures { FuelLaws }
 {}
 
-/// A meaning without bounds obeys the recursion, and the meaning begins with it.
+/// The meaning obeys its recursion without the levels that its definition counts down.
 ///
-/// So no bound that stands in a definition is one of the meaning's.
+/// What goes without levels obeys the recursion, and the meaning begins with it. So no bound that stands in a
+/// definition is one of the meaning's.
 #[tactic(auto, using(crate::proofs::Recursive::recursive))]
 pub fn recursion()
     ensures { (world : World) → IsRecursive world }
