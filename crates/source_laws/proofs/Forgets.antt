@@ -193,10 +193,10 @@ forgets world stack t a = record {
       (a.fits f le));
   slow = λ f lt. subst
       (λ z. (z.end ≡ OutOfFuel) × Prefix (out_lines z.events) (map event_of t.out)) (same f) (
-    (a.slow f lt).0,
-    slow_line t.out (marked_meaning OWord Entry world.marks world.parts stack t.items f)
-        ((a.slow f lt).1),
-  );
+        (a.slow f lt).0,
+        slow_line t.out (marked_meaning OWord Entry world.marks world.parts stack t.items f)
+            ((a.slow f lt).1),
+      );
 }
   where
     same : (f : ℕ) → plain_report (marked_meaning OWord Entry world.marks world.parts stack t.items f)
