@@ -86,7 +86,7 @@ fn int_into(row: Row, r: Reg, may: bool) -> Flow
     gets(row, r, Kind::Int)
 }
 
-#[tactic(auto, unfolding(flow_rules::specs::Flow::flow, crate::specs::Flow::ask))]
+#[tactic(auto, unfolding(flow_rules::specs::Flow::flow, flow_rules::specs::Flow::ask))]
 fn flow_move(at: u32, row: Row, r1: Reg, r2: Reg) -> Flow
     ensures { result ≡ flow (Instr.Move r1 (Operand.R r2)) at row }
 {
@@ -99,7 +99,7 @@ fn flow_move(at: u32, row: Row, r1: Reg, r2: Reg) -> Flow
     gets(take_from(row, r2), r1, source(at, &row, r2))
 }
 
-#[tactic(auto, unfolding(flow_rules::specs::Flow::flow, crate::specs::Flow::ask))]
+#[tactic(auto, unfolding(flow_rules::specs::Flow::flow, flow_rules::specs::Flow::ask))]
 fn flow_set(at: u32, row: Row, r1: Reg, z: i32) -> Flow
     ensures { result ≡ flow (Instr.Move r1 (Operand.Imm z)) at row }
 {
@@ -109,7 +109,7 @@ fn flow_set(at: u32, row: Row, r1: Reg, z: i32) -> Flow
     gets(row, r1, Kind::Int)
 }
 
-#[tactic(auto, unfolding(flow_rules::specs::Flow::flow, crate::specs::Flow::ask))]
+#[tactic(auto, unfolding(flow_rules::specs::Flow::flow, flow_rules::specs::Flow::ask))]
 fn flow_store(at: u32, row: Row, r1: Reg, r2: Reg) -> Flow
     ensures { result ≡ flow (Instr.Store r1 r2) at row }
 {
@@ -119,7 +119,7 @@ fn flow_store(at: u32, row: Row, r1: Reg, r2: Reg) -> Flow
     Flow::Flows(None, Some(take_from(row, r2)))
 }
 
-#[tactic(auto, unfolding(flow_rules::specs::Flow::flow, crate::specs::Flow::ask))]
+#[tactic(auto, unfolding(flow_rules::specs::Flow::flow, flow_rules::specs::Flow::ask))]
 fn flow_load(at: u32, row: Row, r1: Reg, r2: Reg) -> Flow
     ensures { result ≡ flow (Instr.Load r1 r2) at row }
 {
@@ -132,7 +132,7 @@ fn flow_load(at: u32, row: Row, r1: Reg, r2: Reg) -> Flow
     gets(row, r1, Kind::Any)
 }
 
-#[tactic(auto, unfolding(flow_rules::specs::Flow::flow, crate::specs::Flow::ask))]
+#[tactic(auto, unfolding(flow_rules::specs::Flow::flow, flow_rules::specs::Flow::ask))]
 fn flow_jmp(at: u32, row: Row, r1: Reg) -> Flow
     ensures { result ≡ flow (Instr.Jmp r1) at row }
 {
@@ -142,7 +142,7 @@ fn flow_jmp(at: u32, row: Row, r1: Reg) -> Flow
     }
 }
 
-#[tactic(auto, unfolding(flow_rules::specs::Flow::flow, crate::specs::Flow::ask))]
+#[tactic(auto, unfolding(flow_rules::specs::Flow::flow, flow_rules::specs::Flow::ask))]
 fn flow_jnz(at: u32, row: Row, r1: Reg, r2: Reg) -> Flow
     ensures { result ≡ flow (Instr.Jnz r1 r2) at row }
 {
@@ -191,7 +191,7 @@ fn cca_of(row: Row, r: Reg, kind: Kind, n: Operand) -> Flow
     }
 }
 
-#[tactic(auto, unfolding(flow_rules::specs::Flow::flow, crate::specs::Flow::ask))]
+#[tactic(auto, unfolding(flow_rules::specs::Flow::flow, flow_rules::specs::Flow::ask))]
 fn flow_cca(at: u32, row: Row, r1: Reg, n: Operand) -> Flow
     ensures { result ≡ flow (Instr.Cca r1 n) at row }
 {
@@ -229,7 +229,7 @@ fn shows_nothing(row: &Row) -> bool
     HANDED.iter().all(|r| below_any(kind_of(row, *r)))
 }
 
-#[tactic(auto, unfolding(flow_rules::specs::Flow::flow, crate::specs::Flow::ask))]
+#[tactic(auto, unfolding(flow_rules::specs::Flow::flow, flow_rules::specs::Flow::ask))]
 fn flow_xjmp(at: u32, row: Row, r1: Reg, r2: Reg) -> Flow
     ensures { result ≡ flow (Instr.Xjmp r1 r2) at row }
 {
