@@ -9,8 +9,8 @@ sites-requires-clause-separate c = separate c.args.parts.now c.args.size c.requi
 pub owners-requires-clause-separate : goal.owners-requires-clause-separate
 owners-requires-clause-separate c = separate c.args.parts.now c.args.size c.requires.closed c.requires.apart
 
-pub invariant_of-result : goal.invariant_of-result
-invariant_of-result c =
+pub of-requires : goal.of-requires
+of-requires c =
     are_laid c.args.parts.now c.requires.closed c.in_ok-owners.owners c.in_ok-owners.ensures
     (in_order c.args.parts.now c.in_ok-sites.sites c.requires.closed
     (separate c.args.parts.now c.args.size c.requires.closed c.requires.apart) c.in_ok-sites.ensures)
