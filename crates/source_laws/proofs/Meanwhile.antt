@@ -60,7 +60,7 @@ use Rattle.proc_semantics.specs.Marked.{Leaves}
 use Rattle.source_events.specs.declared.End.TheVariants.{Fail as Fails}
 use Rattle.template_runs.specs.Border.{GivesBack, Shows, by_leave}
 use Rattle.source_events.specs.declared.OutArg.TheVariants as arg
-use Rattle.source_events.specs.Outs.{out_arg}
+use Rattle.source_events.specs.Outs.{leave_out, out_arg}
 use Rattle.template_runs.specs.Runs.{is_inside}
 use Rattle.source_laws.proofs.Follows.{Agrees}
 use Rattle.source_laws.proofs.Agreeing.{waits}
