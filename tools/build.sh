@@ -2,8 +2,8 @@
 # date.
 #
 # The program's crates are copied, without their edits, to a folder of their own: a repository in which the
-# gate's command `rt ci` proves them, several at a time, builds the program, and runs it on its example. What it
-# proved it keeps beside the kit, where a later build finds it.
+# gate's command `rt ci` proves them, several at a time, builds the program, and runs it on its example. What
+# it proved some kits keep, and a later build then finds it.
 
 # Ends what runs, removes the copy, and stops with the status $1.
 end_build() {
