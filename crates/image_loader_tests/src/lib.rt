@@ -1,7 +1,0 @@
-//! Tests of images, apart from them: a crate with tests is proved twice.
-#![tactic(auto)]
-
-#[cfg(test)]
-mod cases;
-#[cfg(test)]
-mod tests;

@@ -1,7 +1,0 @@
-//! Tests of the overlay machine, apart from it: a crate with tests is proved twice.
-#![tactic(auto)]
-
-#[cfg(test)]
-mod tests;
-#[cfg(test)]
-mod trusted;
