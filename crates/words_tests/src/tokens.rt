@@ -1,5 +1,4 @@
-//! What no clause says: that the definitions which the clauses cite mean what they should. Each
-//! place and each value was worked out by hand.
+//! The tokens of texts, each with its place, which was worked out by hand. Faults of texts are in `rows`.
 use std::alloc::Global;
 use std::process::Abort;
 use std::test::Fail;
@@ -112,47 +111,6 @@ const TOKENS: &[(Text, Tokens)] = &[
     (&[(1, b"#"), (511, b"\xff")], &[]),
 ];
 
-const FAULTS: &[(Text, ScanFault)] = &[
-    (&[(1, b"A")], BadByte(0)),
-    (&[(1, b"a \x00")], BadByte(2)),
-    (&[(1, b"a\nb!c#!")], BadByte(3)),
-    (&[(1, b"9223372036854775809")], NumberTooLarge(0)),
-    (&[(1, b"x1 9223372036854775810\n")], NumberTooLarge(3)),
-    // 2^64, and 5 more.
-    (&[(1, b"18446744073709551616")], NumberTooLarge(0)),
-    (&[(1, b"18446744073709551621")], NumberTooLarge(0)),
-    (&[(400, b"9")], NumberTooLarge(0)),
-    // The first of two.
-    (&[(1, b"\" A")], BadByte(0)),
-    (&[(1, b"! 9223372036854775809")], BadByte(0)),
-    (&[(1, b"9223372036854775809 !")], NumberTooLarge(0)),
-    // Lines of 513 bytes and more.
-    (&[(513, b"a")], LineTooLong(1)),
-    (&[(513, b" "), (1, b"\n")], LineTooLong(1)),
-    (&[(2, b"\n"), (513, b" ")], LineTooLong(3)),
-    (&[(1, b"#"), (512, b"\xff")], LineTooLong(1)),
-    (&[(512, b" "), (1, b"\r\n")], LineTooLong(1)),
-    (&[(511, b" "), (1, b"==")], LineTooLong(1)),
-    (&[(500, b" "), (1, b"9223372036854775808")], LineTooLong(1)),
-    // A fault before the 513th byte, at it, and behind it.
-    (&[(511, b" "), (1, b"! ")], BadByte(511)),
-    (&[(512, b" "), (1, b"!")], BadByte(512)),
-    (&[(513, b" "), (1, b"!")], LineTooLong(1)),
-    (
-        &[(500, b" "), (1, b"9223372036854775809")],
-        NumberTooLarge(500),
-    ),
-    (
-        &[(512, b" "), (1, b"9223372036854775809")],
-        NumberTooLarge(512),
-    ),
-    (&[(513, b" "), (1, b"9223372036854775809")], LineTooLong(1)),
-    // A fault in the line before, and in the line behind.
-    (&[(1, b"!\n"), (513, b" ")], BadByte(0)),
-    (&[(1, b"a\n"), (513, b" "), (1, b"\n!")], LineTooLong(2)),
-    (&[(512, b" "), (1, b"\n!")], BadByte(513)),
-];
-
 // The tokens of a text that is written in pieces.
 fn scanned(rt: &impl Abort, alloc: Global, text: Text) -> Result<Vec<Token>, ScanFault> {
     let mut bytes = Vec::new(alloc);
@@ -187,21 +145,6 @@ fn has_tokens(
 fn a_text_has_its_tokens(rt: HostRuntime) -> Result<(), Fail> {
     for (text, wanted) in TOKENS {
         assert!(&rt; has_tokens(&rt, rt.alloc(), text, wanted)?, "{text:?}");
-    }
-    Ok(())
-}
-
-fn fault_of(rt: &impl Abort, alloc: Global, text: Text) -> Option<ScanFault> {
-    match scanned(rt, alloc, text) {
-        Ok(_) => None,
-        Err(fault) => Some(fault),
-    }
-}
-
-#[test]
-fn a_text_has_its_first_fault(rt: HostRuntime) -> Result<(), Fail> {
-    for (text, wanted) in FAULTS {
-        assert_eq!(&rt; fault_of(&rt, rt.alloc(), text), Some(*wanted), "{text:?}");
     }
     Ok(())
 }

@@ -1,5 +1,0 @@
-//! Tests of tokens, apart from them: a crate with tests is proved twice.
-#![tactic(auto)]
-
-#[cfg(test)]
-mod tests;
