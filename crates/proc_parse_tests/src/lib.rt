@@ -1,5 +1,0 @@
-//! Tests of sources, apart from their parser: a crate with tests is proved twice.
-#![tactic(auto)]
-
-#[cfg(test)]
-mod tests;
