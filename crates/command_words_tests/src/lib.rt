@@ -1,5 +1,0 @@
-//! Tests of command words, apart from them: a crate with tests is proved twice.
-#![tactic(auto)]
-
-#[cfg(test)]
-mod tests;
