@@ -5,7 +5,7 @@ use proc_language::Module;
 use proc_meaning::meaning;
 use proc_parse::parse;
 use run_feed::read_feed;
-use source_events::{Item, End, OutArg, OutEvent, Told};
+use source_events::{End, Item, OutArg, OutEvent, Told};
 use std::alloc::{AllocError, Global};
 use std::process::Abort;
 use std::test::Fail;
