@@ -6,18 +6,18 @@ ghost use Rattle.component_file.specs.Limits.{IsComponent};
 ghost use Rattle.component_file.specs.Spelling.{SpellsComponent, spelling};
 ghost use Rattle.component_file.specs.Reading.{decoded};
 
-/// Each component has one spelling, of no other component, and none begins another.
+/// Each component has one spelling, of no other, and none begins another.
 pub fn one_spelling()
     ensures { (c d : ComponentFields) (a b x y : List ℕ) →
         SpellsComponent a c → SpellsComponent b d → a ++ x ≡ b ++ y → (c ≡ d) × (a ≡ b) × (x ≡ y) }
 {}
 
-/// Decoding the spelling of a component gives that component.
+/// Decoding a component's spelling gives that component.
 pub fn spelling_is_read()
     ensures { (c : ComponentFields) → IsComponent c → decoded (spelling c) ≡ Ok c }
 {}
 
-/// Bytes after the spelling of a component are `Trailing`, at the first of them.
+/// Bytes after a component's spelling are `Trailing`, at the first of them.
 pub fn no_more_is_read()
     ensures { (c : ComponentFields) (byte : ℕ) (more : List ℕ) →
         IsComponent c → decoded (spelling c ++ byte ∷ more) ≡ Err (Trailing (length (spelling c))) }

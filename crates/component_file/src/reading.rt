@@ -119,7 +119,8 @@ pub fn decode_component(alloc: Global, bytes: &[u8]) -> Result<Component, FileFa
     // What is read is spelled so.
     ensures found { IfOk result (λ c. SpellsComponent bytes.now c) }
     // What is spelled so is read, unless memory is refused.
-    ensures only { (c : ComponentFields) → SpellsComponent bytes.now c → (result ≡ Ok c) ⊎ (result ≡ Err NoMemory) }
+    ensures only { (c : ComponentFields) → SpellsComponent bytes.now c
+        → (result ≡ Ok c) ⊎ (result ≡ Err NoMemory) }
     // Which fault it is.
     ensures exact { AnswersUnlessRefused is_refusal result (decoded bytes.now) }
 {

@@ -4,7 +4,8 @@ ghost use Rattle.std.specs.List.{flat_map, AllByRecursion};
 ghost use Rattle.cap_words.specs.WordBytes.{SealInSpace, word_bytes_of};
 ghost use Rattle.component_file.specs.Spelling.{u32_bytes, name_bytes, stretch_bytes, list_bytes};
 ghost use Rattle.component_file.specs.Spelling.{import_bytes, export_bytes, optional_bytes, kind_bytes};
-ghost use Rattle.component_file.specs.Spelling.{row_bytes, version_of, SpellsComponent, NamesAreShort, NameIsShort};
+ghost use Rattle.component_file.specs.Spelling.{row_bytes, version_of, SpellsComponent};
+ghost use Rattle.component_file.specs.Spelling.{NamesAreShort, NameIsShort};
 ghost use Rattle.component_file.specs.Spelling.{Always, spelling};
 ghost use Rattle.component_file.specs.Limits.{IsComponent};
 

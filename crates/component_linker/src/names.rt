@@ -1,7 +1,8 @@
 //! Who is meant by names.
 ghost use Rattle.std.specs.Prelude.{◌≡◌, ◌<◌, option_map, find};
 ghost use Rattle.std.specs.Option.{option_copied};
-ghost use Rattle.linked_starts.specs.Start.{same_name, NamesAscend, exported_by, part_named, imported, is_main};
+ghost use Rattle.linked_starts.specs.Start.{same_name, NamesAscend, exported_by, part_named};
+ghost use Rattle.linked_starts.specs.Start.{imported, is_main};
 ghost use Rattle.linked_starts.specs.Start.{main_of};
 
 use crate::placed::{Placed, PlacedParts};

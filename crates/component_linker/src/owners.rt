@@ -70,7 +70,8 @@ fn copy_name(alloc: Global, name: &[u8]) -> Result<Items<u8>, AllocError>
 // The entries of a part, one for each export.
 fn entries_of(alloc: Global, part: &Placed<'_>) -> Result<Items<Entry>, AllocError>
     requires { Kept part.now }
-    ensures { let c = part.now.component in IfOk result (λ entries. entries ≡ map (placed_entry c) c.exports) }
+    ensures { let c = part.now.component in
+        IfOk result (λ entries. entries ≡ map (placed_entry c) c.exports) }
 {
     let base = part.code_base();
     let mut entries = Vec::new(alloc);

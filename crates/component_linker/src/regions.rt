@@ -48,7 +48,8 @@ fn near_before(parts: &PlacedParts, count: usize, own: &[Option<Span>], s: Optio
 fn breaks(parts: &PlacedParts, count: usize, spans: &[Option<Span>], k: usize) -> bool
     requires in_parts { count ≤ length parts.now }
     requires in_part { k < length spans.now }
-    ensures { result ≡ near_before (take count parts.now) (take k spans.now) (slice_index_or spans.now k None) }
+    ensures { result
+        ≡ near_before (take count parts.now) (take k spans.now) (slice_index_or spans.now k None) }
 {
     near_before(parts, count, &spans[..k], spans[k])
 }

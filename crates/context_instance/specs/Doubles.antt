@@ -102,9 +102,9 @@ pub record MainIsUntrusted {one other : ModuleFields} (there : LinksBeside one o
   pub main_too : main_of (placed there.parts_too there.size) ≡ Some main
   pub untrusted : main.part.trusted ≡ false
 
--- Two modules whose names are resolved, and of which the components differ; but they mean the same and end the
--- same way, so that they can't be told apart and whole plain runs end alike, whatever untrusted parts are
--- linked beside them; and there are links of both, in which main is untrusted.
+-- Two modules whose names are resolved, and of which the components differ; but they mean the same and end
+-- the same way, so that they can't be told apart and whole plain runs end alike, whatever untrusted parts
+-- are linked beside them; and there are links of both, in which main is untrusted.
 pub record AreOne (one other : ModuleFields) : Type 0 where
   pub limits : IsModule one × IsModule other
   pub resolved : (name_faults one ≡ []) × (name_faults other ≡ [])

@@ -26,7 +26,8 @@ fn say<S: Sink>(out: &mut S, line: &str, status: DrawStatus) -> DrawStatus
 
 // Tells of a refusal.
 fn refuse<S: Sink>(why: DrawRefusal, out: &mut S) -> DrawStatus
-    ensures { (files : _) → Refuses why (seen_by files (S.seen out.old)) result (seen_by files (S.seen out.new)) }
+    ensures { (files : _) → Refuses why (seen_by files (S.seen out.old)) result
+        (seen_by files (S.seen out.new)) }
 {
     say(out, refusal_line(why).as_str(), refusal_ends(why))
 }

@@ -27,7 +27,7 @@ fn script(alloc: Global, text: &[u8]) -> Result<Script, Stop>
 }
 
 // Reads a script. `index` is what a refusal tells of its file.
-#[tactic(auto, using(file_plans::proofs::Follow::follows_end), unfolding(crate::specs::Debugs::script_at))]
+#[tactic(auto, using(file_plans::proofs::Offers::follows_end), unfolding(crate::specs::Debugs::script_at))]
 fn read_script<F: Files>(
     alloc: Global,
     files: &mut F,

@@ -210,7 +210,7 @@ fn audit_text(alloc: Global, text: &[u8]) -> Result<(), Stop>
 }
 
 // Reads a text, and audits it.
-#[tactic(auto, using(file_plans::proofs::Follow::follows_end), unfolding(crate::specs::Audits::audit_at))]
+#[tactic(auto, using(file_plans::proofs::Offers::follows_end), unfolding(crate::specs::Audits::audit_at))]
 fn audit_file<F: Files>(alloc: Global, files: &mut F, name: &FileName<'_>) -> Result<(), Stop>
     ensures { Follows (audit_at name.now) (F.seen files.old) result (F.seen files.new) }
 {

@@ -25,7 +25,7 @@ pub fn row_commutes<W: MachineWord, V: MachineWord>()
     ensures step { StepCommutes W.look W.plain V.look V.plain }
 {}
 
-/// No linear address is held twice exactly if each counts at most once over registers and cells.
+/// No linear address is held twice if and only if each counts at most once over registers and cells.
 ///
 /// A register or cell counts if it has, as its word or under its seal, a memory capability over the address.
 pub fn covered_once_counts<W: MachineWord>()

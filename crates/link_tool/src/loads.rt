@@ -41,7 +41,8 @@ fn parts_of(alloc: Global, load: Workload) -> Result<Items<Part>, Stop>
     Ok(Items::of(parts))
 }
 
-/// The start of a load's parts, which are compiled and linked as those of words are, of which no file is read.
+/// The start of a load's parts, which are compiled and linked as those of words are, of which no file is
+/// read.
 ///
 /// It stops where those of words would, part 0 being the module, and where memory is refused.
 pub fn load_start(alloc: Global, load: Workload) -> Result<Start, Stop>

@@ -76,9 +76,9 @@ fn form(alloc: Global, ending: Ending, index: u32, bytes: &[u8]) -> Result<Compo
 
 /// The component of a part word, of which no rule is asked. `index` is what a refusal tells of the part.
 ///
-/// It stops where the file can't be read or is too long, and where its bytes have not the form that the name's
-/// ending says, in this order; or where memory is refused.
-#[tactic(auto, using(file_plans::proofs::Follow::follows_end), unfolding(crate::specs::Parts::component_at))]
+/// It stops where the file can't be read or is too long, and where its bytes have not the form that the
+/// name's ending says, in this order; or where memory is refused.
+#[tactic(auto, using(file_plans::proofs::Offers::follows_end), unfolding(crate::specs::Parts::component_at))]
 pub fn component<F: Files>(
     alloc: Global,
     files: &mut F,
@@ -116,7 +116,7 @@ pub(crate) fn accept_at(component: Component, index: u32, trusted: bool) -> Resu
 /// trusted). `index` is what a refusal tells of the part.
 ///
 /// It stops where [`component`] does, and then at the first rule that is broken, at its first place.
-#[tactic(auto, using(file_plans::proofs::Follow::follows_end), unfolding(crate::specs::Parts::part_at))]
+#[tactic(auto, using(file_plans::proofs::Offers::follows_end), unfolding(crate::specs::Parts::part_at))]
 pub fn part<F: Files>(
     alloc: Global,
     files: &mut F,

@@ -60,7 +60,7 @@ fn load(alloc: Global, bytes: &[u8]) -> Result<Start, Stop>
 }
 
 // Reads the image, and links its parts.
-#[tactic(auto, using(file_plans::proofs::Follow::follows_end), unfolding(crate::specs::Linked::linked_image))]
+#[tactic(auto, using(file_plans::proofs::Offers::follows_end), unfolding(crate::specs::Linked::linked_image))]
 fn image_start<F: Files>(alloc: Global, files: &mut F, name: &FileName<'_>) -> Result<Start, Stop>
     ensures { FollowsStart (linked_image name.now) (F.seen files.old) result (F.seen files.new) }
 {
@@ -71,9 +71,9 @@ fn image_start<F: Files>(alloc: Global, files: &mut F, name: &FileName<'_>) -> R
 /// The start of what links: of the parts of words, each read in its turn, or of an image's file.
 ///
 /// Of words it stops where one of their parts does, and then at the first rule of linking that is broken
-/// (`docs/RULES.md`: L). Of an image it stops where the file can't be read or is too long, and where its bytes
-/// are no image, a part of it breaks a rule of its own, or its parts one of linking, in this order. Or it stops
-/// where memory is refused.
+/// (`docs/RULES.md`: L). Of an image it stops where the file can't be read or is too long, and where its
+/// bytes are no image, a part of it breaks a rule of its own, or its parts one of linking, in this order. Or
+/// it stops where memory is refused.
 pub fn start<F: Files>(alloc: Global, files: &mut F, what: &Linked<'_>) -> Result<Start, Stop>
     ensures { FollowsStart (linked_in what.now) (F.seen files.old) result (F.seen files.new) }
 {
@@ -111,7 +111,7 @@ fn parts_bytes<F: Files>(
 }
 
 // Reads the image: its bytes are its own spelling.
-#[tactic(auto, using(file_plans::proofs::Follow::follows_end), unfolding(crate::specs::Linked::linked_image))]
+#[tactic(auto, using(file_plans::proofs::Offers::follows_end), unfolding(crate::specs::Linked::linked_image))]
 fn file_bytes<F: Files>(
     alloc: Global,
     files: &mut F,

@@ -1,5 +1,6 @@
-//! What a start of linked parts is: where parts stand, the rules L, the machine that parts start, its sites and
-//! its owners. Definitions with their laws, and the values that carry a start; the linker decides and makes.
+//! What a start of linked parts is: where parts stand, the rules L, the machine that parts start, its sites
+//! and its owners. Definitions with their laws, and the values that carry a start; the linker decides and
+//! makes.
 #![tactic(auto)]
 
 mod fault;

@@ -25,7 +25,7 @@ fn items(alloc: Global, base: u32, text: &[u8]) -> Result<Items<Item>, Stop>
 }
 
 /// What the feed of a file has, where stacks begin at `base`. `index` is what a refusal tells of the file.
-#[tactic(auto, using(file_plans::proofs::Follow::follows_end), unfolding(crate::specs::Subjects::feed_at))]
+#[tactic(auto, using(file_plans::proofs::Offers::follows_end), unfolding(crate::specs::Subjects::feed_at))]
 pub(crate) fn feed<F: Files>(
     alloc: Global,
     files: &mut F,

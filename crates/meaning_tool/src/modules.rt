@@ -38,7 +38,7 @@ fn form(alloc: Global, index: u32, dialect: Dialect, text: &[u8]) -> Result<Modu
 ///
 /// It stops where the file can't be read or is too long, and where the text is no module, a name leads
 /// nowhere or a token isn't spent just once, in this order; or where memory is refused.
-#[tactic(auto, using(file_plans::proofs::Follow::follows_end), unfolding(crate::specs::Subjects::module_at))]
+#[tactic(auto, using(file_plans::proofs::Offers::follows_end), unfolding(crate::specs::Subjects::module_at))]
 pub fn module<F: Files>(
     alloc: Global,
     files: &mut F,

@@ -88,8 +88,8 @@ fn meant_of<F: Files>(
 /// `size` words under this fuel.
 ///
 /// It stops where a file can't be read or is too long, where a text is no module, a name leads nowhere or a
-/// token isn't spent just once, where the modules break a rule of a meaning, and where the feed has a line that isn't of its form, in this
-/// order; or where memory is refused.
+/// token isn't spent just once, where the modules break a rule of a meaning, and where the feed has a line
+/// that isn't of its form, in this order; or where memory is refused.
 pub fn meant<F: Files>(
     alloc: Global,
     files: &mut F,

@@ -34,7 +34,8 @@ impl Model for MemFiles {
 
     ghost Value = { HeldFiles };
 
-    ghost coded = { Prim.hlevel (codes, finite.code {R = slice_cmp nat_cmp} (coded_list coded_ℕ) (coded_list coded_ℕ)) };
+    ghost coded = { Prim.hlevel
+        (codes, finite.code {R = slice_cmp nat_cmp} (coded_list coded_ℕ) (coded_list coded_ℕ)) };
 
     ghost view = { λ m. record { files = files_of m.files.entries; calls = m.calls; counts = m.counts } };
 }

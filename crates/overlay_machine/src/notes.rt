@@ -10,7 +10,8 @@ ghost use Rattle.trusted_border.specs.Reaches.{hop_by, back_under, jump_plan, pl
 ghost use Rattle.overlay_machine.specs.Words.{look};
 ghost use Rattle.overlay_machine.specs.Machine.{FitsRegion, overlay_of, frames_of};
 ghost use Rattle.overlay_machine.specs.Events.{owner_now};
-ghost use Rattle.overlay_machine.specs.Events.{note_call, site_opened, jump_seal, note_by, called_event, entered_event};
+ghost use Rattle.overlay_machine.specs.Events.{note_call, site_opened, jump_seal, note_by};
+ghost use Rattle.overlay_machine.specs.Events.{called_event, entered_event};
 ghost use Rattle.overlay_machine.specs.Events.{jumped, event_after};
 
 use crate::cases::Case;

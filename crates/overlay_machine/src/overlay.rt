@@ -112,7 +112,8 @@ impl Model for Overlay {
 // The machine of a start before its first step: with no frames, and room for as many words of them as
 // the stack has.
 fn machine_of(alloc: Global, start: &Start) -> Result<Machine, AllocError>
-    ensures regs { IfOk result (λ m. (r : AnyReg) → reg m.maps.regs r ≡ OWord.Plain (reg start.now.state.maps.regs r)) }
+    ensures regs { IfOk result (λ m. (r : AnyReg) →
+        reg m.maps.regs r ≡ OWord.Plain (reg start.now.state.maps.regs r)) }
     ensures cells { IfOk result (λ m. (a : ℕ) → cell m.maps.cells a ≡ start_word start.now.state.maps a) }
     ensures spans { IfOk result (λ m. m.maps.spans ≡ start.now.state.maps.spans) }
     ensures frames { IfOk result (λ m. m.frames.frames ≡ []) }

@@ -55,8 +55,8 @@ impl Model for Draft {
       seals = d.seals;
     } };
 
-    ghost invariant = { λ d. InStep d.sites.items (record { stack_base = d.stack_base; epilogue = d.epilogue })
-        d.first d.seals d.lot };
+    ghost invariant = { λ d. InStep d.sites.items
+        (record { stack_base = d.stack_base; epilogue = d.epilogue }) d.first d.seals d.lot };
 }
 
 impl Draft {
@@ -175,7 +175,8 @@ impl Draft {
         ensures written { OnOk result (self.new ≡ with_items (op_code op) self.old) }
         ensures sited { OnOk result (self.new.laid.sites ≡ self.old.laid.sites) }
         ensures kept { OnOk result (self.new.seals ≡ self.old.seals) }
-        ensures grown { OnOk result (length self.new.laid.code + 7 ≡ length self.old.laid.code + op_words op) }
+        ensures grown { OnOk result (length self.new.laid.code + 7
+            ≡ length self.old.laid.code + op_words op) }
     {
         let (g0, g1, g2) = (Reg::G0, Reg::G1, Reg::G2);
         match op {
@@ -412,7 +413,8 @@ impl Draft {
     #[tactic(auto, using(crate::proofs::Written::items))]
     pub(crate) fn zeros(&mut self, registers: &[Reg]) -> Result<(), AllocError>
         ensures written { OnOk result (self.new ≡ with_items (zeros registers.now) self.old) }
-        ensures grown { OnOk result (length self.new.laid.code ≡ length self.old.laid.code + length registers.now) }
+        ensures grown { OnOk result (length self.new.laid.code
+            ≡ length self.old.laid.code + length registers.now) }
         ensures sited { OnOk result (self.new.laid.sites ≡ self.old.laid.sites) }
         ensures kept { OnOk result (self.new.seals ≡ self.old.seals) }
     {
@@ -441,7 +443,8 @@ impl Draft {
     #[tactic(auto, unfolding(proc_templates::specs::Items::put, proc_templates::specs::Items::instrs, crate::specs::Drafts::with_items))]
     pub(crate) fn check_pair(&mut self, r: Reg, q: Reg) -> Result<(), AllocError>
         requires { length self.old.laid.code ≤ MOST_WORDS }
-        ensures written { OnOk result (self.new ≡ with_items (guards (check_half r ++ check_half q) ∷ []) self.old) }
+        ensures written { OnOk result (self.new
+            ≡ with_items (guards (check_half r ++ check_half q) ∷ []) self.old) }
         ensures grown { OnOk result (length self.new.laid.code ≡ length self.old.laid.code + 13) }
         ensures sited { OnOk result (self.new.laid.sites ≡ self.old.laid.sites) }
         ensures kept { OnOk result (self.new.seals ≡ self.old.seals) }
@@ -459,7 +462,8 @@ impl Draft {
     #[tactic(auto, using(crate::proofs::Written::items))]
     pub(crate) fn push(&mut self, registers: &[Reg]) -> Result<(), AllocError>
         ensures written { OnOk result (self.new ≡ with_items (push registers.now) self.old) }
-        ensures grown { OnOk result (length self.new.laid.code ≡ length self.old.laid.code + 2 * length registers.now) }
+        ensures grown { OnOk result (length self.new.laid.code
+            ≡ length self.old.laid.code + 2 * length registers.now) }
         ensures sited { OnOk result (self.new.laid.sites ≡ self.old.laid.sites) }
         ensures kept { OnOk result (self.new.seals ≡ self.old.seals) }
     {
@@ -578,7 +582,8 @@ impl Draft {
         requires words_fit { f.words ≤ LAST_PLACE }
         requires fits { HandleBound f handle }
         ensures written { OnOk result (self.new ≡ with_items (load_pair f handle r q) self.old) }
-        ensures grown { OnOk result (length self.new.laid.code ≡ length self.old.laid.code + pair_words handle) }
+        ensures grown { OnOk result (length self.new.laid.code
+            ≡ length self.old.laid.code + pair_words handle) }
         ensures sited { OnOk result (self.new.laid.sites ≡ self.old.laid.sites) }
         ensures kept { OnOk result (self.new.seals ≡ self.old.seals) }
     {
@@ -662,7 +667,8 @@ fn put_site(code: &mut Vec<Word>, at: u32, number: u32, stack_base: u32) -> Resu
 fn put_entry(code: &mut Vec<Word>, at: u32, stack_base: u32) -> Result<(), AllocError>
     requires placed { at ≤ LAST_OFFSET }
     requires base_fits { stack_base ≤ LAST_PLACE }
-    ensures written { OnOk result (code.new.items ≡ code.old.items ++ map word_of (entry_code 0 at stack_base)) }
+    ensures written { OnOk result (code.new.items
+        ≡ code.old.items ++ map word_of (entry_code 0 at stack_base)) }
     ensures grown { OnOk result (length code.new.items ≡ length code.old.items + ENTRY_WORDS) }
 {
     put_numbers(code, &entry_words(0, at, stack_base))

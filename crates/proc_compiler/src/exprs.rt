@@ -75,7 +75,8 @@ fn operation(
     requires room { slot + exp_words (Binary op left.now right.now) ≤ LAST_PLACE }
     requires placed { length draft.old.laid.code + exp_words (Binary op left.now right.now) ≤ MOST_WORDS }
     requires seals { length draft.old.laid.sites + (calls left.now + calls right.now) ≤ draft.old.seals }
-    ensures written { OnOk result (draft.new ≡ with_items (code f slot (Binary op left.now right.now)) draft.old) }
+    ensures written { OnOk result (draft.new
+        ≡ with_items (code f slot (Binary op left.now right.now)) draft.old) }
     ensures grown { OnOk result (length draft.new.laid.code
         ≡ length draft.old.laid.code + exp_words (Binary op left.now right.now)) }
     ensures sited { OnOk result (length draft.new.laid.sites
@@ -107,8 +108,10 @@ fn element(
     requires placed { length draft.old.laid.code + exp_words index.now + 15 ≤ MOST_WORDS }
     requires seals { length draft.old.laid.sites + calls index.now ≤ draft.old.seals }
     ensures written { OnOk result (draft.new ≡ with_items (code f slot (Element row index.now)) draft.old) }
-    ensures grown { OnOk result (length draft.new.laid.code ≡ length draft.old.laid.code + exp_words index.now + 15) }
-    ensures sited { OnOk result (length draft.new.laid.sites ≡ length draft.old.laid.sites + calls index.now) }
+    ensures grown { OnOk result (length draft.new.laid.code
+        ≡ length draft.old.laid.code + exp_words index.now + 15) }
+    ensures sited { OnOk result (length draft.new.laid.sites
+        ≡ length draft.old.laid.sites + calls index.now) }
     ensures kept { OnOk result (draft.new.seals ≡ draft.old.seals) }
 {
     expr(draft, f, index, slot)?;
@@ -166,7 +169,8 @@ fn values(
     requires room { slot + MOST_REGISTERS + values_words (args_of args.now) ≤ LAST_PLACE }
     requires placed { length draft.old.laid.code + values_words (args_of args.now) ≤ MOST_WORDS }
     requires seals { length draft.old.laid.sites + args_calls (args_of args.now) ≤ draft.old.seals }
-    ensures written { OnOk result (draft.new ≡ with_items (args_code f slot from (args_of args.now)) draft.old) }
+    ensures written { OnOk result (draft.new
+        ≡ with_items (args_code f slot from (args_of args.now)) draft.old) }
     ensures grown { OnOk result (length draft.new.laid.code
         ≡ length draft.old.laid.code + values_words (args_of args.now)) }
     ensures sited { OnOk result (length draft.new.laid.sites
@@ -221,7 +225,8 @@ fn loads(
     requires fits { ArgsBound f (args_of args.now) }
     requires few { from + arg_registers (args_of args.now) ≤ MOST_REGISTERS }
     requires room { slot + MOST_REGISTERS ≤ LAST_PLACE }
-    ensures written { OnOk result (draft.new ≡ with_items (load_args f slot from (args_of args.now)) draft.old) }
+    ensures written { OnOk result (draft.new
+        ≡ with_items (load_args f slot from (args_of args.now)) draft.old) }
     ensures grown { OnOk result
         (length draft.new.laid.code ≡ length draft.old.laid.code + loads_words (args_of args.now)) }
     ensures sited { OnOk result (draft.new.laid.sites ≡ draft.old.laid.sites) }
@@ -269,7 +274,8 @@ fn call_with(
     requires room { slot + MOST_REGISTERS ≤ LAST_PLACE }
     requires placed { length draft.old.laid.code + after_values h (args_of args.now) ≤ MOST_WORDS }
     requires seals { length draft.old.laid.sites < draft.old.seals }
-    ensures written { OnOk result (draft.new ≡ with_items (call_items f slot h (args_of args.now)) draft.old) }
+    ensures written { OnOk result (draft.new
+        ≡ with_items (call_items f slot h (args_of args.now)) draft.old) }
     ensures grown { OnOk result (length draft.new.laid.code
         ≡ length draft.old.laid.code + after_values h (args_of args.now)) }
     ensures sited { OnOk result (length draft.new.laid.sites ≡ length draft.old.laid.sites + 1) }

@@ -58,8 +58,10 @@ fn proc_in(draft: &mut Draft, m: &Program, p: &Procedure) -> Result<(), AllocErr
     requires seals { length draft.old.laid.sites + procedure_calls p.now ≤ draft.old.seals }
     requires base { draft.old.spot.stack_base ≡ m.now.stack }
     ensures laid { OnOk result (draft.new.laid ≡ lay_proc m.now draft.old.laid p.now) }
-    ensures grown { OnOk result (length draft.new.laid.code ≡ length draft.old.laid.code + size_of_proc p.now) }
-    ensures sited { OnOk result (length draft.new.laid.sites ≡ length draft.old.laid.sites + procedure_calls p.now) }
+    ensures grown { OnOk result (length draft.new.laid.code
+        ≡ length draft.old.laid.code + size_of_proc p.now) }
+    ensures sited { OnOk result (length draft.new.laid.sites
+        ≡ length draft.old.laid.sites + procedure_calls p.now) }
     ensures kept { OnOk result (draft.new.seals ≡ draft.old.seals) }
     ensures base { OnOk result (draft.new.spot.stack_base ≡ m.now.stack) }
 {

@@ -44,7 +44,8 @@ fn check_callback(draft: &mut Draft, from: u32) -> Result<(), AllocError>
     requires placed { length draft.old.laid.code ≤ MOST_WORDS }
     requires few { from + 2 ≤ MOST_REGISTERS }
     ensures written { OnOk result (draft.new
-        ≡ with_items (guards (check_half (argument from) ++ check_half (argument (from + 1))) ∷ []) draft.old) }
+        ≡ with_items (guards (check_half (argument from) ++ check_half (argument (from + 1))) ∷ [])
+        draft.old) }
     ensures grown { OnOk result (length draft.new.laid.code ≡ length draft.old.laid.code + 13) }
     ensures sited { OnOk result (draft.new.laid.sites ≡ draft.old.laid.sites) }
     ensures kept { OnOk result (draft.new.seals ≡ draft.old.seals) }
@@ -57,7 +58,8 @@ fn check(draft: &mut Draft, callback: bool, from: u32) -> Result<(), AllocError>
     requires placed { length draft.old.laid.code ≤ MOST_WORDS }
     requires few { from + register_count callback ≤ MOST_REGISTERS }
     ensures written { OnOk result (draft.new ≡ with_items (check_param from callback ∷ []) draft.old) }
-    ensures grown { OnOk result (length draft.new.laid.code ≡ length draft.old.laid.code + check_words callback) }
+    ensures grown { OnOk result (length draft.new.laid.code
+        ≡ length draft.old.laid.code + check_words callback) }
     ensures sited { OnOk result (draft.new.laid.sites ≡ draft.old.laid.sites) }
     ensures kept { OnOk result (draft.new.seals ≡ draft.old.seals) }
 {
@@ -74,7 +76,8 @@ fn checks(draft: &mut Draft, callbacks: &[bool], from: u32) -> Result<(), AllocE
     requires few { from + registers_of callbacks.now ≤ MOST_REGISTERS }
     requires placed { length draft.old.laid.code + checks_words callbacks.now ≤ MOST_WORDS }
     ensures written { OnOk result (draft.new ≡ with_items (check_params from callbacks.now) draft.old) }
-    ensures grown { OnOk result (length draft.new.laid.code ≡ length draft.old.laid.code + checks_words callbacks.now) }
+    ensures grown { OnOk result (length draft.new.laid.code
+        ≡ length draft.old.laid.code + checks_words callbacks.now) }
     ensures sited { OnOk result (draft.new.laid.sites ≡ draft.old.laid.sites) }
     ensures kept { OnOk result (draft.new.seals ≡ draft.old.seals) }
 {
@@ -114,7 +117,8 @@ pub(crate) fn proc_at(draft: &mut Draft, f: FrameShape, p: &Procedure) -> Result
     requires placed { length draft.old.laid.code
         + (34 + checks_words p.now.callbacks + 4 * f.words + block_words (block_of p.now.body)) ≤ MOST_WORDS }
     requires seals { length draft.old.laid.sites + block_calls (block_of p.now.body) ≤ draft.old.seals }
-    ensures written { OnOk result (draft.new ≡ with_items (proc_code f p.now.callbacks (block_of p.now.body)) draft.old) }
+    ensures written { OnOk result (draft.new
+        ≡ with_items (proc_code f p.now.callbacks (block_of p.now.body)) draft.old) }
     ensures grown { OnOk result (length draft.new.laid.code
         ≡ length draft.old.laid.code
         + (34 + checks_words p.now.callbacks + 4 * f.words + block_words (block_of p.now.body))) }

@@ -44,7 +44,8 @@ fn step(draft: &mut Draft, f: FrameShape, s: &Statement) -> Result<(), AllocErro
     requires seals { length draft.old.laid.sites + step_calls s.now ≤ draft.old.seals }
     ensures written { OnOk result (draft.new ≡ with_items (step_code f s.now) draft.old) }
     ensures grown { OnOk result (length draft.new.laid.code ≡ length draft.old.laid.code + step_words s.now) }
-    ensures sited { OnOk result (length draft.new.laid.sites ≡ length draft.old.laid.sites + step_calls s.now) }
+    ensures sited { OnOk result (length draft.new.laid.sites
+        ≡ length draft.old.laid.sites + step_calls s.now) }
     ensures kept { OnOk result (draft.new.seals ≡ draft.old.seals) }
 {
     match &s.kind {
@@ -85,7 +86,8 @@ fn sets_at(
     requires room { f.temps + (exp_words index.now + exp_words e.now + 21) ≤ LAST_PLACE }
     requires placed { length draft.old.laid.code + (exp_words index.now + exp_words e.now + 21) ≤ MOST_WORDS }
     requires seals { length draft.old.laid.sites + (calls index.now + calls e.now) ≤ draft.old.seals }
-    ensures written { OnOk result (draft.new ≡ with_items (step_code f (SetAt row index.now e.now)) draft.old) }
+    ensures written { OnOk result (draft.new
+        ≡ with_items (step_code f (SetAt row index.now e.now)) draft.old) }
     ensures grown { OnOk result (length draft.new.laid.code
         ≡ length draft.old.laid.code + (exp_words index.now + exp_words e.now + 21)) }
     ensures sited { OnOk result (length draft.new.laid.sites
@@ -117,10 +119,10 @@ fn branch(
     requires frame { f.words ≤ MOST_WORDS }
     requires fits { StepBound f (If c.now (block_of body.now) (block_of other.now)) }
     requires room { f.temps + step_words (If c.now (block_of body.now) (block_of other.now)) ≤ LAST_PLACE }
-    requires placed { length draft.old.laid.code + step_words (If c.now (block_of body.now) (block_of other.now))
-        ≤ MOST_WORDS }
-    requires seals { length draft.old.laid.sites + step_calls (If c.now (block_of body.now) (block_of other.now))
-        ≤ draft.old.seals }
+    requires placed { length draft.old.laid.code
+        + step_words (If c.now (block_of body.now) (block_of other.now)) ≤ MOST_WORDS }
+    requires seals { length draft.old.laid.sites
+        + step_calls (If c.now (block_of body.now) (block_of other.now)) ≤ draft.old.seals }
     ensures written { OnOk result (draft.new
         ≡ with_items (step_code f (If c.now (block_of body.now) (block_of other.now))) draft.old) }
     ensures grown { OnOk result (length draft.new.laid.code
@@ -151,8 +153,10 @@ fn repeat(draft: &mut Draft, f: FrameShape, c: &Exp, body: &[Statement]) -> Resu
     requires fits { StepBound f (While c.now (block_of body.now)) }
     requires room { f.temps + step_words (While c.now (block_of body.now)) ≤ LAST_PLACE }
     requires placed { length draft.old.laid.code + step_words (While c.now (block_of body.now)) ≤ MOST_WORDS }
-    requires seals { length draft.old.laid.sites + step_calls (While c.now (block_of body.now)) ≤ draft.old.seals }
-    ensures written { OnOk result (draft.new ≡ with_items (step_code f (While c.now (block_of body.now))) draft.old) }
+    requires seals { length draft.old.laid.sites + step_calls (While c.now (block_of body.now))
+        ≤ draft.old.seals }
+    ensures written { OnOk result (draft.new
+        ≡ with_items (step_code f (While c.now (block_of body.now))) draft.old) }
     ensures grown { OnOk result (length draft.new.laid.code
         ≡ length draft.old.laid.code + step_words (While c.now (block_of body.now))) }
     ensures sited { OnOk result (length draft.new.laid.sites

@@ -2,7 +2,8 @@
 ghost use Rattle.std.specs.Prelude.{◌≡◌, IfOk, position, List, [], option_map};
 ghost use Rattle.std.specs.Option.{option_copied};
 ghost use Rattle.proc_semantics.specs.Values.{is_named, is_shared, shared_in, shared_at, found, has_main};
-ghost use Rattle.proc_semantics.specs.Values.{main_target, home_part, proc_at, pair_found, pair_fed, register_fed};
+ghost use Rattle.proc_semantics.specs.Values.{main_target, home_part, proc_at, pair_found};
+ghost use Rattle.proc_semantics.specs.Values.{pair_fed, register_fed};
 ghost use Rattle.proc_semantics.specs.Values.{registers_fed, first_of, rest_of, taken, linked, import_in};
 ghost use Rattle.proc_semantics.specs.Values.{pair_of};
 

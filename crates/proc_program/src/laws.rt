@@ -16,7 +16,7 @@ pub fn programs_keep_limits()
     ensures { (m : ModuleFields) → IsModule m → IsPart (part_of m) }
 {}
 
-/// The program of a module has as many calls as the module.
+/// A module's program has as many calls as the module.
 #[tactic(auto, using(crate::proofs::Counted::calls_kept))]
 pub fn calls_are_kept()
     ensures { (m : ModuleFields) → part_calls (part_of m) ≡ module_calls m }

@@ -241,7 +241,8 @@ fn args_of(
 ) -> Result<Vec<ArgExp>, AllocError>
     requires limits { IsModule m.now }
     requires fits { ProcFits p.now }
-    ensures same { IfOk result (λ v. v.items ≡ done.items ++ args_of m.now p.now next.old (tree_args xs.now)) }
+    ensures same { IfOk result (λ v. v.items
+        ≡ done.items ++ args_of m.now p.now next.old (tree_args xs.now)) }
     ensures counted { OnOk result (next.new ≡ next.old + args_calls (tree_args xs.now)) }
 {
     let mut done = done;

@@ -19,8 +19,8 @@ pub fn components_keep_rules()
     ensures flow { (m : Program) → FitsComponent m → IsKept (component_of m) }
     ensures own { (m : Program) → FitsComponent m → part_calls m ≤ m.header.return_count
         → KeepsOwnRules (component_of m) }
-    ensures limits { (m : Program) → FitsComponent m → NamesDiffer m.procs → part_calls m ≤ m.header.return_count
-        → IsComponent (component_of m) }
+    ensures limits { (m : Program) → FitsComponent m → NamesDiffer m.procs
+        → part_calls m ≤ m.header.return_count → IsComponent (component_of m) }
 {}
 
 /// No two procedures of a resolved module have one name.

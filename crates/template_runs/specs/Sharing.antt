@@ -22,7 +22,8 @@ use Rattle.overlay_machine.specs.Linked.{Linked}
 use Rattle.overlay_machine.specs.Invariant.{Invariant}
 use Rattle.template_runs.specs.Public.{IsShown, IsSharedAt, KeepsPrivate}
 
--- code outside (the attacker) runs: each register holds a word that it may be shown, and what is private stays
+-- code outside (the attacker) runs: each register holds a word that it may be shown, and what is private
+-- stays
 pub record RunsOutside (g : Link) (o : OState) : Type 0 where
   pub plain : State Word
   pub holds : Invariant g o plain

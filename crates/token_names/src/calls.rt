@@ -139,7 +139,7 @@ fn fit_proc(args: &[TokenArg], procs: &[TokenProc], i: usize) -> bool
 }
 
 // What is wrong with a call of a callback or an import that takes so many registers.
-#[tactic(auto, using(proc_names::proofs::FirstLemmas::firsts))]
+#[tactic(auto, using(proc_names::proofs::Offers::firsts))]
 fn outside_fault(call: &TokenCall, arity: Option<u32>) -> Option<NameFault>
     ensures { result ≡ first (outside_faults call.now.name (args_of call.now.args) arity) }
 {

@@ -35,7 +35,7 @@ pub fn resolve_tokens(m: &TokenModule) -> Result<(), NameFault>
     }
 }
 
-#[tactic(auto, using(proc_names::proofs::FirstLemmas::firsts))]
+#[tactic(auto, using(proc_names::proofs::Offers::firsts))]
 fn first_fault(m: &TokenModuleFields) -> Option<NameFault>
     ensures { result ≡ first (token_name_faults m.now) }
 {
@@ -57,7 +57,7 @@ fn procs_fault(m: &TokenModuleFields, procs: &[TokenProc]) -> Option<NameFault>
     found
 }
 
-#[tactic(auto, using(proc_names::proofs::FirstLemmas::firsts))]
+#[tactic(auto, using(proc_names::proofs::Offers::firsts))]
 fn proc_fault(m: &TokenModuleFields, p: &TokenProc) -> Option<NameFault>
     ensures { result ≡ first (proc_faults m.now p.now) }
 {
@@ -105,7 +105,7 @@ fn handed_fault(m: &TokenModuleFields, p: &TokenProc, f: &Name) -> Option<NameFa
 }
 
 #[cycle(expr)]
-#[tactic(auto, using(proc_names::proofs::FirstLemmas::firsts))]
+#[tactic(auto, using(proc_names::proofs::Offers::firsts))]
 fn expr_fault(m: &TokenModuleFields, p: &TokenProc, e: &TokenExpr) -> Option<NameFault>
     ensures { result ≡ first (expr_faults m.now p.now e.now) }
 {
@@ -139,7 +139,7 @@ fn args_fault(m: &TokenModuleFields, p: &TokenProc, args: &[TokenArg]) -> Option
 }
 
 #[cycle(expr)]
-#[tactic(auto, using(proc_names::proofs::FirstLemmas::firsts))]
+#[tactic(auto, using(proc_names::proofs::Offers::firsts))]
 fn arg_fault(m: &TokenModuleFields, p: &TokenProc, arg: &TokenArg) -> Option<NameFault>
     ensures { (rest : List TokenArg) → earlier result (first (args_faults m.now p.now (args_of rest)))
         ≡ first (args_faults m.now p.now (args_of (arg.now ∷ rest))) }
@@ -152,7 +152,7 @@ fn arg_fault(m: &TokenModuleFields, p: &TokenProc, arg: &TokenArg) -> Option<Nam
 }
 
 #[cycle(stmt)]
-#[tactic(auto, using(proc_names::proofs::FirstLemmas::firsts))]
+#[tactic(auto, using(proc_names::proofs::Offers::firsts))]
 fn stmt_fault(m: &TokenModuleFields, p: &TokenProc, s: &TokenStmt) -> Option<NameFault>
     ensures { result ≡ first (stmt_faults m.now p.now s.now) }
 {
@@ -188,7 +188,7 @@ fn stmt_fault(m: &TokenModuleFields, p: &TokenProc, s: &TokenStmt) -> Option<Nam
 }
 
 #[cycle(stmt)]
-#[tactic(auto, using(proc_names::proofs::FirstLemmas::firsts))]
+#[tactic(auto, using(proc_names::proofs::Offers::firsts))]
 fn block_fault(m: &TokenModuleFields, p: &TokenProc, stmts: &[TokenStmt]) -> Option<NameFault>
     ensures { result ≡ first (block_faults m.now p.now (block_of stmts.now)) }
 {

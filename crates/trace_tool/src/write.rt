@@ -409,7 +409,7 @@ fn write_behind<V: Shown, S: Sink>(
 }
 
 /// Writes the lines of a step, by its event, piece by piece.
-#[tactic(auto, using(outside_io::proofs::Writing::writes_behind))]
+#[tactic(auto, using(outside_io::proofs::Offers::writes_behind))]
 pub(crate) fn tell<V: Shown, S: Sink>(
     start: &Start,
     view: &V,

@@ -3,7 +3,7 @@ ghost use Rattle.std.specs.Prelude.{◌≡◌, ◌++◌, List, ℕ};
 ghost use Rattle.cap_words.specs.declared.Word.{Word};
 ghost use Rattle.cap_words.specs.WordBytes.{SpellsWord};
 
-/// Each word has one spelling, of no other word, and none begins another.
+/// Each word has one spelling, of no other, and none begins another.
 ///
 /// So words can stand one after another with nothing between.
 pub fn one_spelling()

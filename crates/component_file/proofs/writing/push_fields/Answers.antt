@@ -13,13 +13,16 @@ pub push_long_list-requires-clause-can_write : goal.push_long_list-requires-clau
 push_long_list-requires-clause-can_write c = rw c.as_slice-2.ensures (words_can _ c.requires.fits.code.1)
 
 pub push_long_list-requires-2-clause-can_write : goal.push_long_list-requires-2-clause-can_write
-push_long_list-requires-2-clause-can_write c = rw c.as_slice-3.ensures (words_can _ c.requires.fits.data_words.1)
+push_long_list-requires-2-clause-can_write c =
+    rw c.as_slice-3.ensures (words_can _ c.requires.fits.data_words.1)
 
 pub push_short_list-requires-clause-can_write : goal.push_short_list-requires-clause-can_write
-push_short_list-requires-clause-can_write c = rw c.as_slice-4.ensures (imports_can _ c.requires.fits.imports.1)
+push_short_list-requires-clause-can_write c =
+    rw c.as_slice-4.ensures (imports_can _ c.requires.fits.imports.1)
 
 pub push_short_list-requires-2-clause-can_write : goal.push_short_list-requires-2-clause-can_write
-push_short_list-requires-2-clause-can_write c = rw c.as_slice-5.ensures (exports_can _ c.requires.fits.exports.1)
+push_short_list-requires-2-clause-can_write c =
+    rw c.as_slice-5.ensures (exports_can _ c.requires.fits.exports.1)
 
 pub push_short_list-requires-3-clause-can_write : goal.push_short_list-requires-3-clause-can_write
 push_short_list-requires-3-clause-can_write c = all_always _

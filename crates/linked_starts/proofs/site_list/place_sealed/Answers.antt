@@ -1,7 +1,9 @@
 -- One run after another: the site is in this run, or none of the run has the seal.
 use Rattle.std.proofs.Common.{sym, arith}
 use Rattle.linked_starts.proofs.SiteSearch.{no_site, in_run, past_run, nowhere}
-use Rattle.linked_starts.proofs.site_list.place_sealed.Goals.{else-first-seal-via-then-first-seal+else-seal-first}
+use Rattle.linked_starts.proofs.site_list.place_sealed.Goals.{
+  else-first-seal-via-then-first-seal+else-seal-first,
+}
 use Rattle.linked_starts.proofs.site_list.place_sealed.Goals.{else-first-seal-via-else-first-seal}
 use Rattle.linked_starts.proofs.site_list.place_sealed.Goals as goal
 
