@@ -118,7 +118,7 @@ def c8(part, place):
 
 
 def c9(part, place):
-    return [part.word_line(*part.indexed(place)), f"the own seals are {seals_text(part.listing)}"]
+    return [part.word_line(*part.indexed(place)), f"the own return seals are {seals_text(part.listing)}"]
 
 
 def one_word(part, place):
@@ -136,7 +136,7 @@ def c12(part, place):
     if offset is None:
         return [f"{part.title}: it has no .{kind}"]
     told = [f"{part.place_of('.' + kind)}: .{kind} {offset}", part.word_line("code", offset)]
-    return told + ([f"the own seals are {seals_text(listing)}"] if kind == "literal" else [])
+    return told + ([f"the own return seals are {seals_text(listing)}"] if kind == "literal" else [])
 
 
 # ---- K
