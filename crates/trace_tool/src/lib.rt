@@ -1,8 +1,5 @@
-//! What runs write: a line for each event at the border of trusted code, and the end line.
-//!
-//! A run of the plain machine and one of the overlay show their events by the same lines. Both runs
-//! are told whole by definitions: their lines as values, the text of those, and the state after
-//! them. docs/OVERLAY.md tells the events, docs/COMMANDS.md the texts.
+//! What writes the lines of runs: a run of the plain machine and one of the overlay, with their end lines.
+//! What these lines are, `run_lines` defines.
 #![tactic(auto)]
 
 mod count;

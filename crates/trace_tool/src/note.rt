@@ -1,4 +1,4 @@
-//! What is noted of an instruction before it is made.
+//! Notes an instruction before it is made.
 ghost use Rattle.std.specs.Prelude.{◌≡◌};
 ghost use Rattle.run_lines.specs.Layout.{layout};
 ghost use Rattle.lcm_machine.specs.Row.{jump_at};

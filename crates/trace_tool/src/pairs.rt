@@ -1,4 +1,4 @@
-//! What an `xjmp` of an argument register and the next one would do.
+//! Reads off a state what an `xjmp` of an argument register and the next one would do.
 ghost use Rattle.std.specs.Prelude.{◌≡◌};
 ghost use Rattle.cap_words.specs.Face.{ContentInOrder};
 ghost use Rattle.run_lines.specs.Layout.{layout};
