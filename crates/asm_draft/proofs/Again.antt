@@ -285,7 +285,7 @@ literal_again at n d h = again_then (integer_forms (pos n)) [] (n, d) _ _ _ (off
 
 -- ---- rows
 
--- the name of a kind, and the offset behind `pc`
+-- the name of a kind, and the offset after `pc`
 abbrev pub kind_forms : Kind → List Form
 kind_forms (kind.Pc offset) = name_form (kind_name (kind.Pc offset)) ∷ integer_forms (pos offset)
 kind_forms k = name_form (kind_name k) ∷ []

@@ -16,7 +16,7 @@ use Rattle.readers.proofs.Offers.{still_fails}
 abbrev pub Read : Type 0
 Read = Result ((List Kind × Draft) × Input) AsmFault
 
--- what is read behind kinds that were read already
+-- what is read after kinds that were read already
 abbrev pub with_front : List Kind → Read → Read
 with_front front r = goes_on r (λ x. done (front ++ x.0, x.1))
 

@@ -161,7 +161,7 @@ pub went : {A E : Type 0} (r : Result A E) (P : Type 0) → is_err r ≡ false �
 went (Ok x) P h p = p
 went (Err e) P h p = absurd cc
 
--- ---- behind the last token
+-- ---- after the last token
 
 at_end : (text : List ℕ) (tokens F : List Token) (i : ℕ) (old : Draft) → length tokens ≤ i
     → InLine (map (seen text) F) → rest_drafted text tokens i F old ≡ drafted old

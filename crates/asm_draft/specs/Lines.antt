@@ -82,7 +82,7 @@ item_in at labelled item d = do
   _ ← end_at
   done new
 
--- a `.` and the name of a directive; what begins a line, behind its label, and is neither that nor the name
+-- a `.` and the name of a directive; what begins a line, after its label, and is neither that nor the name
 -- of an instruction is unknown
 unfoldable pub directive_from : ℕ → Reader Input AsmFault Directive
 directive_from at = do

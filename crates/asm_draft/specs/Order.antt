@@ -54,7 +54,7 @@ may_follow last item =
 abbrev pub reaches_data : Option ItemKind → Bool
 reaches_data last = nat_le (rank Data) (rank_of last)
 
--- the section in which the words behind an item stand
+-- the section in which the words after an item stand
 abbrev pub section_of : Option ItemKind → Option Section
 section_of (Some Code) = Some section.Code
 section_of (Some Data) = Some section.Data

@@ -1,4 +1,4 @@
--- The items behind the data: imports, exports, sites, rows, and two offsets.
+-- The items after the data: imports, exports, sites, rows, and two offsets.
 use Rattle.std.specs.Prelude.{ℕ, ◌-◌, nat_lt, Bool, true, false, List, [], ◌∷◌, ◌++◌, length, slice_get}
 use Rattle.std.specs.Prelude.{Option, Some, None, option_map}
 use Rattle.component_file.specs.declared.TheConstants.{MOST_IMPORTS, MOST_EXPORTS, MOST_SITES, MOST_ROWS}
@@ -11,7 +11,7 @@ use Rattle.asm_fields.specs.declared.directives.ItemKind.TheVariants as item
 use Rattle.asm_draft.specs.declared.tables.Tables.{Tables as TablesInCode}
 
 -- the items of each table in their order, and the place of the first one in the text that doesn't stand
--- behind the one before it in its table
+-- after the one before it in its table
 pub record Tables : Type 0 where
   pub imports : List Import
   pub exports : List Export

@@ -58,7 +58,7 @@ pub struct DraftParts<'a> {
     pub code: Vec<Word>,
     /// The words of the data.
     pub data_words: Vec<Word>,
-    /// The items behind the data.
+    /// The items after the data.
     pub tables: Tables,
 }
 
@@ -496,7 +496,7 @@ impl<'a> Draft<'a> {
         self.behind_label(alloc, labelled, fields)
     }
 
-    // Whether the text may end here: behind its data.
+    // Whether the text may end here: after its data.
     pub(crate) fn may_be_whole(&self) -> bool
         ensures { result ≡ (reaches_data self.now.last && may_end self.now) }
     {

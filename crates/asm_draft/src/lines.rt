@@ -43,7 +43,7 @@ fn take_line<'a>(
     draft.line(alloc, &mut fields)
 }
 
-// The draft that all lines make, whether or not the text may end behind them.
+// The draft that all lines make, whether or not the text may end after them.
 fn draft_of_lines<'a>(
     alloc: Global,
     text: &'a [u8],
@@ -78,7 +78,7 @@ fn draft_of_lines<'a>(
 /// The draft that a text makes, which has these tokens, or the first fault of its lines. Where memory is
 /// refused, `NoMemory` stands for either.
 ///
-/// A line is read from left to right, behind those before it. Where the text ends too early, `Section`
+/// A line is read from left to right, after those before it. Where the text ends too early, `Section`
 /// stands at its length.
 #[tactic(auto, unfolding(crate::specs::Whole::draft_of_text))]
 pub fn draft_of<'a>(alloc: Global, text: &'a [u8], tokens: &[Token]) -> Result<Draft<'a>, AsmFault>

@@ -80,7 +80,7 @@ pub(crate) fn reaches_data(last: Option<ItemKind>) -> bool
     rank(ItemKind::Data) <= rank_of(last)
 }
 
-/// The section in which the words behind an item stand.
+/// The section in which the words after an item stand.
 pub(crate) fn section_of(last: Option<ItemKind>) -> Option<Section>
     ensures { result ≡ section_of last }
 {

@@ -1,4 +1,4 @@
-//! The items behind the data of a text.
+//! The items after the data of a text.
 ghost use Rattle.std.specs.Prelude.{◌≡◌, nat_lt, OnOk, option_map};
 ghost use Rattle.std.specs.Option.{option_copied};
 ghost use Rattle.component_file.specs.Limits.{ascends, name_lt};
@@ -9,7 +9,7 @@ use asm_fields::ItemKind;
 use component_file::{Export, Import, KindRow, MOST_EXPORTS, MOST_IMPORTS, MOST_ROWS, MOST_SITES};
 use std::alloc::{AllocError, Global};
 
-/// The items behind the data of a text, in their order. An offset that was written as a label is that of
+/// The items after the data of a text, in their order. An offset that was written as a label is that of
 /// the label, and 0 where there is none.
 #[derive(Drop)]
 pub struct Tables {
@@ -25,7 +25,7 @@ pub struct Tables {
     pub literal_at: Option<u32>,
     /// The kinds of registers at offsets.
     pub rows: Vec<KindRow>,
-    /// The place of the first item that doesn't stand behind the one before it in its table: slots,
+    /// The place of the first item that doesn't stand after the one before it in its table: slots,
     /// names and offsets must rise.
     pub out_of_order: Option<u32>,
 }
@@ -36,7 +36,7 @@ fn name_lt(a: &[u8], b: &[u8]) -> bool
     a.cmp(b).is_lt()
 }
 
-// Whether a number stands rightly behind the one before it.
+// Whether a number stands rightly after the one before it.
 fn rises(before: Option<u32>, number: u32) -> bool
     ensures { result ≡ ascends nat_lt before number }
 {
@@ -46,7 +46,7 @@ fn rises(before: Option<u32>, number: u32) -> bool
     }
 }
 
-// Whether an export of this name stands rightly behind the one before it.
+// Whether an export of this name stands rightly after the one before it.
 fn name_rises(before: Option<&Export>, name: &[u8]) -> bool
     ensures { result ≡ ascends name_lt (option_map (λ b. b.name) (option_copied before.entry)) name.now }
 {

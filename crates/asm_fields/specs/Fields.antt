@@ -40,7 +40,7 @@ place_in (f ∷ fs) end = f.at
 abbrev pub place_of : Input → ℕ
 place_of i = place_in i.rest i.end
 
--- behind the next field
+-- after the next field
 abbrev pub behind : Input → Input
 behind i = record { rest = drop 1 i.rest; end = i.end }
 

@@ -34,7 +34,7 @@ seals_at = do
   cur ← i64_at
   done (record { base = base; end = end; cur = cur })
 
--- what stands behind the directive of a word
+-- what stands after the directive of a word
 abbrev pub word_behind : WordKind → Reader Input AsmFault Word
 word_behind Int = i64_at >>= λ n. done (word.Int n)
 word_behind Cap = cap_at >>= λ c. done (word.Mem c)

@@ -36,7 +36,7 @@ pub enum ItemKind {
 }
 
 impl ItemKind {
-    /// Its name, which stands behind the `.`.
+    /// Its name, which stands after the `.`.
     pub fn name(self) -> &'static str
         ensures { result.now ≡ item_name self }
     {
@@ -71,7 +71,7 @@ pub enum WordKind {
 }
 
 impl WordKind {
-    /// Its name, which stands behind the `.`.
+    /// Its name, which stands after the `.`.
     pub fn name(self) -> &'static str
         ensures { result.now ≡ word_kind_name self }
     {

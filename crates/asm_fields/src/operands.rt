@@ -47,7 +47,7 @@ fn kind_named(fields: &mut Fields<'_, '_>) -> Result<Kind, AsmFault>
     names::kind_named(fields.name()?).ok_or(AsmFault::Operand(at))
 }
 
-// What stands behind the name of a kind.
+// What stands after the name of a kind.
 fn kind_behind<'a>(kind: Kind, fields: &mut Fields<'a, '_>) -> Result<KindField<'a>, AsmFault>
     ensures { GivesAs kind_seen result fields.new (kind_behind kind fields.old) }
 {

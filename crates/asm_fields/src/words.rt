@@ -1,4 +1,4 @@
-//! Words, as a line has them behind their directive.
+//! Words, as a line has them after their directive.
 ghost use Rattle.std.specs.Prelude.{◌≡◌};
 ghost use Rattle.readers.specs.Answers.{Gives};
 ghost use Rattle.asm_fields.specs.Fields.{meant};
@@ -73,7 +73,7 @@ fn word_behind(kind: WordKind, fields: &mut Fields<'_, '_>) -> Result<Word, AsmF
     }
 }
 
-/// The rest of a word's line, behind its directive: `.int N`, `.cap PERM LIN BASE END ADDR`, or
+/// The rest of a word's line, after its directive: `.int N`, `.cap PERM LIN BASE END ADDR`, or
 /// `.seal BASE END CUR`. A sealed word can't be written.
 #[tactic(auto, unfolding(crate::specs::Words::word_line))]
 pub fn word_line(kind: WordKind, fields: &mut Fields<'_, '_>) -> Result<Word, AsmFault>

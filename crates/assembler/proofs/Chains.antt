@@ -1,4 +1,4 @@
--- Lists in which each item stands rightly behind the one before it.
+-- Lists in which each item stands rightly after the one before it.
 use Rattle.std.proofs.Common.{◌≡◌, ℕ, zero, suc, ◌-◌, List, [], ◌∷◌, ◌++◌, length, Option, Some, None, refl}
 use Rattle.std.proofs.Common.{sym, ap, ◌∙◌, subst, arith}
 use Rattle.std.specs.Prelude.{slice_get, slice_set}
@@ -33,12 +33,12 @@ unfolding newest
 stands_behind P before [] x after chain = chain.0
 stands_behind P before (y ∷ xs) x after chain = stands_behind P (Some y) xs x after chain.1
 
--- an item stands rightly behind the last one before it
+-- an item stands rightly after the last one before it
 pub item_in_chain : {A : Type 0} (P : Option A → A → Type 0) (xs : List A) (x : A) (after : List A)
     → Chain P None (xs ++ x ∷ after) → P (last_of xs) x
 item_in_chain P xs x after chain = subst (λ o. P o x) (newest_last xs) (stands_behind P None xs x after chain)
 
--- one more item, behind the last
+-- one more item, after the last
 pub one_behind : {A : Type 0} (P : Option A → A → Type 0) (xs : List A) (x : A) → Chain P None xs
     → P (last_of xs) x → Chain P None (xs ++ x ∷ [])
 one_behind P xs x chain fits = onto P None xs x chain (subst (λ o. P o x) (sym (newest_last xs)) fits)

@@ -2,5 +2,5 @@
 
 -- words and instructions that lines give
 pub use Rattle.assembler.proofs.Words.{IsPartWord}
--- lists in which each item stands rightly behind the one before it
+-- lists in which each item stands rightly after the one before it
 pub use Rattle.assembler.proofs.Chains.{item_in_chain}

@@ -12,7 +12,8 @@ use Rattle.run_audit.specs.Lines.{call, ret, entered, passed, left, halted, fail
 use Rattle.run_audit.specs.Lines.{line_named, one_line, line_in}
 use Rattle.audited_runs.specs.Spelling.{LineIsSpelled, IsSpelled, LinesAreRead}
 use Rattle.audited_runs.proofs.Spelled.{text_read}
-use Rattle.audited_runs.proofs.Taken.{Fields, goes, whole_is, field_is, by_fields}
+use Rattle.line_fields.proofs.Offers.{Fields, goes, whole_is}
+use Rattle.audited_runs.proofs.Taken.{field_is, by_fields}
 use Rattle.audited_runs.proofs.Spelling.{Spells, call_spelled, ret_spelled, enter_spelled, pass_spelled}
 use Rattle.audited_runs.proofs.Spelling.{leave_spelled, spelled}
 use Rattle.audited_runs.proofs.EndsSpelled.{halted_spelled, failed_spelled, running_spelled, end_text_read}

@@ -23,7 +23,7 @@ use Rattle.line_fields.specs.Cuts.{behind}
 use Rattle.line_fields.specs.Numbers.{number_in, integer_in}
 use Rattle.line_fields.specs.Words.{HasText, is_word}
 use Rattle.line_fields.specs.Fields.{meant, tested}
-use Rattle.line_fields.proofs.Offers.{number_is, integer_is, behind_is}
+use Rattle.line_fields.proofs.Offers.{number_is, integer_is, behind_is, Fields, goes, same_read, tested_is}
 use Rattle.run_items.proofs.Offers.{decimal_high, word_high, spaced, cause_high, pc_high}
 use Rattle.run_audit.specs.declared.line.Line.{Line as AuditLine}
 use Rattle.run_audit.specs.declared.line.Line.TheVariants.{End}
@@ -34,8 +34,7 @@ use Rattle.audited_runs.specs.Spelling.IsEndText.{halted as is_halted, running a
 use Rattle.audited_runs.specs.Spelling.IsEndText.{failed as is_failed}
 use Rattle.audited_runs.proofs.Spelled.{read_by}
 use Rattle.audited_runs.proofs.EndsRead.{steps_high, halted_at, running_at, failed_at}
-use Rattle.audited_runs.proofs.Taken.{Fields, goes, same_read, and_then, tested_is, number_taken, word_taken}
-use Rattle.audited_runs.proofs.Taken.{mark_taken}
+use Rattle.audited_runs.proofs.Taken.{and_then, number_taken, word_taken, mark_taken}
 
 -- ---- fields
 
@@ -133,7 +132,7 @@ steps_taken ts y h =
 abbrev holding : Word → View
 holding w = record { reg = λ r. w; cell = λ a. None }
 
--- behind a name, a field and the count; two fields and the count
+-- after a name, a field and the count; two fields and the count
 one_field : (c sp w st n nl : List ℕ)
     → (c ++ (sp ++ (w ++ (sp ++ (st ++ (sp ++ (n ++ []))))))) ++ nl
     ≡ (c ++ sp) ++ (w ++ (((sp ++ st) ++ sp) ++ (n ++ nl)))

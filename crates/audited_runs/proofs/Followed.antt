@@ -108,7 +108,7 @@ one (enter part export stk args back) ps _ b other (at_end _) lp lq n = (true, r
 one (pass p0 p1 p2) ps qs b other h lp lq n = absurd other
 one (leave part a0) ps _ b other (at_end _) lp lq n = (false, refl)
 
--- what stands behind an enter line
+-- what stands after an enter line
 behind_enter : (b : Bool) (x y z : FeedPair) (ps qs : List LineTold)
     → Brackets LineTold ps (marks_in (if b then [] else pass x y z ∷ [])) qs → (n : ℕ)
     → (c : Bool) × (followed (opened_at ps true) n (map line_seen (if b then [] else pass x y z ∷ [])) ≡ Ok

@@ -107,7 +107,7 @@ call_at : (inward : Bool) (part : List ℕ) (site base last : ℕ) (a : Args) (w
     → one_line (codes "call" ∷ call_fields inward part site base last a words)
     ≡ Some (line_seen (call inward part site base last a words), [])
 unfolding one_line line_named call_in told words_left meant tested
-call_at true part site base last a words h =
+call_at inward part site base last a words h =
     let p : is_name part ≡ true = name_is part h.0.0 in
     let s = natural_again site h.0.1 in
     let b = natural_again base h.0.2 in
@@ -117,18 +117,11 @@ call_at true part site base last a words h =
     let x2 = word_read a.a2 h.1.2 in
     let x3 = word_read a.a3 h.1.3 in
     let w = words_read words h.2 in
-    rw (p, s, b, l, x0, x1, x2, x3, w) refl
-call_at false part site base last a words h =
-    let p : is_name part ≡ true = name_is part h.0.0 in
-    let s = natural_again site h.0.1 in
-    let b = natural_again base h.0.2 in
-    let l = natural_again last h.0.3 in
-    let x0 = word_read a.a0 h.1.0 in
-    let x1 = word_read a.a1 h.1.1 in
-    let x2 = word_read a.a2 h.1.2 in
-    let x3 = word_read a.a3 h.1.3 in
-    let w = words_read words h.2 in
-    rw (p, s, b, l, x0, x1, x2, x3, w) refl
+    elim inward as (λ d. one_line (codes "call" ∷ call_fields d part site base last a words)
+    ≡ Some (line_seen (call d part site base last a words), [])) [
+      | true ↦ rw (p, s, b, l, x0, x1, x2, x3, w) refl
+      | false ↦ rw (p, s, b, l, x0, x1, x2, x3, w) refl
+    ]
 
 -- ---- ret lines
 
@@ -173,22 +166,18 @@ ret_at : (inward : Bool) (part : List ℕ) (site base last : ℕ) (a0 : Word) (w
     → one_line (codes "ret" ∷ ret_fields inward part site base last a0 words)
     ≡ Some (line_seen (ret inward part site base last a0 words), [])
 unfolding one_line line_named ret_in told words_left meant tested
-ret_at true part site base last a0 words h =
+ret_at inward part site base last a0 words h =
     let p : is_name part ≡ true = name_is part h.0.0 in
     let s = natural_again site h.0.1 in
     let b = natural_again base h.0.2 in
     let l = natural_again last h.0.3 in
     let x0 = word_read a0 h.1 in
     let w = words_read words h.2 in
-    rw (p, s, b, l, x0, w) refl
-ret_at false part site base last a0 words h =
-    let p : is_name part ≡ true = name_is part h.0.0 in
-    let s = natural_again site h.0.1 in
-    let b = natural_again base h.0.2 in
-    let l = natural_again last h.0.3 in
-    let x0 = word_read a0 h.1 in
-    let w = words_read words h.2 in
-    rw (p, s, b, l, x0, w) refl
+    elim inward as (λ d. one_line (codes "ret" ∷ ret_fields d part site base last a0 words)
+    ≡ Some (line_seen (ret d part site base last a0 words), [])) [
+      | true ↦ rw (p, s, b, l, x0, w) refl
+      | false ↦ rw (p, s, b, l, x0, w) refl
+    ]
 
 -- ---- enter lines
 

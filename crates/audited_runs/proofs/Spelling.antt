@@ -13,7 +13,7 @@ use Rattle.line_fields.specs.Numbers.{natural_in}
 use Rattle.line_fields.specs.Words.{is_word, HasText}
 use Rattle.line_fields.specs.Forms.{back_in, handed_in}
 use Rattle.line_fields.specs.Fields.{meant, tested}
-use Rattle.line_fields.proofs.Offers.{chosen}
+use Rattle.line_fields.proofs.Offers.{chosen, Fields, goes, same_read, unless_is}
 use Rattle.run_items.proofs.Offers.{spaced, body, line_text_is}
 use Rattle.run_audit.specs.declared.line.Line.{Line as AuditLine}
 use Rattle.run_audit.specs.declared.line.Line.TheVariants.{Call, Ret, Pass}
@@ -24,11 +24,10 @@ use Rattle.audited_runs.specs.Audited.{told_seen, line_seen}
 use Rattle.audited_runs.specs.Spelling.{LineHasText, LineIsSpelled}
 use Rattle.audited_runs.proofs.Spelled.{dir_text, call_body, ret_body}
 use Rattle.audited_runs.proofs.Spelled.{enter_body, regroup_pass, regroup_leave}
-use Rattle.audited_runs.proofs.Taken.{Fields, goes, name_taken, number_taken, word_taken}
-use Rattle.audited_runs.proofs.Taken.{direction_taken, mark_taken, back_taken, pair_taken, args_taken}
-use Rattle.audited_runs.proofs.Taken.{unless_is, same_read, and_then, words_taken}
+use Rattle.audited_runs.proofs.Taken.{name_taken, number_taken, word_taken, direction_taken, mark_taken}
+use Rattle.audited_runs.proofs.Taken.{back_taken, pair_taken, args_taken, and_then, words_taken}
 
--- behind a line's name, the fields are those of a line
+-- after a line's name, the fields are those of a line
 pub record Spells (name : List ℕ) (fs : Fields) (l : AuditLine) : Type 0 where
   pub line : Line
   pub is : body line ≡ name ++ spaced fs

@@ -128,6 +128,19 @@ module _ {W : Type 0} (look : W → Word) (plain : Word → W) (seen : (x : Word
         ∙ jnz_jumps look plain _ _ _ _ _ (pos low.base -ℤ pos sb) (seen _) (not_zero low.base sb ne)
         (stays look plain _ _ (ap is_linear (seen _))))
 
+  -- the stack and the word that was stored are handed back, and t2 is left
+  abbrev pub after_return : State W → ℕ → ℕ → ℕ → ℕ → ℕ → ℕ → W → W → State W
+  after_return s base last to sb b end w left = record s {
+    regs = record s.regs {
+      pc = plain (Mem (code_cap base last to));
+      stk = plain (Mem (stack_cap sb end b));
+      dat = w;
+      t1 = zero_word plain;
+      t2 = left;
+    };
+    cells = set_cell s.cells b (zero_word plain);
+  }
+
   -- all words but the last, which leaves T2 to be cleared
   pub return_nine : (s : State W) (base last at sb low b end : ℕ) (to : ℤ) (w : W)
       → (h : HasReturn look s.cells base last at sb)
@@ -136,16 +149,9 @@ module _ {W : Type 0} (look : W → Word) (plain : Word → W) (seen : (x : Word
       → look s.regs.dat ≡ Mem (stack_cap b end b)
       → low + 1 ≡ b → sb ≤ b → b ≤ end → end ≤ LAST_PLACE
       → IsOutsideRange b base last → cell s.cells b ≡ Some w → is_linear (look w) ≡ false
-      → run_of look plain (RETURN_WORDS - 1) s ≡ went (record s {
-        regs = record s.regs {
-          pc = plain (Mem (code_cap base last (at + (RETURN_WORDS - 1))));
-          stk = plain (Mem (stack_cap sb end b));
-          dat = w;
-          t1 = zero_word plain;
-          t2 = plain (Mem (code_cap base last (base + h.fail)));
-        };
-        cells = set_cell s.cells b (zero_word plain);
-      })
+      → run_of look plain (RETURN_WORDS - 1) s
+      ≡ went (after_return s base last (at + (RETURN_WORDS - 1)) sb b end w
+      (plain (Mem (code_cap base last (base + h.fail)))))
   unfolding return_code
   return_nine s base last at sb low b end to w h hpc hstk hdat joint sl le small out there lin =
       let code = h.code in
@@ -170,18 +176,8 @@ module _ {W : Type 0} (look : W → Word) (plain : Word → W) (seen : (x : Word
       (store_goes look plain _ _ _ _ _ (stack_cap sb end b) b w (seen _)
       refl refl sl le there (stays look plain _ _ (ap is_linear (seen _))))
       ∙ ran look plain _
-      ∙ ap (λ k.
-      went (record s {
-        regs = record s.regs {
-          pc = plain (Mem (code_cap base last k));
-          stk = plain (Mem (stack_cap sb end b));
-          dat = w;
-          t1 =
-              zero_word plain;
-          t2 = plain (Mem (code_cap base last (base + h.fail)));
-        };
-        cells = set_cell s.cells b (zero_word plain);
-      })) ends)
+      ∙ ap (λ k. went (after_return s base last k sb b end w
+      (plain (Mem (code_cap base last (base + h.fail)))))) ends)
 
   -- the last word stands where a cell outside the code was set
   pub clearing_stands : (m : FinMap nat_cmp W) (base last at sb a : ℕ) (w : W)
@@ -209,18 +205,7 @@ module _ {W : Type 0} (look : W → Word) (plain : Word → W) (seen : (x : Word
       (omega (arith, en)) (clearing_stands s.cells base last at sb b (zero_word plain) out h) (search rules)
       (set_goes look plain _ _ _ _ refl)
       ∙ ran look plain _
-      ∙ ap (λ k.
-      went (record s {
-        regs = record s.regs {
-          pc = plain (Mem (code_cap base last k));
-          stk = plain (Mem (stack_cap sb end b));
-          dat = w;
-          t1 =
-              zero_word plain;
-          t2 = zero_word plain;
-        };
-        cells = set_cell s.cells b (zero_word plain);
-      })) ends)
+      ∙ ap (λ k. went (after_return s base last k sb b end w (zero_word plain))) ends)
 
   pub return_off_base : ReturnOffBaseFails look plain
   return_off_base s base last at sb low high h hpc hstk hdat ll lh same joint s1 s2 ne =

@@ -40,7 +40,7 @@ use Rattle.call_sequence.proofs.Passing.{stands_same, target_code}
 
 -- ---- a call
 
--- what comes behind the load of the literal, up to the `xjmp`
+-- what comes after the load of the literal, up to the `xjmp`
 abbrev call_rest : ℤ → List Instr
 call_rest site =
     Cca T2 (Imm site) ∷ Geta T1 Stk
@@ -155,7 +155,7 @@ module _ {W : Type 0} (look : W → Word) (plain : Word → W) (seen : (x : Word
 
 -- ---- an entry
 
--- what comes behind the two words that make T2 lead to the `fail`: four tests, and the rest
+-- what comes after the two words that make T2 lead to the `fail`: four tests, and the rest
 abbrev entry_checks : ℕ → List Instr
 entry_checks sb =
     Gettype T1 Stk ∷ Minus T1 T1 (Imm (pos 1)) ∷ Jnz T2 T1

@@ -87,8 +87,8 @@ pub record HasEntry {W : Type 0} (look : W → Word) (m : FinMap nat_cmp W) (bas
 
 -- ---- a call
 
--- The state at a call's `xjmp`: what data held was stored at b + 1, and the stack is split behind b. rcode
--- and rdata are sealed, the code behind the call's words and the stack from b + 1 on.
+-- The state at a call's `xjmp`: what data held was stored at b + 1, and the stack is split after b. rcode
+-- and rdata are sealed, the code after the call's words and the stack from b + 1 on.
 abbrev pub at_xjmp : {W : Type 0} → (Word → W) → State W → ℕ → ℕ → ℕ → ℕ → ℕ → ℕ → ℕ → State W
 at_xjmp plain s base last at seal stack_base end b = record s {
   regs = record s.regs {
@@ -141,7 +141,7 @@ CallOutsideFails {W} look plain = (s : State W) (base last at seal : ℕ) (c : C
 
 -- ---- a return
 
--- stk and data, the stretch right behind it, are joined; data is what the first of its cells held, which is
+-- stk and data, the stretch right after it, are joined; data is what the first of its cells held, which is
 -- now 0
 abbrev pub ReturnRuns : {W : Type 0} → (W → Word) → (Word → W) → Type 0
 ReturnRuns {W} look plain = (s : State W) (base last at stack_base low b end : ℕ) (to : ℤ) (w : W)

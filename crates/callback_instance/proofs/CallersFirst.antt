@@ -36,23 +36,24 @@ use Rattle.proc_templates.specs.Templates.{before_epilogue}
 use Rattle.proc_templates.specs.Compiled.{frame_of, laid_of, lay_proc, first_data, exports_of, imports_of}
 use Rattle.proc_templates.specs.Compiled.{component_of, compiled}
 use Rattle.source_laws.specs.Secrets.{still_there}
-use Rattle.context_laws.specs.Lockstep.{Round}
+use Rattle.lockstep.specs.Lockstep.{Round}
 use Rattle.context_laws.specs.Sources.{IsFirst}
-use Rattle.context_laws.specs.Meanings.{by_number, SameMeaningsAreNotToldApart}
-use Rattle.context_laws.proofs.Offers.{numbers_apart}
+use Rattle.same_meanings.specs.Observed.{by_number}
+use Rattle.same_meanings.proofs.Offers.{numbers_apart}
+use Rattle.context_laws.specs.Meanings.{SameMeaningsAreNotToldApart}
 use Rattle.known_steps.specs.Known.{Known, Partly, blank, knows, case_by, by_fetched, at_pc, known_run}
 use Rattle.known_steps.specs.Known.{words_since, gone, at_xjmp}
 use Rattle.known_steps.proofs.Offers.{known_from, known_at_start, whole, CrossesTo, call_known, RunsTo}
 use Rattle.known_steps.proofs.Offers.{runs_known}
 use Rattle.context_instance.proofs.Offers.{outsider, parts_with, is_linked, other_there}
-use Rattle.callback_instance.specs.Callers.{says, adds, CallersLetGo}
+use Rattle.callback_instance.specs.Callers.{says, CallersLetGo}
 use Rattle.callback_instance.proofs.Run.{its_code, its_data, stack, number, its, its_half}
 use Rattle.callback_instance.proofs.Round.{stays_until, callback}
 use Rattle.callback_instance.proofs.Calling.{callers_mean_the_same}
 use Rattle.callback_instance.proofs.CallersLinks.{says_limits, adds_limits, says_resolved, adds_resolved}
 use Rattle.callback_instance.proofs.CallersLinks.{answerer, main_in, says_sites, says_links, says_start}
-use Rattle.callback_instance.proofs.CallersLinks.{adds_start, says_starts, adds_starts, says_sources}
-use Rattle.callback_instance.proofs.CallersLinks.{adds_sources, callers_beside, callers_differ}
+use Rattle.callback_instance.proofs.CallersLinks.{adds_start, says_link, adds_link, callers_beside}
+use Rattle.callback_instance.proofs.CallersLinks.{callers_differ}
 
 abbrev P : List PartSeen
 P = parts_with answerer (compiled says)
@@ -69,7 +70,7 @@ S = says_start.state.maps.spans
 abbrev at_start : OState
 at_start = (overlay_at says_start).state
 
--- ---- states: at the start, before the call, and behind it
+-- ---- states: at the start, before the call, and after it
 
 abbrev own_data : CapFields
 own_data = record { perm = Rw; lin = Normal; base = 200; end = 203; addr = pos 200 }
@@ -154,7 +155,7 @@ to_call : RunsTo K S L [] 0 true calling at_start
 to_call =
     runs_known K S L [] 0 true 25 beginning calling at_start.maps.cells
     (known_at_start P 8 says_start
-    (is_linked answerer (main_in (compiled says)) (compiled says) 95 4 says_sites says_links)) computed.begins
+    (is_linked answerer (main_in (compiled says)) (compiled says) says_sites says_links)) computed.begins
     computed.to_call
 
 calls : CrossesTo K S L 0 [] called (frame ∷ []) 1 (whole K S L [] 0 calling to_call.0)
@@ -184,10 +185,8 @@ is_first = record {
 
 pub callers_go : SameMeaningsAreNotToldApart → CallersLetGo
 callers_go law =
-    let both = law by_number numbers_apart (says ∷ []) (adds ∷ []) P (parts_with answerer (compiled adds)) 8
-    says_start adds_start
-    says_starts adds_starts says_sources adds_sources callers_beside (outsider answerer)
-    (other_there answerer (main_in (compiled says)) (compiled says) 95 4 says_sites says_links)
+    let both = law by_number numbers_apart says_link adds_link callers_beside (outsider answerer)
+    (other_there answerer (main_in (compiled says)) (compiled says) says_sites says_links)
     (callers_mean_the_same 8) in
     let r = both.0.2.lets_go first is_first in
     record {
@@ -196,16 +195,9 @@ callers_go law =
       differ = callers_differ;
       same = callers_mean_the_same;
       there = record {
-        parts = P;
-        parts_too = parts_with answerer (compiled adds);
-        size = 8;
-        start = says_start;
-        start_too = adds_start;
-        is = says_starts;
-        is_too = adds_starts;
-        sources = says_sources;
-        sources_too = adds_sources;
-        beside = callers_beside;
+        sources = says_link;
+        sources_too = adds_link;
+        are = record { one_is = refl; other_is = refl; beside = callers_beside };
       };
       inside = computed.begins;
       inside_too = adds_begins;

@@ -16,7 +16,6 @@ use Rattle.linked_starts.specs.Links.{rules_l, rule_at, l1, l2, l3, l4, l5, l6, 
 use Rattle.linked_starts.specs.Regions.{regions_of}
 use Rattle.linked_starts.specs.Start.{Exported}
 use Rattle.linked_starts.specs.Started.{StartSeen}
-use Rattle.linked_starts.specs.LinkedStarts.{IsStartOf}
 use Rattle.linked_starts.specs.declared.owners.Site.{Site}
 use Rattle.linked_starts.proofs.Offers.{first_broken_in, no_rule, site_of, sites_are}
 use Rattle.proc_language.specs.Words.{is_source_name, is_reserved}
@@ -31,67 +30,37 @@ use Rattle.proc_templates.specs.Compiled.{frame_of, laid_of, lay_proc, code_word
 use Rattle.proc_templates.specs.Compiled.{exports_of, imports_of, component_of, compiled}
 use Rattle.proc_templates.specs.Kept.{FitsComponent}
 use Rattle.proc_templates.proofs.Offers.{names_differ, limits_kept, keeps_flow}
-use Rattle.source_starts.specs.Sources.{AreSources, linked_at}
-use Rattle.context_laws.specs.Sources.{AreBeside}
+use Rattle.source_starts.specs.Sources.{AreSources, LinkedSources}
+use Rattle.context_laws.specs.Sources.{Beside}
 use Rattle.context_instance.proofs.Offers.{adversary, adversary_fits, outsider, parts_with, Links, start}
-use Rattle.context_instance.proofs.Offers.{is_start_of, beside_of}
+use Rattle.context_instance.proofs.Offers.{linked_start, beside_of, module_fits}
 use Rattle.callback_instance.specs.Callers.{says, adds}
 
 -- ---- the modules
 
 pub says_limits : IsModule says
 unfolding is_source_name is_reserved names.is_name
-says_limits = record {
-  name = refl;
-  code = omega arith;
-  data_base = omega arith;
-  closure = omega arith;
-  returns = (omega arith, omega arith, omega arith);
-  stack = omega arith;
-  imports = (omega arith, ((refl, refl, omega arith), tt));
-  globals = (omega arith, tt);
-  some = omega arith;
-  procs = (
-    omega arith,
-    (
-      record {
-        name = refl;
-        params = tt;
-        registers = omega arith;
-        locals = (omega arith, tt);
-        body = (((refl, omega arith), (omega arith, tt)), tt);
-      },
-      tt,
-    ),
-  );
-}
+says_limits =
+    module_fits _ _ _ _ (omega arith) (omega arith, ((refl, refl, omega arith), tt)) (omega arith, tt)
+    (record {
+      name = refl;
+      params = tt;
+      registers = omega arith;
+      locals = (omega arith, tt);
+      body = (((refl, omega arith), (omega arith, tt)), tt);
+    })
 
 pub adds_limits : IsModule adds
 unfolding is_source_name is_reserved names.is_name
-adds_limits = record {
-  name = refl;
-  code = omega arith;
-  data_base = omega arith;
-  closure = omega arith;
-  returns = (omega arith, omega arith, omega arith);
-  stack = omega arith;
-  imports = (omega arith, ((refl, refl, omega arith), tt));
-  globals = (omega arith, tt);
-  some = omega arith;
-  procs = (
-    omega arith,
-    (
-      record {
-        name = refl;
-        params = tt;
-        registers = omega arith;
-        locals = (omega arith, tt);
-        body = (((refl, omega arith), ((omega arith, omega arith), tt)), tt);
-      },
-      tt,
-    ),
-  );
-}
+adds_limits =
+    module_fits _ _ _ _ (omega arith) (omega arith, ((refl, refl, omega arith), tt)) (omega arith, tt)
+    (record {
+      name = refl;
+      params = tt;
+      registers = omega arith;
+      locals = (omega arith, tt);
+      body = (((refl, omega arith), ((omega arith, omega arith), tt)), tt);
+    })
 
 pub says_resolved : name_faults says ≡ []
 unfolding callee_named passed_named variable_named
@@ -199,7 +168,7 @@ says_sites = site_of (compiled says) 46 ∷ []
 abbrev pub adds_sites : List Site
 adds_sites = site_of (compiled adds) 55 ∷ []
 
-pub says_links : Links answerer (main_in (compiled says)) (compiled says) 95 4 says_sites
+pub says_links : Links answerer (main_in (compiled says)) (compiled says) says_sites
 unfolding regions_of number_of entry_code call_code return_code component_of frame_of laid_of lay_proc
     before_epilogue put instrs first_data exports_of imports_of variable_named callee_named l10
 says_links = record {
@@ -220,16 +189,11 @@ says_links = record {
   still = refl;
   sites_are = sites_are (compiled says) answerer 46 refl;
   code_base = refl;
-  data_base = refl;
-  code_long = refl;
-  data_long = refl;
-  stack_base = refl;
   stack_is = refl;
-  regions = refl;
   spans = search (rules, arith);
 }
 
-pub adds_links : Links answerer (main_in (compiled adds)) (compiled adds) 104 4 adds_sites
+pub adds_links : Links answerer (main_in (compiled adds)) (compiled adds) adds_sites
 unfolding regions_of number_of entry_code call_code return_code component_of frame_of laid_of lay_proc
     before_epilogue put instrs first_data exports_of imports_of variable_named callee_named l10
 adds_links = record {
@@ -250,28 +214,17 @@ adds_links = record {
   still = refl;
   sites_are = sites_are (compiled adds) answerer 55 refl;
   code_base = refl;
-  data_base = refl;
-  code_long = refl;
-  data_long = refl;
-  stack_base = refl;
   stack_is = refl;
-  regions = refl;
   spans = search (rules, arith);
 }
 
 -- ---- the starts
 
 abbrev pub says_start : StartSeen
-says_start = start answerer (main_in (compiled says)) (compiled says) 95 4 says_sites says_links
+says_start = start answerer (main_in (compiled says)) (compiled says) says_sites says_links
 
 abbrev pub adds_start : StartSeen
-adds_start = start answerer (main_in (compiled adds)) (compiled adds) 104 4 adds_sites adds_links
-
-pub says_starts : IsStartOf (parts_with answerer (compiled says)) 8 says_start
-says_starts = is_start_of answerer (main_in (compiled says)) (compiled says) 95 4 says_sites says_links
-
-pub adds_starts : IsStartOf (parts_with answerer (compiled adds)) 8 adds_start
-adds_starts = is_start_of answerer (main_in (compiled adds)) (compiled adds) 104 4 adds_sites adds_links
+adds_start = start answerer (main_in (compiled adds)) (compiled adds) adds_sites adds_links
 
 pub says_sources : AreSources (says ∷ []) (parts_with answerer (compiled says))
 says_sources = record { limits = (says_limits, tt); resolved = (says_resolved, tt); compiled = refl }
@@ -279,11 +232,24 @@ says_sources = record { limits = (says_limits, tt); resolved = (says_resolved, t
 pub adds_sources : AreSources (adds ∷ []) (parts_with answerer (compiled adds))
 adds_sources = record { limits = (adds_limits, tt); resolved = (adds_resolved, tt); compiled = refl }
 
-pub callers_beside : AreBeside (linked_at (parts_with answerer (compiled says)) 8 says_start)
-    (linked_at (parts_with answerer (compiled adds)) 8 adds_start)
+abbrev pub says_link : LinkedSources
+says_link = record {
+  modules = says ∷ [];
+  linked = linked_start answerer (main_in (compiled says)) (compiled says) says_sites says_links;
+  are_sources = says_sources;
+}
+
+abbrev pub adds_link : LinkedSources
+adds_link = record {
+  modules = adds ∷ [];
+  linked = linked_start answerer (main_in (compiled adds)) (compiled adds) adds_sites adds_links;
+  are_sources = adds_sources;
+}
+
+pub callers_beside : Beside says_link.link adds_link.link
 callers_beside =
-    beside_of answerer (main_in (compiled says)) (main_in (compiled adds)) (compiled says) (compiled adds) 95
-    4 104 4 says_sites adds_sites says_links adds_links
+    beside_of answerer (main_in (compiled says)) (main_in (compiled adds)) (compiled says) (compiled adds)
+    says_sites adds_sites says_links adds_links
 
 pub callers_differ : compiled says ≢ compiled adds
 unfolding number_of entry_code call_code return_code component_of frame_of laid_of lay_proc before_epilogue

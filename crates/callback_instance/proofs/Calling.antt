@@ -14,10 +14,9 @@ use Rattle.same_meanings.specs.Same.{tracing, Continuation, Waiter, wait_at, Sid
 use Rattle.same_meanings.specs.Same.{SameWaits, SameRefined, first_store}
 use Rattle.same_meanings.proofs.Offers.{any_feed, both_deeper, ticks, both_wipe, both_call, both_halt}
 use Rattle.same_meanings.proofs.Offers.{both_place, same_as, tick, head_of, it, IsSingle, both_found}
-use Rattle.same_meanings.proofs.Offers.{single_decides}
-use Rattle.context_laws.specs.Meanings.{name_of, by_number, MeanTheSame}
-use Rattle.context_laws.specs.Meanings as observing
-use Rattle.context_laws.proofs.Offers.{settled_mean}
+use Rattle.same_meanings.proofs.Offers.{single_decides, settled_mean}
+use Rattle.same_meanings.specs.Observed.{name_of, by_number, MeanTheSame}
+use Rattle.same_meanings.specs.Observed as observing
 use Rattle.callback_instance.specs.Callers.{says, adds}
 
 abbrev U : Program

@@ -13,7 +13,6 @@ use Rattle.linked_starts.specs.Regions.{regions_of}
 use Rattle.linked_starts.specs.Standing.{placed}
 use Rattle.linked_starts.specs.Start.{main_of}
 use Rattle.linked_starts.specs.Started.{StartSeen}
-use Rattle.linked_starts.specs.LinkedStarts.{IsStartOf}
 use Rattle.linked_starts.specs.declared.owners.Site.{Site}
 use Rattle.linked_starts.proofs.Offers.{first_broken_in, no_rule, site_of, sites_are}
 use Rattle.proc_names.specs.Names.{variable_named, callee_named}
@@ -25,10 +24,10 @@ use Rattle.proc_templates.specs.Compiled.{frame_of, laid_of, lay_proc, code_word
 use Rattle.proc_templates.specs.Compiled.{exports_of, imports_of, component_of, compiled}
 use Rattle.proc_templates.specs.Kept.{FitsComponent}
 use Rattle.proc_templates.proofs.Offers.{names_differ, limits_kept, keeps_flow}
-use Rattle.source_starts.specs.Sources.{AreSources, linked_at}
-use Rattle.context_laws.specs.Sources.{AreBeside}
-use Rattle.context_instance.proofs.Offers.{adversary, adversary_is, parts_of, main, Links, start, is_start_of}
-use Rattle.context_instance.proofs.Offers.{main_there, beside_of}
+use Rattle.source_starts.specs.Sources.{AreSources, LinkedSources}
+use Rattle.context_laws.specs.Sources.{Beside}
+use Rattle.context_instance.proofs.Offers.{adversary, adversary_is, parts_of, main, Links, start}
+use Rattle.context_instance.proofs.Offers.{linked_start, main_there, beside_of}
 use Rattle.callback_instance.specs.Passes.{passes, stores}
 use Rattle.callback_instance.proofs.Modules.{limits, limits_too, resolved, resolved_too}
 
@@ -72,7 +71,7 @@ two_linked = refl
 
 -- ---- what is asked of them; each has one site
 
-pub one_links : Links adversary main (compiled passes) 137 2 (site_of (compiled passes) 80 ∷ [])
+pub one_links : Links adversary main (compiled passes) (site_of (compiled passes) 80 ∷ [])
 unfolding regions_of number_of entry_code call_code return_code component_of frame_of laid_of lay_proc
     before_epilogue put instrs first_data exports_of imports_of variable_named callee_named l10
 one_links = record {
@@ -91,16 +90,11 @@ one_links = record {
   still = refl;
   sites_are = sites_are (compiled passes) adversary 80 refl;
   code_base = refl;
-  data_base = refl;
-  code_long = refl;
-  data_long = refl;
-  stack_base = refl;
   stack_is = refl;
-  regions = refl;
   spans = search (rules, arith);
 }
 
-pub two_links : Links adversary main (compiled stores) 143 3 (site_of (compiled stores) 86 ∷ [])
+pub two_links : Links adversary main (compiled stores) (site_of (compiled stores) 86 ∷ [])
 unfolding regions_of number_of entry_code call_code return_code component_of frame_of laid_of lay_proc
     before_epilogue put instrs first_data exports_of imports_of variable_named callee_named l10
 two_links = record {
@@ -119,12 +113,7 @@ two_links = record {
   still = refl;
   sites_are = sites_are (compiled stores) adversary 86 refl;
   code_base = refl;
-  data_base = refl;
-  code_long = refl;
-  data_long = refl;
-  stack_base = refl;
   stack_is = refl;
-  regions = refl;
   spans = search (rules, arith);
 }
 
@@ -137,16 +126,7 @@ abbrev pub stores_sites : List Site
 stores_sites = site_of (compiled stores) 86 ∷ []
 
 abbrev pub passes_start : StartSeen
-passes_start = start adversary main (compiled passes) 137 2 passes_sites one_links
-
-abbrev pub stores_start : StartSeen
-stores_start = start adversary main (compiled stores) 143 3 stores_sites two_links
-
-pub passes_starts : IsStartOf (parts_of (compiled passes)) 8 passes_start
-passes_starts = is_start_of adversary main (compiled passes) 137 2 passes_sites one_links
-
-pub stores_starts : IsStartOf (parts_of (compiled stores)) 8 stores_start
-stores_starts = is_start_of adversary main (compiled stores) 143 3 stores_sites two_links
+passes_start = start adversary main (compiled passes) passes_sites one_links
 
 pub passes_sources : AreSources (passes ∷ []) (parts_of (compiled passes))
 passes_sources = record { limits = (limits, tt); resolved = (resolved, tt); compiled = refl }
@@ -154,14 +134,27 @@ passes_sources = record { limits = (limits, tt); resolved = (resolved, tt); comp
 pub stores_sources : AreSources (stores ∷ []) (parts_of (compiled stores))
 stores_sources = record { limits = (limits_too, tt); resolved = (resolved_too, tt); compiled = refl }
 
+abbrev pub passes_link : LinkedSources
+passes_link = record {
+  modules = passes ∷ [];
+  linked = linked_start adversary main (compiled passes) passes_sites one_links;
+  are_sources = passes_sources;
+}
+
+abbrev pub stores_link : LinkedSources
+stores_link = record {
+  modules = stores ∷ [];
+  linked = linked_start adversary main (compiled stores) stores_sites two_links;
+  are_sources = stores_sources;
+}
+
 pub passes_main : main_of (placed (parts_of (compiled passes)) 8) ≡ Some main
-passes_main = main_there adversary main (compiled passes) 137 2 passes_sites one_links
+passes_main = main_there adversary main (compiled passes) passes_sites one_links
 
 pub stores_main : main_of (placed (parts_of (compiled stores)) 8) ≡ Some main
-stores_main = main_there adversary main (compiled stores) 143 3 stores_sites two_links
+stores_main = main_there adversary main (compiled stores) stores_sites two_links
 
-pub beside : AreBeside (linked_at (parts_of (compiled passes)) 8 passes_start)
-    (linked_at (parts_of (compiled stores)) 8 stores_start)
+pub beside : Beside passes_link.link stores_link.link
 beside =
-    beside_of adversary main main (compiled passes) (compiled stores) 137 2 143 3 passes_sites stores_sites
-    one_links two_links
+    beside_of adversary main main (compiled passes) (compiled stores) passes_sites stores_sites one_links
+    two_links

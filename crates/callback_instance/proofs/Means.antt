@@ -3,11 +3,9 @@ use Rattle.std.proofs.Common.{◌≡◌, ℕ, [], ◌∷◌, map, refl}
 use Rattle.proc_names.specs.Names.{variable_named, callee_named}
 use Rattle.proc_program.specs.Lower.{part_of}
 use Rattle.proc_semantics.specs.Values.{found, main_target}
-use Rattle.same_meanings.proofs.Offers.{any_feed}
-use Rattle.context_laws.specs.Meanings.{name_of, observed, by_number, MeanTheSame}
-use Rattle.context_laws.specs.Meanings as observing
-use Rattle.context_laws.specs.Ends.{EndTheSame}
-use Rattle.context_laws.proofs.Offers.{settled_mean, settled_ends}
+use Rattle.same_meanings.specs.Observed.{name_of, observed, by_number, MeanTheSame, EndTheSame}
+use Rattle.same_meanings.specs.Observed as observing
+use Rattle.same_meanings.proofs.Offers.{any_feed, settled_mean, settled_ends}
 use Rattle.callback_instance.specs.Passes.{passes, stores, asked, called_and_left}
 use Rattle.callback_instance.proofs.Passing.{passes_same}
 

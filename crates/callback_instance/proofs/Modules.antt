@@ -7,61 +7,32 @@ use Rattle.proc_language.specs.Limits.{IsModule}
 use Rattle.proc_names.specs.Names.{variable_named, callee_named, passed_named}
 use Rattle.proc_names.specs.NameFaults.{name_faults}
 use Rattle.proc_templates.specs.Compiled.{compiled, component_of, first_data}
+use Rattle.context_instance.proofs.Offers.{module_fits}
 use Rattle.callback_instance.specs.Passes.{passes, stores}
 
 pub limits : IsModule passes
 unfolding is_source_name is_reserved names.is_name
-limits = record {
-  name = refl;
-  code = omega arith;
-  data_base = omega arith;
-  closure = omega arith;
-  returns = (omega arith, omega arith, omega arith);
-  stack = omega arith;
-  imports = (omega arith, tt);
-  globals = (omega arith, tt);
-  some = omega arith;
-  procs = (
-    omega arith,
-    (
-      record {
-        name = refl;
-        params = ((refl, tt), ((refl, omega arith), tt));
-        registers = omega arith;
-        locals = (omega arith, tt);
-        body = (((refl, omega arith), ((refl, refl), tt)), tt);
-      },
-      tt,
-    ),
-  );
-}
+limits =
+    module_fits _ _ _ _ (omega arith) (omega arith, tt) (omega arith, tt)
+    (record {
+      name = refl;
+      params = ((refl, tt), ((refl, omega arith), tt));
+      registers = omega arith;
+      locals = (omega arith, tt);
+      body = (((refl, omega arith), ((refl, refl), tt)), tt);
+    })
 
 pub limits_too : IsModule stores
 unfolding is_source_name is_reserved names.is_name
-limits_too = record {
-  name = refl;
-  code = omega arith;
-  data_base = omega arith;
-  closure = omega arith;
-  returns = (omega arith, omega arith, omega arith);
-  stack = omega arith;
-  imports = (omega arith, tt);
-  globals = (omega arith, ((refl, tt, tt), tt));
-  some = omega arith;
-  procs = (
-    omega arith,
-    (
-      record {
-        name = refl;
-        params = ((refl, tt), ((refl, omega arith), tt));
-        registers = omega arith;
-        locals = (omega arith, tt);
-        body = ((refl, refl), ((((refl, omega arith), ((refl, refl), tt))), tt));
-      },
-      tt,
-    ),
-  );
-}
+limits_too =
+    module_fits _ _ _ _ (omega arith) (omega arith, tt) (omega arith, ((refl, tt, tt), tt))
+    (record {
+      name = refl;
+      params = ((refl, tt), ((refl, omega arith), tt));
+      registers = omega arith;
+      locals = (omega arith, tt);
+      body = ((refl, refl), ((((refl, omega arith), ((refl, refl), tt))), tt));
+    })
 
 pub resolved : name_faults passes ≡ []
 unfolding callee_named passed_named variable_named

@@ -40,18 +40,19 @@ use Rattle.source_events.specs.declared.FeedPair.TheVariants as fed
 use Rattle.source_events.specs.declared.FeedBack.TheVariants as way
 use Rattle.source_laws.specs.Trace.{event_items}
 use Rattle.source_laws.specs.Secrets.{Until, still_there, one_more}
-use Rattle.context_laws.specs.Related.{SameNames, Calls, StepsAlike, both_halt, both_fail, both_stay}
-use Rattle.context_laws.specs.Related.{both_come}
-use Rattle.context_laws.specs.Lockstep.{Round, IsRound, Path, InStep, at_end, round}
-use Rattle.context_laws.specs.Lockstep as path
-use Rattle.context_laws.specs.Meanings.{by_number, SameMeaningsAreNotToldApart, item_by, items_in}
-use Rattle.context_laws.proofs.Offers.{numbers_apart, one_feed}
+use Rattle.lockstep.specs.Related.{SameNames, Calls, StepsAlike, both_halt, both_fail, both_stay}
+use Rattle.lockstep.specs.Related.{both_come}
+use Rattle.lockstep.specs.Lockstep.{Round, IsRound, Path, InStep, at_end, round}
+use Rattle.lockstep.specs.Lockstep as path
+use Rattle.same_meanings.specs.Observed.{by_number}
+use Rattle.same_meanings.proofs.Offers.{numbers_apart, one_feed}
+use Rattle.context_laws.specs.Meanings.{SameMeaningsAreNotToldApart, item_by, items_in}
 use Rattle.known_steps.specs.Known.{Partly, Stays, here, on}
 use Rattle.known_steps.proofs.Offers.{StepsTo, whole, step_known, CrossesTo, call_known, return_known, RunsTo}
 use Rattle.known_steps.proofs.Offers.{runs_known, jump_note, halts_known, event_by, jump_event}
 use Rattle.known_steps.proofs.Offers.{known_at_start}
 use Rattle.context_instance.proofs.Offers.{adversary, outsider, main, is_linked, other_there}
-use Rattle.callback_instance.specs.Passes.{passes, stores, asked}
+use Rattle.callback_instance.specs.Passes.{passes, asked}
 use Rattle.callback_instance.specs.CalledBack.{RunCallsBack, PassersCallBack}
 use Rattle.callback_instance.proofs.Links.{passes_start, passes_sites, one_links}
 use Rattle.callback_instance.proofs.Means.{mean_the_same}
@@ -119,7 +120,7 @@ sides = record {
 to_entry : RunsTo K S L [] 0 false entering at_start
 to_entry =
     runs_known K S L [] 0 false 12 beginning entering at_start.maps.cells
-    (known_at_start P 8 passes_start (is_linked adversary main (compiled passes) 137 2 passes_sites
+    (known_at_start P 8 passes_start (is_linked adversary main (compiled passes) passes_sites
     one_links)) sides.begins
     computed.to_entry
 
@@ -346,9 +347,9 @@ halts_too (round a b comes crossing more) e = halts_too more e
 pub passers_call_back : SameMeaningsAreNotToldApart → PassersCallBack
 passers_call_back law =
     let t = links_there in
-    let both = law by_number numbers_apart (passes ∷ []) (stores ∷ []) t.parts t.parts_too t.size t.start
-    t.start_too t.is t.is_too t.sources t.sources_too t.beside (outsider adversary)
-    (other_there adversary main (compiled passes) 137 2 passes_sites one_links) (mean_the_same t.size) in
+    let both = law by_number numbers_apart t.sources t.sources_too t.are.beside (outsider adversary)
+    (other_there adversary main (compiled passes) passes_sites one_links)
+    (mean_the_same t.sources.size) in
     let r = both.0.2.begins sides.begins run.steps run.last (run.first ∷ run.second ∷ []) run.path in
     record {
       there = t;

@@ -81,7 +81,7 @@ its_half = Plain (Sealed 30 (MemIn (its_data 272)))
 abbrev pub beginning : Partly
 beginning = record { regs = plain_regs (start_regs P 8 main); changes = [] }
 
--- before it enters the module, and behind that
+-- before it enters the module, and after that
 abbrev pub entering : Partly
 entering = record {
   regs = record (plain_regs (zero_regs (λ w. w))) {
@@ -104,7 +104,7 @@ entered = record entering {
   regs = record entering.regs { pc = Plain (Mem (own_code 3)); dat = Plain (Mem own_data) };
 }
 
--- before the call, and behind it
+-- before the call, and after it
 abbrev pub calling : Partly
 calling = record {
   regs = record entered.regs {
@@ -138,7 +138,7 @@ called = record {
   changes = gone 301 7 calling.changes;
 }
 
--- before the answer, and behind it
+-- before the answer, and after it
 abbrev pub answering : Partly
 answering = record called {
   regs = record called.regs { pc = Plain (Mem (its_code 264)); a0 = number 9 };
@@ -150,7 +150,7 @@ site = record { seal = 12; base = 1; end = 137; at = 81 }
 abbrev pub answered : Partly
 answered = behind_return site (stack 300 300) frame Rdata answering
 
--- before the module leaves, and behind that
+-- before the module leaves, and after that
 abbrev pub leaving : Partly
 leaving = record {
   regs = record (plain_regs (zero_regs (λ w. w))) {

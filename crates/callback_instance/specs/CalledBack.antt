@@ -9,10 +9,11 @@ use Rattle.overlay_machine.specs.Step.{halts, overlay_step}
 use Rattle.overlay_machine.specs.Starting.{overlay_at}
 use Rattle.run_lines.specs.Layout.{layout}
 use Rattle.template_runs.specs.Border.{Opened, code_word, half_word, ShowsCall, ShowsLeave}
-use Rattle.source_starts.specs.Sources.{linked_at}
-use Rattle.context_laws.specs.Related.{SameNames}
-use Rattle.context_laws.specs.Lockstep.{Round, Path, InStep}
-use Rattle.context_laws.specs.Meanings.{by_number, GoByNames, items_in}
+use Rattle.same_meanings.specs.Observed.{by_number}
+use Rattle.source_starts.specs.Links.{overlay_link, first_state}
+use Rattle.lockstep.specs.Lockstep.{Round, Path, InStep}
+use Rattle.context_laws.specs.Sources.{NamesOf}
+use Rattle.context_laws.specs.Meanings.{GoByNames, items_in}
 use Rattle.context_instance.specs.Doubles.{LinksBeside, MainIsUntrusted}
 use Rattle.callback_instance.specs.Passes.{asked, passes, stores}
 
@@ -53,15 +54,14 @@ pub record RunCallsBack (s : StartSeen) : Type 0 where
 pub record PassersCallBack : Type 0 where
   pub there : LinksBeside passes stores
   pub main : MainIsUntrusted there
-  pub one : RunCallsBack there.start
-  pub names : SameNames (linked_at there.parts there.size there.start)
-      (linked_at there.parts_too there.size there.start_too)
+  pub one : RunCallsBack there.sources.start
+  pub names : NamesOf there.sources.link there.sources_too.link
   pub by_names : GoByNames by_number names
   pub rounds : List Round
   pub last : OState
-  pub path : Path (layout there.start_too) one.steps (overlay_at there.start_too).state rounds last
-  pub in_step : InStep (linked_at there.parts there.size there.start)
-      (linked_at there.parts_too there.size there.start_too) names [] (one.first ∷ one.second ∷ []) rounds
-      one.last last
-  pub came : items_in (layout there.start_too) rounds last ≡ asked
-  pub halted : overlay_step (layout there.start_too) last ≡ halts
+  pub path :
+      Path (layout there.sources_too.start) one.steps (first_state there.sources_too.link) rounds last
+  pub in_step : InStep (overlay_link there.sources.link) (overlay_link there.sources_too.link) names []
+      (one.first ∷ one.second ∷ []) rounds one.last last
+  pub came : items_in (layout there.sources_too.start) rounds last ≡ asked
+  pub halted : overlay_step (layout there.sources_too.start) last ≡ halts

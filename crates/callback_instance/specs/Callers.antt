@@ -1,6 +1,5 @@
 -- Two modules that have main themselves: it calls out, and halts with what is answered.
 use Rattle.std.specs.Prelude.{◌≡◌, ◌≢◌, ℕ, pos, true, [], ◌∷◌, map}
-use Rattle.overlay_machine.specs.Starting.{overlay_at}
 use Rattle.run_lines.specs.Cuts.{is_inside}
 use Rattle.run_lines.specs.Layout.{layout}
 use Rattle.proc_language.specs.declared.tree.Op.TheVariants.{Plus}
@@ -11,11 +10,12 @@ use Rattle.proc_names.specs.NameFaults.{name_faults}
 use Rattle.proc_program.specs.Lower.{part_of}
 use Rattle.proc_templates.specs.Compiled.{compiled}
 use Rattle.template_runs.specs.Border.{Opened}
-use Rattle.source_starts.specs.Sources.{linked_at}
-use Rattle.context_laws.specs.Related.{SameNames, Calls}
-use Rattle.context_laws.specs.Lockstep.{Round, SameCrossing}
-use Rattle.context_laws.specs.Sources.{IsFirst}
-use Rattle.context_laws.specs.Meanings.{by_number, MeanTheSame, GoByNames, GoesInStep}
+use Rattle.same_meanings.specs.Observed.{by_number, MeanTheSame}
+use Rattle.source_starts.specs.Links.{overlay_link, first_state}
+use Rattle.lockstep.specs.Related.{Calls}
+use Rattle.lockstep.specs.Lockstep.{Round, SameCrossing}
+use Rattle.context_laws.specs.Sources.{NamesOf, IsFirst}
+use Rattle.context_laws.specs.Meanings.{GoByNames, GoesInStep}
 use Rattle.context_instance.specs.Doubles.{named, g, exporting, module_t, LinksBeside}
 use Rattle.callback_instance.specs.CalledBack.{CallsWith}
 
@@ -43,19 +43,17 @@ pub record CallersLetGo : Type 0 where
   pub differ : compiled says ≢ compiled adds
   pub same : (size : ℕ) → MeanTheSame by_number (map part_of (says ∷ [])) (map part_of (adds ∷ [])) size
   pub there : LinksBeside says adds
-  pub inside : is_inside (layout there.start) (overlay_at there.start).state ≡ true
-  pub inside_too : is_inside (layout there.start_too) (overlay_at there.start_too).state ≡ true
+  pub inside : is_inside (layout there.sources.start) (first_state there.sources.link) ≡ true
+  pub inside_too : is_inside (layout there.sources_too.start) (first_state there.sources_too.link) ≡ true
   pub first : Round
-  pub lets_go : IsFirst there.start first
+  pub lets_go : IsFirst there.sources.start first
   pub pair : Opened
-  pub calls : CallsWith (layout there.start) pair (pos 6) first
-  pub names : SameNames (linked_at there.parts there.size there.start)
-      (linked_at there.parts_too there.size there.start_too)
+  pub calls : CallsWith (layout there.sources.start) pair (pos 6) first
+  pub names : NamesOf there.sources.link there.sources_too.link
   pub by_names : GoByNames by_number names
   pub first_too : Round
-  pub lets_go_too : IsFirst there.start_too first_too
+  pub lets_go_too : IsFirst there.sources_too.start first_too
   pub in_both : Calls
-  pub shows : SameCrossing (linked_at there.parts there.size there.start)
-      (linked_at there.parts_too there.size there.start_too) names [] first first_too in_both
-  pub on : GoesInStep by_number (linked_at there.parts there.size there.start)
-      (linked_at there.parts_too there.size there.start_too) names in_both first.after first_too.after
+  pub shows : SameCrossing (overlay_link there.sources.link) (overlay_link there.sources_too.link) names []
+      first first_too in_both
+  pub on : GoesInStep by_number names in_both first.after first_too.after

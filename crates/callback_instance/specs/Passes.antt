@@ -11,8 +11,8 @@ use Rattle.source_events.specs.declared.Item.TheVariants.{Enter, Ret}
 use Rattle.source_events.specs.declared.FeedPair.TheVariants as fed
 use Rattle.source_events.specs.declared.FeedBack.TheVariants as way
 use Rattle.proc_semantics.specs.Marked.{Event, Calls, Leaves, Number}
-use Rattle.context_laws.specs.Meanings.{Came, observed}
-use Rattle.context_laws.specs.Meanings as observing
+use Rattle.same_meanings.specs.Observed.{Came, observed}
+use Rattle.same_meanings.specs.Observed as observing
 use Rattle.context_instance.specs.Doubles.{named, x, g, exporting, module_t, global_g, AreOne}
 
 -- the parameter p

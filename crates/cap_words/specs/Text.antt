@@ -67,7 +67,7 @@ word_text_of (Mem c) = cap_text c
 word_text_of (Seal s) = seal_text s
 word_text_of (Sealed seal content) = sealed_text seal content
 
--- a field of a line, behind a blank; and a line's end
+-- a field of a line, after a blank; and a line's end
 abbrev pub field_text : List ℕ → List ℕ
 field_text text = codes " " ++ text
 

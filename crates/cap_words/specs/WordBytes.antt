@@ -26,13 +26,13 @@ abbrev pub lin_number : Lin → ℕ
 lin_number Normal = 0
 lin_number Linear = 1
 
--- behind the tag: permission, linearity, base, end, address
+-- after the tag: permission, linearity, base, end, address
 unfoldable pub cap_bytes : CapFields → List ℕ
 cap_bytes c =
     perm_number c.perm ∷ lin_number c.lin
     ∷ (number_bytes 4 c.base ++ (number_bytes 4 c.end ++ signed_bytes c.addr))
 
--- behind the tag: base, end, current seal
+-- after the tag: base, end, current seal
 unfoldable pub seal_bytes : SealFields → List ℕ
 seal_bytes s = number_bytes 4 s.base ++ (number_bytes 4 s.end ++ signed_bytes s.cur)
 

@@ -9,7 +9,7 @@ use Rattle.command_words.specs.Texts.{Text, texts_of}
 use Rattle.command_words.specs.Part.{part_in, parts_in}
 use Rattle.command_words.specs.declared.part.PartWord.{PartWord}
 
--- some parts, and others behind them
+-- some parts, and others after them
 abbrev pub behind : List PartWord → Option (List PartWord) → Option (List PartWord)
 behind before None = None
 behind before (Some after) = Some (before ++ after)

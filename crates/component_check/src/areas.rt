@@ -37,7 +37,7 @@ fn is_past_end(base: u32, count: u32) -> bool
     count != 0 && u64::from(LAST_PLACE) + 1 < u64::from(base) + u64::from(count)
 }
 
-/// Whether two areas have an address in common, or one begins right behind the other. An empty area
+/// Whether two areas have an address in common, or one begins right after the other. An empty area
 /// is near to nothing.
 pub fn are_near(a: Area, b: Area) -> bool
     ensures { result ≡ are_near a b }

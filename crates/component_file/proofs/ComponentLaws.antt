@@ -100,24 +100,7 @@ component_reads = reads_as next_component
     (λ literal_at p14.
     reads_then (λ (c : ComponentFields). c.rows) (next_list 4 0 MOST_ROWS next_row) _
     (list_read next_row row_reads 4 0 MOST_ROWS (omega arith)) (λ rows p15.
-    reads_done (record {
-      name = name;
-      stack_base = stack_base;
-      closure = closure;
-      seals = seals;
-      linear = record { base = linear.base; count = linear.count };
-      code_base = code_base;
-      code = code;
-      data_base = data_base;
-      data_words = data_words;
-      imports = imports;
-      exports = exports;
-      sites = sites;
-      fail_at = fail_at;
-      literal_at = literal_at;
-      rows = rows;
-      movable = movable;
-    })
+    reads_done _
     (λ c k. rw (
       ← k.1,
       ← k.0.1,
@@ -226,7 +209,7 @@ pub read_cut : (c : ComponentFields) (n : ℕ) → IsComponent c → n < length 
 unfolding decoded
 read_cut = whole.cut_whole component_reads Trailing
 
--- what stands behind a component is too much
+-- what stands after a component is too much
 pub read_past : (c : ComponentFields) (b : ℕ) (more : List ℕ) → IsComponent c
     → decoded (spelling c ++ b ∷ more) ≡ Err (Trailing (length (spelling c)))
 unfolding decoded

@@ -26,7 +26,7 @@ ascends less (Some before) x = less before x
 abbrev pub name_lt : List ℕ → List ℕ → Bool
 name_lt a b = is_lt (slice_cmp nat_cmp a b)
 
--- each item stands rightly behind the one before it
+-- each item stands rightly after the one before it
 abbrev pub Chain : {A : Type 0} → (Option A → A → Type 0) → Option A → List A → Type 0
 Chain P before [] = Unit {0}
 Chain P before (x ∷ xs) = P before x × Chain P (Some x) xs

@@ -21,7 +21,7 @@ pub enum FileFault {
     /// The field that begins here says nothing: a number outside its limits, an unknown tag, a bad
     /// name.
     BadField(u32),
-    /// The item that begins here doesn't stand behind the one before it: what orders them must rise.
+    /// The item that begins here doesn't stand after the one before it: what orders them must rise.
     Order(u32),
     /// The component ends, and more bytes begin here.
     Trailing(u32),

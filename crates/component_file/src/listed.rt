@@ -18,10 +18,10 @@ use std::alloc::Global;
 
 // An item of a list. Some lists have an order, so an item is told the one before it.
 pub(crate) trait Listed: Drop {
-    // reading an item behind another, or the first
+    // reading an item after another, or the first
     ghost next_item: { Option Self → Reader Input FileFault Self };
 
-    // The next item, behind the one before it.
+    // The next item, after the one before it.
     fn read(alloc: Global, before: Option<&Self>, bytes: &mut Cursor<'_>) -> Result<Self, FileFault>
         ensures { GivesUnlessRefused is_refusal result bytes.new
             (next_item (option_copied before.entry) bytes.old) };
@@ -75,7 +75,7 @@ fn name_lt(a: &[u8], b: &[u8]) -> bool
     a.cmp(b).is_lt()
 }
 
-// Whether an export of this name may stand behind the one before it.
+// Whether an export of this name may stand after the one before it.
 fn rises(before: Option<&Export>, name: &[u8]) -> bool
     ensures { result ≡ ascends name_lt (option_map (λ b. b.name) (option_copied before.entry)) name.now }
 {

@@ -108,7 +108,7 @@ fn link_placed(alloc: Global, parts: &PlacedParts, stack: u32) -> Result<Start, 
 
 /// The start of parts that are linked with a stack of this many words.
 ///
-/// Movable parts are placed behind the others and the stack, as docs/RULES.md says; the others stand
+/// Movable parts are placed after the others and the stack, as docs/RULES.md says; the others stand
 /// at their own numbers. Code and data stand at the bases that they have then, with the two halves of
 /// what an import names in its slot; linear areas and the stack are integer 0. The registers pc and
 /// data are the halves of the one shared export `main`, unsealed; stk is the linear capability over

@@ -133,7 +133,7 @@ fn moved_part(c: &Component, trusted: bool, movement: Option<Move>) -> Placed<'_
     }
 }
 
-// What is free behind a part.
+// What is free after a part.
 fn behind(part: &Placed<'_>) -> Free
     ensures is { result ≡ behind part.now.component }
     ensures small { (result.address ≤ 2 ^ 21) × (result.seal ≤ 2 ^ 21) }
@@ -208,7 +208,7 @@ impl<'a> PlacedParts<'a> {
     }
 }
 
-// What is free behind the stack.
+// What is free after the stack.
 fn behind_stack(parts: &[Part], stack: u32) -> Free
     ensures is { result ≡ behind_stack (stack_span parts.now stack) }
     ensures small { (result.address ≤ 2 ^ 21) × (result.seal ≤ 2 ^ 21) }
@@ -242,7 +242,7 @@ fn past_fixed(free: Free, part: &Part) -> Free
     }
 }
 
-// What is free behind the stack and the parts that aren't movable.
+// What is free after the stack and the parts that aren't movable.
 fn free_of(parts: &[Part], stack: u32) -> Free
     ensures is { result ≡ free_of parts.now stack }
     ensures small { (result.address ≤ 2 ^ 21) × (result.seal ≤ 2 ^ 21) }
@@ -379,7 +379,7 @@ fn placed_at(part: &Part, free: Free) -> Placed<'_>
     moved_part(component, part.trusted(), move_of(free, component.fields()))
 }
 
-// What is free behind it, where it is movable; else as much as before.
+// What is free after it, where it is movable; else as much as before.
 fn past(part: &Part, free: Free) -> Free
     requires fits { IsComponent (settled free part.now.component) }
     requires small { (free.address ≤ 2 ^ 21) × (free.seal ≤ 2 ^ 21) }

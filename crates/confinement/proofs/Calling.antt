@@ -1,4 +1,4 @@
--- The word behind a call of a return word is fetched from the code of a site.
+-- The word after a call of a return word is fetched from the code of a site.
 use Rattle.std.proofs.Common.{◌≡◌, inl, inr, ℕ, ◌+◌, ◌-◌, ◌≤◌, ℤ, pos, negsuc, Some, None, refl, sym, ap, ◌∙◌}
 use Rattle.std.proofs.Common.{arith, subst}
 use Rattle.std.specs.Prelude.{nat_le}

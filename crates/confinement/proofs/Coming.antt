@@ -9,8 +9,8 @@ use Rattle.lcm_isa.specs.declared.Reg.{Reg}
 use Rattle.lcm_isa.specs.declared.Reg.TheVariants.{Pc, Stk}
 use Rattle.lcm_machine.specs.Maps.{State}
 use Rattle.lcm_machine.specs.Places.{reg}
-use Rattle.lcm_machine.specs.Row.{Outcome, went, halted, failed, faces, cell_faces, fetch, step_of}
-use Rattle.lcm_machine.specs.Runs.{and_then, run_of, code_cap}
+use Rattle.lcm_machine.specs.Row.{went, faces, cell_faces, fetch}
+use Rattle.lcm_machine.specs.Runs.{run_of, code_cap}
 use Rattle.lcm_machine.specs.Acts.{Fetches}
 use Rattle.call_sequence.specs.declared.TheConstants.{CALL_WORDS, RETURN_WORDS, ENTRY_WORDS}
 use Rattle.call_sequence.specs.SequenceRuns.{stack_cap}
@@ -36,26 +36,11 @@ use Rattle.overlay_machine.specs.Safe.{IsSafe}
 use Rattle.overlay_machine.specs.Invariant.{Invariant}
 use Rattle.overlay_machine.proofs.Offers.{View, at_entry, in_part, failing, out, view, looks, ready, flat-mem}
 use Rattle.overlay_machine.proofs.Offers.{HasCall-flat, HasEntry-flat, never_entry}
+use Rattle.headline.proofs.Offers.{first_step, run_none}
 use Rattle.confinement.proofs.Jumping.{id, fetched_in}
 use Rattle.confinement.proofs.Pairs.{of_pair}
 use Rattle.confinement.proofs.Returning.{in_site}
 use Rattle.confinement.proofs.Calling.{onto_return}
-
--- the first step of a run that went, and the rest
-pub first_step : (n : ℕ) (s v : State Word) → run_of id id (suc n) s ≡ went v
-    → (u : State Word) × (step_of id id s ≡ went u) × (run_of id id n u ≡ went v)
-unfolding run_of
-first_step n s v e = by_step (step_of id id s) refl e
-  where
-    by_step : (r : Outcome Word) → step_of id id s ≡ r → and_then r (run_of id id n) ≡ went v
-        → (u : State Word) × (step_of id id s ≡ went u) × (run_of id id n u ≡ went v)
-    by_step (went u) m g = (u, m, g)
-    by_step halted m g = cc
-    by_step (failed c at) m g = cc
-
-pub run_none : (s v : State Word) → run_of id id 0 s ≡ went v → s ≡ v
-unfolding run_of
-run_none s v e = cc
 
 module _ (g : Link) (linked : Linked g) (o : OState) (t : State Word) (inv : Invariant g o t) where
   abbrev l : Layout
@@ -157,7 +142,7 @@ module _ (g : Link) (linked : Linked g) (o : OState) (t : State Word) (inv : Inv
         (subst (λ b. IsInRange a r.base b) (ap (λ y. y.end) c)
         (elim (w.touches a (inl f)) as (λ _. IsInRange a r.base r.end) [ inl y ↦ y | inr y ↦ absurd y.1 ])))
 
-    -- ---- an `xjmp` of a return word, and what comes behind it
+    -- ---- an `xjmp` of a return word, and what comes after it
 
     back_comes : (r1 r2 : Reg) → AtReturn l r1 r2 o → i < weight_by o.maps (Back r1 r2) → (i ≡ 0 → Comes)
         → Comes

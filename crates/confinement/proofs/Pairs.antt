@@ -1,4 +1,4 @@
--- An `xjmp` of a return word that goes: it was of the pair of an open call, and pc is behind the call of its
+-- An `xjmp` of a return word that goes: it was of the pair of an open call, and pc is after the call of its
 -- site, with the call's range.
 use Rattle.std.proofs.Common.{◌≡◌, ◌⊎◌, inl, inr, ℕ, ◌+◌, pos, true, false, Option, Some, None, refl, sym, ap}
 use Rattle.std.proofs.Common.{◌∙◌}

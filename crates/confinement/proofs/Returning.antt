@@ -1,4 +1,4 @@
--- The words behind an `xjmp` of a return word are fetched from the code of a site, whatever they do.
+-- The words after an `xjmp` of a return word are fetched from the code of a site, whatever they do.
 use Rattle.std.proofs.Common.{◌≡◌, inl, inr, ℕ, ◌+◌, ◌<◌, ◌≤◌, pos, true, List, ◌∷◌, refl, sym, ap, ◌∙◌}
 use Rattle.std.proofs.Common.{subst, arith, eqb-true}
 use Rattle.std.specs.Prelude.{◌&&◌, ◌==◌}

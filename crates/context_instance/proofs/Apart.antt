@@ -1,19 +1,29 @@
 -- The law: two ways to double a number are one to code outside.
-use Rattle.std.proofs.Common.{◌≡◌, ◌≢◌, ℕ, [], ◌∷◌, map, refl}
+use Rattle.std.proofs.Common.{◌≡◌, ◌≢◌, ℕ, [], ◌∷◌, map, refl, sym, subst}
 use Rattle.proc_language.specs.declared.module.ModuleFields.{ModuleFields}
 use Rattle.proc_language.specs.Limits.{IsModule}
 use Rattle.proc_names.specs.NameFaults.{name_faults}
 use Rattle.proc_program.specs.Lower.{part_of}
 use Rattle.proc_templates.specs.Compiled.{compiled}
-use Rattle.context_laws.specs.Meanings.{by_number, MeanTheSame, SameMeaningsAreNotToldApart}
-use Rattle.context_laws.specs.Ends.{EndTheSame, SameMeaningsEndAlike}
-use Rattle.context_laws.proofs.Offers.{numbers_apart}
-use Rattle.context_instance.specs.Doubles.{sums, keeps, LinksBeside, MainIsUntrusted, AreOne, TwoWays}
+use Rattle.proc_semantics.specs.Values.{World}
+use Rattle.same_meanings.specs.Observed.{by_number, MeanTheSame, EndTheSame}
+use Rattle.same_meanings.proofs.Offers.{numbers_apart}
+use Rattle.source_starts.specs.Sources.{LinkedSources, world_of}
+use Rattle.context_laws.specs.Meanings.{SameMeaningsAreNotToldApart}
+use Rattle.context_laws.specs.Ends.{SameMeaningsEndAlike}
+use Rattle.context_instance.specs.Doubles.{sums, keeps, LinkBeside, LinksBeside, MainIsUntrusted, AreOne}
+use Rattle.context_instance.specs.Doubles.{TwoWays}
 use Rattle.context_instance.proofs.Modules.{limits, limits_too, resolved, resolved_too, differ}
 use Rattle.context_instance.proofs.Same.{mean_the_same, end_the_same}
-use Rattle.context_instance.proofs.Links.{parts_of}
-use Rattle.context_instance.proofs.Beginnings.{main, sums_start, keeps_start, sums_starts, keeps_starts}
-use Rattle.context_instance.proofs.Beginnings.{sums_sources, keeps_sources, sums_main, keeps_main, beside}
+use Rattle.context_instance.proofs.Beginnings.{main, sums_link, keeps_link, sums_main, keeps_main, beside}
+
+-- what holds of the worlds of two modules holds of those of links of them
+worlds : {one other : ModuleFields} (P : World → World → Type 0) (a b : LinkedSources)
+    → LinkBeside one other a b → P (map part_of (one ∷ [])) (map part_of (other ∷ []))
+    → P (world_of a) (world_of b)
+worlds {one} P a b are p =
+    subst (λ ms. P (map part_of ms) (world_of b)) (sym are.one_is)
+    (subst (λ ms. P (map part_of (one ∷ [])) (map part_of ms)) (sym are.other_is) p)
 
 -- of modules that mean the same and end the same way
 pub are_one : SameMeaningsAreNotToldApart → SameMeaningsEndAlike → {one other : ModuleFields}
@@ -28,28 +38,23 @@ are_one law alike {one} {other} limits resolved differ same ends there main = re
   differ = differ;
   same = same;
   ends = ends;
-  apart = λ parts parts' size s s' is is' src src' b p u.
-      law by_number numbers_apart (one ∷ []) (other ∷ []) parts parts' size s s' is is' src src' b p u
-      (same size);
-  alike = λ parts parts' size s s' is is' src src' b.
-      alike by_number numbers_apart (one ∷ []) (other ∷ []) parts parts' size s s' is is' src src' b
-      (same size) (ends size);
+  apart = λ a b are p u. law by_number numbers_apart a b are.beside p u (mean a b are);
+  alike = λ a b are.
+      alike by_number numbers_apart a b are.beside (mean a b are)
+      (worlds (λ w v. EndTheSame by_number w v a.size) a b are (ends a.size));
   there = there;
   main = main;
 }
+  where
+    mean : (a b : LinkedSources) → LinkBeside one other a b
+        → MeanTheSame by_number (world_of a) (world_of b) a.size
+    mean a b are = worlds (λ w v. MeanTheSame by_number w v a.size) a b are (same a.size)
 
 abbrev there : LinksBeside sums keeps
 there = record {
-  parts = parts_of (compiled sums);
-  parts_too = parts_of (compiled keeps);
-  size = 8;
-  start = sums_start;
-  start_too = keeps_start;
-  is = sums_starts;
-  is_too = keeps_starts;
-  sources = sums_sources;
-  sources_too = keeps_sources;
-  beside = beside;
+  sources = sums_link;
+  sources_too = keeps_link;
+  are = record { one_is = refl; other_is = refl; beside = beside };
 }
 
 pub two_ways : SameMeaningsAreNotToldApart → SameMeaningsEndAlike → TwoWays

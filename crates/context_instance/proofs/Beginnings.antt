@@ -1,12 +1,11 @@
 -- The starts of both modules beside the adversary, and that they are beside each other.
-use Rattle.std.proofs.Common.{◌≡◌, inl, inr, ℕ, zero, suc, ◌+◌, ◌-◌, true, false, List, [], ◌∷◌, map, length}
+use Rattle.std.proofs.Common.{◌≡◌, inl, inr, ℕ, zero, suc, true, false, List, [], ◌∷◌, map}
 use Rattle.std.proofs.Common.{Some, None, Ok, refl, sym, ap, ◌∙◌, arith, subst, rules}
 use Rattle.std.specs.Prelude.{slice_get}
 use Rattle.std.specs.List.{Contains}
 use Rattle.std.proofs.lemmas.List.Sorted.{IsPermutation-refl}
 use Rattle.lcm_isa.specs.Numbers.{number_of}
 use Rattle.lcm_machine.specs.declared.cells.Span.{Span}
-use Rattle.lcm_machine.specs.Regions.{Region}
 use Rattle.lcm_machine.specs.Spans.{AreSpans}
 use Rattle.lcm_machine.proofs.Offers.{bases_rise, contains_cases, contains_none}
 use Rattle.component_file.specs.declared.component.ComponentFields.{ComponentFields}
@@ -34,8 +33,9 @@ use Rattle.proc_templates.specs.Items.{put, instrs}
 use Rattle.proc_templates.specs.Templates.{before_epilogue}
 use Rattle.proc_templates.specs.Compiled.{frame_of, laid_of, lay_proc, first_data, exports_of, imports_of}
 use Rattle.proc_templates.specs.Compiled.{component_of, compiled}
-use Rattle.source_starts.specs.Sources.{AreSources, linked_at}
-use Rattle.context_laws.specs.Sources.{AreBeside}
+use Rattle.source_starts.specs.Links.{overlay_link}
+use Rattle.source_starts.specs.Sources.{LinkedStart, AreSources, LinkedSources}
+use Rattle.context_laws.specs.Sources.{Beside}
 use Rattle.context_instance.specs.Doubles.{sums, keeps}
 use Rattle.context_instance.proofs.Modules.{limits, limits_too, resolved, resolved_too}
 use Rattle.context_instance.proofs.Links.{adversary, adversary_is, outsider, parts_with, parts_of, each_with}
@@ -51,16 +51,8 @@ main = record {
 abbrev pub stack : Span
 stack = record { base = 300; end = 307 }
 
--- the regions, where a module has so many code and data words
-abbrev pub regions_are : ℕ → ℕ → List Region
-regions_are n d =
-    record { base = 1; end = n; linear = false } ∷ record { base = 200; end = 200 + d - 1; linear = false }
-    ∷ record { base = 250; end = 265; linear = false } ∷ record { base = 272; end = 277; linear = false }
-    ∷ record { base = 300; end = 307; linear = true } ∷ []
-
 -- what is asked of a module's component beside that of a part that isn't trusted
-pub record Links (u : ComponentFields) (m : Exported) (c : ComponentFields) (n d : ℕ) (sites : List Site)
-    : Type 0 where
+pub record Links (u : ComponentFields) (m : Exported) (c : ComponentFields) (sites : List Site) : Type 0 where
   pub outside : IsPart (outsider u)
   pub its_base : u.code_base ≡ 250
   pub its_still : u.movable ≡ false
@@ -73,12 +65,7 @@ pub record Links (u : ComponentFields) (m : Exported) (c : ComponentFields) (n d
   pub still : c.movable ≡ false
   pub sites_are : AreSites (parts_with u c) sites
   pub code_base : c.code_base ≡ 1
-  pub data_base : c.data_base ≡ 200
-  pub code_long : length c.code ≡ n
-  pub data_long : length c.data_words ≡ d
-  pub stack_base : c.stack_base ≡ 300
   pub stack_is : stack_span (parts_with u c) 8 ≡ Some stack
-  pub regions : regions_of (parts_with u c) 8 ≡ regions_are n d
   pub spans : AreSpans 0 (map region_span (regions_of (parts_with u c) 8))
 
 -- a module that calls nothing has no sites
@@ -104,7 +91,7 @@ without_sites u c none = record {
             cc
         by (suc (suc k)) p at t e = cc
 
-pub one_links : Links adversary main (compiled sums) 71 2 []
+pub one_links : Links adversary main (compiled sums) []
 unfolding regions_of number_of entry_code call_code return_code component_of frame_of laid_of lay_proc
     before_epilogue put instrs first_data exports_of imports_of variable_named l10
 one_links = record {
@@ -123,16 +110,11 @@ one_links = record {
   still = refl;
   sites_are = without_sites adversary (compiled sums) refl;
   code_base = refl;
-  data_base = refl;
-  code_long = refl;
-  data_long = refl;
-  stack_base = refl;
   stack_is = refl;
-  regions = refl;
   spans = search (rules, arith);
 }
 
-pub two_links : Links adversary main (compiled keeps) 109 3 []
+pub two_links : Links adversary main (compiled keeps) []
 unfolding regions_of number_of entry_code call_code return_code component_of frame_of laid_of lay_proc
     before_epilogue put instrs first_data exports_of imports_of variable_named l10
 two_links = record {
@@ -151,19 +133,14 @@ two_links = record {
   still = refl;
   sites_are = without_sites adversary (compiled keeps) refl;
   code_base = refl;
-  data_base = refl;
-  code_long = refl;
-  data_long = refl;
-  stack_base = refl;
   stack_is = refl;
-  regions = refl;
   spans = search (rules, arith);
 }
 
 -- ---- a start
 
-module _ (u : ComponentFields) (m : Exported) (c : ComponentFields) (n d : ℕ) (sites : List Site)
-    (is : Links u m c n d sites) where
+module _ (u : ComponentFields) (m : Exported) (c : ComponentFields) (sites : List Site)
+    (is : Links u m c sites) where
   abbrev pub P : List PartSeen
   P = parts_with u c
 
@@ -217,11 +194,14 @@ module _ (u : ComponentFields) (m : Exported) (c : ComponentFields) (n d : ℕ) 
   pub is_start_of : IsStartOf P 8 start
   is_start_of = subst (λ ps. IsLinkedStart ps 8 start) (sym placed_same) is_linked
 
+  abbrev pub linked_start : LinkedStart
+  linked_start = record { link = record { parts = P; size = 8; start = start }; is_start = is_start_of }
+
   -- what stands beside the module alone is untrusted
-  pub other_there : IsUntrusted (linked_at P 8 start) (outsider u)
+  pub other_there : IsUntrusted (overlay_link linked_start.link) (outsider u)
   other_there = (subst (λ ps. Contains ps (outsider u)) (sym placed_same) (1, omega arith, refl), refl)
 
-  only_other : (p : PartSeen) → IsUntrusted (linked_at P 8 start) p → outsider u ≡ p
+  only_other : (p : PartSeen) → IsUntrusted (overlay_link linked_start.link) p → outsider u ≡ p
   only_other p t = elim (contains_cases (record { component = c; trusted = true }) (outsider u ∷ []) p
       (subst (λ ps. Contains ps p) placed_same t.0)) as (λ _. outsider u ≡ p) [
         | inl e ↦ absurd (let bad : true ≡ false = ap (λ (x : PartSeen). x.trusted) e ∙ t.1 in cc)
@@ -233,47 +213,50 @@ module _ (u : ComponentFields) (m : Exported) (c : ComponentFields) (n d : ℕ) 
 
 -- ---- both
 
-abbrev pub sums_start : StartSeen
-sums_start = start adversary main (compiled sums) 71 2 [] one_links
-
-abbrev pub keeps_start : StartSeen
-keeps_start = start adversary main (compiled keeps) 109 3 [] two_links
-
-pub sums_starts : IsStartOf (parts_of (compiled sums)) 8 sums_start
-sums_starts = is_start_of adversary main (compiled sums) 71 2 [] one_links
-
-pub keeps_starts : IsStartOf (parts_of (compiled keeps)) 8 keeps_start
-keeps_starts = is_start_of adversary main (compiled keeps) 109 3 [] two_links
-
 pub sums_sources : AreSources (sums ∷ []) (parts_of (compiled sums))
 sums_sources = record { limits = (limits, tt); resolved = (resolved, tt); compiled = refl }
 
 pub keeps_sources : AreSources (keeps ∷ []) (parts_of (compiled keeps))
 keeps_sources = record { limits = (limits_too, tt); resolved = (resolved_too, tt); compiled = refl }
 
+abbrev pub sums_link : LinkedSources
+sums_link = record {
+  modules = sums ∷ [];
+  linked = linked_start adversary main (compiled sums) [] one_links;
+  are_sources = sums_sources;
+}
+
+abbrev pub keeps_link : LinkedSources
+keeps_link = record {
+  modules = keeps ∷ [];
+  linked = linked_start adversary main (compiled keeps) [] two_links;
+  are_sources = keeps_sources;
+}
+
 -- the same part has main in both
-pub main_there : (u : ComponentFields) (m : Exported) (c : ComponentFields) (n d : ℕ) (sites : List Site)
-    → Links u m c n d sites → main_of (placed (parts_with u c) 8) ≡ Some m
-main_there u m c n d sites is = ap main_of (placed_same u m c n d sites is) ∙ is.main_is
+pub main_there : (u : ComponentFields) (m : Exported) (c : ComponentFields) (sites : List Site)
+    → Links u m c sites → main_of (placed (parts_with u c) 8) ≡ Some m
+main_there u m c sites is = ap main_of (placed_same u m c sites is) ∙ is.main_is
 
 -- two modules beside the same part, which is what is untrusted in both; either may have main
-pub beside_of : (u : ComponentFields) (m w : Exported) (c e : ComponentFields) (n d k l : ℕ)
-    (sites more : List Site) (is : Links u m c n d sites) (are : Links u w e k l more)
-    → AreBeside (linked_at (parts_with u c) 8 (start u m c n d sites is))
-    (linked_at (parts_with u e) 8 (start u w e k l more are))
-beside_of u m w c e n d k l sites more is are p = (
-  λ t. subst (IsUntrusted (linked_at (parts_with u e) 8 (start u w e k l more are)))
-      (only_other u m c n d sites is p t) (other_there u w e k l more are),
-  λ t. subst (IsUntrusted (linked_at (parts_with u c) 8 (start u m c n d sites is)))
-      (only_other u w e k l more are p t) (other_there u m c n d sites is),
-)
+pub beside_of : (u : ComponentFields) (m w : Exported) (c e : ComponentFields) (sites more : List Site)
+    (is : Links u m c sites) (are : Links u w e more)
+    → Beside (linked_start u m c sites is).link (linked_start u w e more are).link
+beside_of u m w c e sites more is are = record {
+  one_size = refl;
+  same_parts = λ p. (
+    λ t. subst (IsUntrusted (overlay_link (linked_start u w e more are).link))
+        (only_other u m c sites is p t) (other_there u w e more are),
+    λ t. subst (IsUntrusted (overlay_link (linked_start u m c sites is).link))
+        (only_other u w e more are p t) (other_there u m c sites is),
+  );
+}
 
 pub sums_main : main_of (placed (parts_of (compiled sums)) 8) ≡ Some main
-sums_main = main_there adversary main (compiled sums) 71 2 [] one_links
+sums_main = main_there adversary main (compiled sums) [] one_links
 
 pub keeps_main : main_of (placed (parts_of (compiled keeps)) 8) ≡ Some main
-keeps_main = main_there adversary main (compiled keeps) 109 3 [] two_links
+keeps_main = main_there adversary main (compiled keeps) [] two_links
 
-pub beside : AreBeside (linked_at (parts_of (compiled sums)) 8 sums_start)
-    (linked_at (parts_of (compiled keeps)) 8 keeps_start)
-beside = beside_of adversary main main (compiled sums) (compiled keeps) 71 2 109 3 [] [] one_links two_links
+pub beside : Beside sums_link.link keeps_link.link
+beside = beside_of adversary main main (compiled sums) (compiled keeps) [] [] one_links two_links

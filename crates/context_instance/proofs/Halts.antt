@@ -22,10 +22,10 @@ use Rattle.proc_semantics.specs.Rules.{entered, by_item, level}
 use Rattle.proc_semantics.specs.Marked.{Thing, Event, Whence, Regs, event_to, numbered_items, refined}
 use Rattle.proc_semantics.specs.Marked as tagged
 use Rattle.same_meanings.specs.Same.{tracing}
-use Rattle.same_meanings.proofs.Offers.{head_of, tick}
-use Rattle.context_laws.specs.Meanings.{name_of, observed}
-use Rattle.context_laws.proofs.Offers.{settled_mean, end_later}
+use Rattle.same_meanings.specs.Observed.{name_of, observed}
+use Rattle.same_meanings.proofs.Offers.{head_of, tick, settled_mean, end_later}
 use Rattle.context_instance.specs.Halts.{halts, EndsCount}
+use Rattle.context_instance.proofs.Modules.{module_fits}
 
 -- no event is told, under any fuel
 abbrev Silent : tracing.Comp → Type 0
@@ -173,30 +173,15 @@ ends_so n size f le =
 
 limits : (n : ℕ) → n ≤ 2147483647 → IsModule (halts n)
 unfolding is_source_name is_reserved names.is_name
-limits n le = record {
-  name = refl;
-  code = omega arith;
-  data_base = omega arith;
-  closure = omega arith;
-  returns = (omega arith, omega arith, omega arith);
-  stack = omega arith;
-  imports = (omega arith, tt);
-  globals = (omega arith, tt);
-  some = omega arith;
-  procs = (
-    omega arith,
-    (
-      record {
-        name = refl;
-        params = tt;
-        registers = omega arith;
-        locals = (omega arith, tt);
-        body = (omega (arith, le), tt);
-      },
-      tt,
-    ),
-  );
-}
+limits n le =
+    module_fits _ _ _ _ (omega arith) (omega arith, tt) (omega arith, tt)
+    (record {
+      name = refl;
+      params = tt;
+      registers = omega arith;
+      locals = (omega arith, tt);
+      body = (omega (arith, le), tt);
+    })
 
 resolved : (n : ℕ) → name_faults (halts n) ≡ []
 unfolding callee_named passed_named variable_named

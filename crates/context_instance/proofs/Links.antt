@@ -136,7 +136,7 @@ adversary_checked : check_from (broken_at C) 1 (rules_c adversary false) ≡ Ok 
 unfolding c1 c2 c3 c4 c5 c6 c7 c8 c9 number_of
 adversary_checked = refl
 
--- a part that isn't trusted, behind the module's
+-- a part that isn't trusted, after the module's
 abbrev pub outsider : ComponentFields → PartSeen
 outsider u = record { component = u; trusted = false }
 

@@ -25,10 +25,9 @@ use Rattle.same_meanings.specs.Straight.{a_closure, an_other, no_values, and_val
 use Rattle.same_meanings.proofs.Offers.{any_feed, tick, both_deeper, ticks, both_place, both_wipe}
 use Rattle.same_meanings.proofs.Offers.{both_number, same_as, starts_without, straight_decide, behind_same}
 use Rattle.same_meanings.proofs.Offers.{head_of, it, Both, of_both, HopSame, IsSingle, both_found}
-use Rattle.context_laws.specs.Meanings.{name_of, by_number, MeanTheSame}
-use Rattle.context_laws.specs.Meanings as observing
-use Rattle.context_laws.specs.Ends.{EndTheSame}
-use Rattle.context_laws.proofs.Offers.{settled_mean, settled_ends}
+use Rattle.same_meanings.specs.Observed.{name_of, by_number, MeanTheSame, EndTheSame}
+use Rattle.same_meanings.specs.Observed as observing
+use Rattle.same_meanings.proofs.Offers.{settled_mean, settled_ends}
 use Rattle.context_instance.specs.Doubles.{sums, keeps}
 use Rattle.context_instance.proofs.Doubled.{Grows, doubled, at_last}
 
@@ -90,7 +89,7 @@ sums_gives : (env : List Value) (st : Store)
 unfolding variable_named
 sums_gives env st = refl
 
--- a sum that is given ends a procedure, whatever stands behind
+-- a sum that is given ends a procedure, whatever stands after
 gives_first : (o : Option ℤ) (st : Store) (f : List Value → Store → Outcome)
     → followed (followed (followed (with_some o (λ v. Gives v st)) (λ env st. GoesOn env st)) f)
     (λ env st. Gives (pos 0) st) ≡ gives o st

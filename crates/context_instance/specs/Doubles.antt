@@ -1,10 +1,7 @@
 -- Two modules that double a number, in two ways.
 use Rattle.std.specs.Prelude.{◌≡◌, ◌≢◌, ℕ, true, false, List, [], ◌∷◌, map, Some, None}
 use Rattle.linked_starts.specs.Parts.{PartSeen}
-use Rattle.linked_starts.specs.Standing.{placed}
 use Rattle.linked_starts.specs.Start.{Exported, main_of}
-use Rattle.linked_starts.specs.Started.{StartSeen}
-use Rattle.linked_starts.specs.LinkedStarts.{IsStartOf}
 use Rattle.overlay_machine.specs.Link.{IsUntrusted}
 use Rattle.proc_language.specs.declared.tree.Name.{Name}
 use Rattle.proc_language.specs.declared.tree.Op.TheVariants.{Plus, Equal}
@@ -18,10 +15,12 @@ use Rattle.proc_language.specs.Limits.{IsModule}
 use Rattle.proc_names.specs.NameFaults.{name_faults}
 use Rattle.proc_program.specs.Lower.{part_of}
 use Rattle.proc_templates.specs.Compiled.{compiled}
-use Rattle.source_starts.specs.Sources.{AreSources, linked_at}
-use Rattle.context_laws.specs.Sources.{AreBeside}
-use Rattle.context_laws.specs.Meanings.{by_number, MeanTheSame, DoesTheSame}
-use Rattle.context_laws.specs.Ends.{EndTheSame, RunsEndAlike}
+use Rattle.same_meanings.specs.Observed.{by_number, MeanTheSame, EndTheSame}
+use Rattle.source_starts.specs.Links.{overlay_link}
+use Rattle.source_starts.specs.Sources.{LinkedSources}
+use Rattle.context_laws.specs.Sources.{Beside}
+use Rattle.context_laws.specs.Meanings.{DoesTheSame}
+use Rattle.context_laws.specs.Ends.{RunsEndAlike}
 
 abbrev pub named : ℕ → Name
 named letter = record { text = letter ∷ []; at = 0 }
@@ -82,24 +81,23 @@ sums = module_t 0 [] [] (doubling by_sum)
 abbrev pub keeps : ModuleFields
 keeps = module_t 0 [] global_g (doubling by_global)
 
--- links of two modules, beside each other
+-- links of two modules are beside each other
+pub record LinkBeside (one other : ModuleFields) (a b : LinkedSources) : Type 0 where
+  pub one_is : a.modules ≡ one ∷ []
+  pub other_is : b.modules ≡ other ∷ []
+  pub beside : Beside a.link b.link
+
+-- there are such
 pub record LinksBeside (one other : ModuleFields) : Type 0 where
-  pub parts : List PartSeen
-  pub parts_too : List PartSeen
-  pub size : ℕ
-  pub start : StartSeen
-  pub start_too : StartSeen
-  pub is : IsStartOf parts size start
-  pub is_too : IsStartOf parts_too size start_too
-  pub sources : AreSources (one ∷ []) parts
-  pub sources_too : AreSources (other ∷ []) parts_too
-  pub beside : AreBeside (linked_at parts size start) (linked_at parts_too size start_too)
+  pub sources : LinkedSources
+  pub sources_too : LinkedSources
+  pub are : LinkBeside one other sources sources_too
 
 -- main is in both the same untrusted part's
 pub record MainIsUntrusted {one other : ModuleFields} (there : LinksBeside one other) : Type 0 where
   pub main : Exported
-  pub main_is : main_of (placed there.parts there.size) ≡ Some main
-  pub main_too : main_of (placed there.parts_too there.size) ≡ Some main
+  pub main_is : main_of (overlay_link there.sources.link).parts ≡ Some main
+  pub main_too : main_of (overlay_link there.sources_too.link).parts ≡ Some main
   pub untrusted : main.part.trusted ≡ false
 
 -- Two modules whose names are resolved, and of which the components differ; but they mean the same and end
@@ -111,15 +109,10 @@ pub record AreOne (one other : ModuleFields) : Type 0 where
   pub differ : compiled one ≢ compiled other
   pub same : (size : ℕ) → MeanTheSame by_number (map part_of (one ∷ [])) (map part_of (other ∷ [])) size
   pub ends : (size : ℕ) → EndTheSame by_number (map part_of (one ∷ [])) (map part_of (other ∷ [])) size
-  pub apart : (parts parts' : List PartSeen) (size : ℕ) (s s' : StartSeen) → IsStartOf parts size s
-      → IsStartOf parts' size s' → AreSources (one ∷ []) parts → AreSources (other ∷ []) parts'
-      → AreBeside (linked_at parts size s) (linked_at parts' size s')
-      → (p : PartSeen) → IsUntrusted (linked_at parts size s) p
-      → DoesTheSame by_number (linked_at parts size s) (linked_at parts' size s') s s'
-      × DoesTheSame by_number (linked_at parts' size s') (linked_at parts size s) s' s
-  pub alike : (parts parts' : List PartSeen) (size : ℕ) (s s' : StartSeen) → IsStartOf parts size s
-      → IsStartOf parts' size s' → AreSources (one ∷ []) parts → AreSources (other ∷ []) parts'
-      → AreBeside (linked_at parts size s) (linked_at parts' size s') → RunsEndAlike s s'
+  pub apart : (a b : LinkedSources) → LinkBeside one other a b → (p : PartSeen)
+      → IsUntrusted (overlay_link a.link) p
+      → DoesTheSame by_number a.link b.link × DoesTheSame by_number b.link a.link
+  pub alike : (a b : LinkedSources) → LinkBeside one other a b → RunsEndAlike a.start b.start
   pub there : LinksBeside one other
   pub main : MainIsUntrusted there
 

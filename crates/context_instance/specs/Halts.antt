@@ -5,8 +5,7 @@ use Rattle.proc_language.specs.Tree.{number, halt}
 use Rattle.proc_language.specs.Limits.{IsModule}
 use Rattle.proc_names.specs.NameFaults.{name_faults}
 use Rattle.proc_program.specs.Lower.{part_of}
-use Rattle.context_laws.specs.Meanings.{by_number, MeanTheSame}
-use Rattle.context_laws.specs.Ends.{EndTheSame}
+use Rattle.same_meanings.specs.Observed.{by_number, MeanTheSame, EndTheSame}
 use Rattle.context_instance.specs.Doubles.{named, exporting, module_t}
 
 -- module t; export proc f() { halt n; }

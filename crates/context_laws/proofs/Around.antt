@@ -1,6 +1,6 @@
 -- Links beside each other have one stack, and an address that code outside may use in the one is free in
 -- both.
-use Rattle.std.proofs.Common.{◌≡◌, inl, inr, ℕ, zero, suc, ◌≤◌, Bool, true, false, List, [], ◌∷◌, ◌++◌}
+use Rattle.std.proofs.Common.{◌≡◌, inl, inr, ℕ, zero, suc, ◌≤◌, Bool, true, false, [], ◌∷◌, ◌++◌}
 use Rattle.std.proofs.Common.{length, refl, sym, ap, ◌∙◌, subst, arith, leb-true, lt-ltb}
 use Rattle.std.specs.Prelude.{nat_le}
 use Rattle.std.specs.List.{Contains}
@@ -17,8 +17,6 @@ use Rattle.linked_starts.specs.Regions.{part_regions, in_region, in_regions, reg
 use Rattle.linked_starts.specs.Regions.{addresses}
 use Rattle.linked_starts.specs.Standing.{placed}
 use Rattle.linked_starts.specs.Start.{stack_base_of}
-use Rattle.linked_starts.specs.Started.{StartSeen}
-use Rattle.linked_starts.specs.LinkedStarts.{IsStartOf}
 use Rattle.linked_starts.proofs.Offers.{stack_bases, stack_fits, stack_is, region_cases, stretch_of}
 use Rattle.linked_starts.proofs.Offers.{listed_at}
 use Rattle.overlay_machine.specs.Link.{Link, IsTrusted, IsUntrusted, IsUsable, own_code, own_data, own_linear}
@@ -26,8 +24,9 @@ use Rattle.overlay_machine.specs.Link.{the_stack, regions, ranges_of, stack_regi
 use Rattle.overlay_machine.specs.Linked.{Linked}
 use Rattle.overlay_machine.proofs.Offers.{index_of, any_of}
 use Rattle.template_runs.specs.Public.{IsFreeAt}
-use Rattle.source_starts.specs.Sources.{linked_at}
-use Rattle.context_laws.specs.Sources.{AreBeside}
+use Rattle.source_starts.specs.Links.{overlay_link}
+use Rattle.source_starts.specs.Sources.{LinkedStart}
+use Rattle.context_laws.specs.Sources.{AreBeside, Beside}
 
 -- ---- the stack
 
@@ -35,33 +34,29 @@ abbrev as_region : Span → Region
 as_region t = record { base = t.base; end = t.end; linear = true }
 
 -- it is where it begins, with its size
-stack_at : (parts : List PartSeen) (size : ℕ) (s : StartSeen) → IsStartOf parts size s
-    → s.stack ≡ addresses (stack_base_of (placed parts size)) size
-stack_at parts size s is =
-    let fits = and_parts (is_stack_size size) _ (stack_fits (placed parts size) size is.rules) in
-    let there : Contains (region true (stack_span (placed parts size) size)) (as_region s.stack) =
-    subst (λ o. Contains (region true o) (as_region s.stack)) (sym is.starts.stack) (0, omega arith, refl) in
-    ap region_span (sym (stack_is (placed parts size) size (as_region s.stack) fits.0 there))
-
--- links of one base and size have one stack
-pub stack_by_base : (parts parts' : List PartSeen) (size : ℕ) (s s' : StartSeen) → IsStartOf parts size s
-    → IsStartOf parts' size s' → stack_base_of (placed parts size) ≡ stack_base_of (placed parts' size)
-    → s.stack ≡ s'.stack
-stack_by_base parts parts' size s s' is is' e =
-    stack_at parts size s is ∙ ap (λ b. addresses b size) e ∙ sym (stack_at parts' size s' is')
+stack_at : (a : LinkedStart) → a.start.stack ≡ addresses (stack_base_of (placed a.parts a.size)) a.size
+stack_at a =
+    let parts = placed a.parts a.size in
+    let stack = as_region a.start.stack in
+    let fits = and_parts (is_stack_size a.size) _ (stack_fits parts a.size a.is_start.rules) in
+    let there : Contains (region true (stack_span parts a.size)) stack =
+    subst (λ o. Contains (region true o) stack) (sym a.is_start.starts.stack) (0, omega arith, refl) in
+    ap region_span (sym (stack_is parts a.size stack fits.0 there))
 
 -- all parts say where it begins
-base_is : (parts : List PartSeen) (size : ℕ) (s : StartSeen) → IsStartOf parts size s → (p : PartSeen)
-    → Contains (placed parts size) p → p.component.stack_base ≡ stack_base_of (placed parts size)
-base_is parts size s is p m =
-    let i = index_of (placed parts size) p m in stack_bases (placed parts size) size is.rules i.0 p i.1
+base_is : (a : LinkedStart) (p : PartSeen) → Contains (placed a.parts a.size) p
+    → p.component.stack_base ≡ stack_base_of (placed a.parts a.size)
+base_is a p m =
+    let parts = placed a.parts a.size in
+    let i = index_of parts p m in
+    stack_bases parts a.size a.is_start.rules i.0 p i.1
 
-pub one_stack : (parts parts' : List PartSeen) (size : ℕ) (s s' : StartSeen) → IsStartOf parts size s
-    → IsStartOf parts' size s' → AreBeside (linked_at parts size s) (linked_at parts' size s')
-    → (p : PartSeen) → IsUntrusted (linked_at parts size s) p → s.stack ≡ s'.stack
-one_stack parts parts' size s s' is is' beside p u =
-    stack_by_base parts parts' size s s' is is'
-    (sym (base_is parts size s is p u.0) ∙ base_is parts' size s' is' p ((beside p).0 u).0)
+pub one_stack : (a b : LinkedStart) → Beside a.link b.link → (p : PartSeen)
+    → IsUntrusted (overlay_link a.link) p → a.start.stack ≡ b.start.stack
+one_stack a b beside p u =
+    stack_at a
+    ∙ ap (λ n. addresses n a.size) (sym (base_is a p u.0) ∙ base_is b p ((beside.same_parts p).0 u).0)
+    ∙ ap (addresses (stack_base_of (placed b.parts b.size))) beside.one_size ∙ sym (stack_at b)
 
 -- ---- a free address of a region is one that code outside may use
 

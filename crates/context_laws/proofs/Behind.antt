@@ -1,35 +1,34 @@
 -- What holds after a round, of two runs of linked parts: which cells are wiped, what came in, and which calls
 -- are open.
-use Rattle.std.proofs.Common.{◌≡◌, inl, inr, ◌↔◌, ℕ, ◌-◌, ◌<◌, List, Option, Some, None, true, refl, sym, ap}
-use Rattle.std.proofs.Common.{◌∙◌, subst, arith}
+use Rattle.std.proofs.Common.{◌≡◌, inl, inr, ◌↔◌, ℕ, ◌-◌, ◌<◌, List, Option, Some, None, true, false, refl}
+use Rattle.std.proofs.Common.{sym, ap, ◌∙◌, subst, arith}
 use Rattle.std.proofs.lemmas.Bool.{cases_lt}
 use Rattle.std.specs.Prelude.{is_some}
 use Rattle.cap_words.specs.declared.Word.TheVariants.{Mem}
 use Rattle.call_sequence.specs.SequenceRuns.{IsOutsideRange, stack_cap}
 use Rattle.lcm_machine.specs.Cells.{cell}
-use Rattle.linked_starts.specs.Parts.{PartSeen}
-use Rattle.linked_starts.specs.Started.{StartSeen}
-use Rattle.linked_starts.specs.LinkedStarts.{IsStartOf}
 use Rattle.overlay_machine.specs.declared.words.OWord.{OWord}
 use Rattle.overlay_machine.specs.declared.words.OWord.TheVariants.{Plain}
 use Rattle.overlay_machine.specs.State.{OpenFrame, OState, frame_of}
+use Rattle.overlay_machine.specs.Step.{goes, overlay_step}
 use Rattle.overlay_machine.specs.Link.{Link}
 use Rattle.overlay_machine.specs.Linked.{Linked}
 use Rattle.overlay_machine.specs.Runs.{Reached, goes_on}
-use Rattle.overlay_machine.specs.Starting.{overlay_at}
 use Rattle.run_lines.specs.Layout.{layout}
+use Rattle.run_lines.specs.Cuts.{Matched}
+use Rattle.template_runs.specs.Runs.{is_inside}
 use Rattle.template_runs.specs.Public.{IsFreeAt}
 use Rattle.template_runs.specs.Border.{zero, Shows, Wiped, low_at}
-use Rattle.proc_language.specs.declared.module.ModuleFields.{ModuleFields}
 use Rattle.proc_semantics.specs.Marked.{Thing}
 use Rattle.source_laws.specs.Seen.{Back}
+use Rattle.source_laws.specs.Secrets.{Until}
 use Rattle.source_laws.specs.Secrets as secrets
-use Rattle.source_starts.specs.Sources.{AreSources, SourcesLeaveNothing}
-use Rattle.context_laws.specs.Related.{SameNames, Calls, SameWord, ours, code_halves, data_halves, ret_codes}
-use Rattle.context_laws.specs.Related.{ret_datas, CellPair}
-use Rattle.context_laws.specs.Lockstep.{Round, IsRound, SameCrossing, by_call, by_leave, SameWiped, Holds}
-use Rattle.context_laws.proofs.Counts.{step_rises, until_reached}
-use Rattle.context_laws.proofs.Arrive.{in_region_of}
+use Rattle.source_starts.specs.Links.{first_state}
+use Rattle.source_starts.specs.Sources.{LinkedSources, SourcesLeaveNothing}
+use Rattle.lockstep.specs.Related.{SameNames, Calls, SameWord, ours, code_halves, data_halves, ret_codes}
+use Rattle.lockstep.specs.Related.{ret_datas, CellPair}
+use Rattle.lockstep.specs.Lockstep.{Round, IsRound, SameCrossing, by_call, by_leave, SameWiped, Holds}
+use Rattle.lockstep.proofs.Offers.{step_rises, until_reached, in_region_of}
 use Rattle.context_laws.proofs.Open.{CallsAlike, step_kept, until_kept, calls_more}
 use Rattle.context_laws.proofs.History.{AllAlike, all_more}
 use Rattle.context_laws.proofs.Crossing.{ends_same}
@@ -128,7 +127,7 @@ module _ (g h : Link) (names : SameNames g h) where
   same_ends cs _ a b (by_leave d top sl tl a0 newest) e t x y =
       ends_same e top (ap Some (sym x ∙ sl.stk)) ∙ sym (ends_same t top (ap Some (sym y ∙ tl.stk)))
 
-  -- what came in, and which calls are open, behind a crossing
+  -- what came in, and which calls are open, after a crossing
   pub all_behind : (cs ds : Calls) (a b : Round) → SameCrossing g h names cs a b ds →
       (xs ys : List (Thing OWord Back))
       → AllAlike g h names cs xs ys → AllAlike g h names ds xs ys
@@ -158,15 +157,21 @@ open_since g linked o holds i n f r reached ir lt e =
     (step_kept g linked o holds u.0 r.last r.after u.1 ir.lets n f (omega (arith, lt, up, more)) e))
 
 -- what trusted code shows where it lets go
-pub round_shows : (leaves : SourcesLeaveNothing) (modules : List ModuleFields) (parts : List PartSeen)
-    (size : ℕ) (s : StartSeen) → IsStartOf parts size s → AreSources modules parts → (i : ℕ) (r : Round)
-    → Reached (layout s) (overlay_at s).state i r.before → IsRound (layout s) r
-    → Shows (layout s) r.last r.after
-round_shows leaves modules parts size s is src i r reached ir =
-    ((leaves modules parts size s is src).shows r.entered r.last r.after
+pub round_shows : (leaves : SourcesLeaveNothing) (a : LinkedSources) (i : ℕ) (r : Round)
+    → Matched a.start i r.before → IsRound (layout a.start) r → Shows (layout a.start) r.last r.after
+round_shows leaves a i r reached ir =
+    ((leaves a).shows r.entered r.last r.after
     (record {
       came = secrets.comes i r.before reached ir.outside ir.comes;
       until = ir.until;
       steps = ir.lets;
       gone = ir.gone;
     })).registers
+
+-- and where it lets go for the first time
+pub first_shows : (leaves : SourcesLeaveNothing) (a : LinkedSources) (q m : OState)
+    → Until (layout a.start) (first_state a.link) q → overlay_step (layout a.start) q ≡ goes m
+    → is_inside (layout a.start) m ≡ false → Shows (layout a.start) q m
+first_shows leaves a q m until lets gone =
+    ((leaves a).shows (first_state a.link) q m
+    (record { came = secrets.begins refl; until = until; steps = lets; gone = gone })).registers

@@ -12,8 +12,6 @@ use Rattle.component_file.proofs.Offers.{inside}
 use Rattle.linked_starts.specs.Parts.{PartSeen}
 use Rattle.linked_starts.specs.Standing.{placed}
 use Rattle.linked_starts.specs.Start.{Exported, exported_by, export_that, part_named, imported, same_name}
-use Rattle.linked_starts.specs.Started.{StartSeen}
-use Rattle.linked_starts.specs.LinkedStarts.{IsStartOf}
 use Rattle.linked_starts.specs.declared.owners.Site.{Site}
 use Rattle.linked_starts.proofs.Offers.{listed_at}
 use Rattle.trusted_border.specs.declared.layout.Layout.{Layout}
@@ -25,24 +23,24 @@ use Rattle.overlay_machine.specs.Names.{NamesTold, SiteTold}
 use Rattle.overlay_machine.specs.Safe.{IsOpenSeal}
 use Rattle.lcm_machine.specs.declared.cells.Span.{Span}
 use Rattle.overlay_machine.specs.Starting.{StartsBegin}
-use Rattle.source_starts.specs.Sources.{SourcesLeaveNothing, AreSources, linked_at}
-use Rattle.context_laws.proofs.Sources.{StartsAgree, linked_is}
+use Rattle.source_starts.specs.Links.{overlay_link}
+use Rattle.source_starts.specs.Sources.{LinkedSources}
+use Rattle.context_laws.proofs.Sources.{linked_is}
 use Rattle.overlay_machine.proofs.Offers.{contains_first, contains_rest, index_of, found_is}
 use Rattle.overlay_machine.proofs.Offers.{starts_tell_names}
 use Rattle.lcm_machine.proofs.Offers.{contains_cases, contains_none}
 use Rattle.run_lines.specs.Layout.{layout, part_name, site_of}
-use Rattle.proc_language.specs.declared.module.ModuleFields.{ModuleFields}
 use Rattle.proc_program.specs.declared.program.Procedure.{Procedure}
 use Rattle.proc_program.specs.Lower.{part_of}
 use Rattle.source_starts.proofs.Offers.{aligned, home_of, NamesApart, names_apart, names_same, same_names}
 use Rattle.source_starts.proofs.Offers.{same_part, imported_names, Names, one_offset, data_in, proc_of}
-use Rattle.context_laws.specs.Related.{SameNames, IsExport}
-use Rattle.context_laws.specs.Sources.{AreBeside, SameImported, ImportTheSame}
-use Rattle.context_laws.specs.Meanings.{CallNames, AreOneToOne, GoByNames, site_name, IsSameSite, told_name}
-use Rattle.context_laws.specs.Meanings.{export_name}
+use Rattle.lockstep.specs.Related.{SameNames, IsExport}
+use Rattle.same_meanings.specs.Observed.{CallNames, AreOneToOne}
+use Rattle.context_laws.specs.Sources.{NamesOf, Beside, SameImported, ImportTheSame}
+use Rattle.context_laws.specs.Meanings.{GoByNames, site_name, IsSameSite, told_name, export_name}
 use Rattle.context_laws.proofs.Crossing.{pair_same}
 use Rattle.context_laws.proofs.Around.{free_too}
-use Rattle.context_laws.proofs.Itself.{all_of, in_all, of_all}
+use Rattle.lockstep.proofs.Offers.{all_of, in_all, of_all}
 use Rattle.context_laws.proofs.Told.{entry}
 
 -- ---- lists of pairs that pass a test
@@ -156,11 +154,16 @@ of_below (suc n) i c = elim (contains_cases n (below n) i c) as (λ _. i < suc n
 
 -- ---- one link of sources
 
-module _ (modules : List ModuleFields) (parts : List PartSeen) (size : ℕ) (s : StartSeen)
-    (is : IsStartOf parts size s)
-    (src : AreSources modules parts) (linked : Linked (linked_at parts size s)) where
+module _ (begin : StartsBegin) (a : LinkedSources) where
+  open a use {modules, are_sources as src}
+  open a.linked use {is_start as is}
+  open a.linked.link use {parts, size, start as s}
+
   abbrev K : Link
-  K = linked_at parts size s
+  K = overlay_link a.link
+
+  linked : Linked K
+  linked = linked_is begin a.linked
 
   abbrev P : List PartSeen
   P = placed parts size
@@ -293,23 +296,16 @@ same_site calls l m i j =
     bytes_eq (site_name calls.one l i).0 (site_name calls.other m j).0
     && ((site_name calls.one l i).1 == (site_name calls.other m j).1)
 
-module _ (calls : CallNames) (apart : AreOneToOne calls) (begin : StartsBegin) (agree : StartsAgree)
-    (leaves : SourcesLeaveNothing) (modules modules' : List ModuleFields) (parts parts' : List PartSeen)
-    (size : ℕ) (s s' : StartSeen) (is : IsStartOf parts size s) (is' : IsStartOf parts' size s')
-    (src : AreSources modules parts) (src' : AreSources modules' parts')
-    (beside : AreBeside (linked_at parts size s) (linked_at parts' size s'))
-    (stacks : s.stack ≡ s'.stack) where
+module _ (calls : CallNames) (apart : AreOneToOne calls) (begin : StartsBegin) (a b : LinkedSources)
+    (beside : Beside a.link b.link) (stacks : a.start.stack ≡ b.start.stack) where
+  open a.linked.link use {start as s}
+  open b.linked.link use {start as s'}
+
   abbrev G : Link
-  G = linked_at parts size s
+  G = overlay_link a.link
 
   abbrev H : Link
-  H = linked_at parts' size s'
-
-  lg : Linked G
-  lg = linked_is begin agree leaves parts size s is
-
-  lh : Linked H
-  lh = linked_is begin agree leaves parts' size s' is'
+  H = overlay_link b.link
 
   abbrev Twins : List (Exported × Exported)
   Twins = paired same_names_of (all_of G.parts) (all_of H.parts)
@@ -349,17 +345,17 @@ module _ (calls : CallNames) (apart : AreOneToOne calls) (begin : StartsBegin) (
             (eqb-true _ _ t.1),
       )
 
-  at_g : (i : ℕ) → i < length s.sites → SiteAt modules parts size s is src lg i
-  at_g i lt = site_listed modules parts size s is src lg i lt
+  at_g : (i : ℕ) → i < length s.sites → SiteAt begin a i
+  at_g i lt = site_listed begin a i lt
 
-  at_h : (j : ℕ) → j < length s'.sites → SiteAt modules' parts' size s' is' src' lh j
-  at_h j lt = site_listed modules' parts' size s' is' src' lh j lt
+  at_h : (j : ℕ) → j < length s'.sites → SiteAt begin b j
+  at_h j lt = site_listed begin b j lt
 
   open_too : (n : ℕ) → IsOpenSeal G n → IsOpenSeal H n
-  open_too n k = (k.0, (beside k.0).0 k.1, k.2)
+  open_too n k = (k.0, (beside.same_parts k.0).0 k.1, k.2)
 
   open_back : (n : ℕ) → IsOpenSeal H n → IsOpenSeal G n
-  open_back n k = (k.0, (beside k.0).1 k.1, k.2)
+  open_back n k = (k.0, (beside.same_parts k.0).1 k.1, k.2)
 
   pub by_name : SameNames G H
   by_name = record {
@@ -369,20 +365,21 @@ module _ (calls : CallNames) (apart : AreOneToOne calls) (begin : StartsBegin) (
     one_part = λ x y u v c d. (
         let t = twin_is x y c in
         let w = twin_is u v d in (
-          λ e. one_name modules' parts' size s' is' src' lh y.part v.part t.1.0.0 w.1.0.0
+          λ e. one_name begin b y.part v.part t.1.0.0 w.1.0.0
               (sym t.2 ∙ ap (λ (p : PartSeen). p.component.name) e ∙ w.2),
-          λ e. one_name modules parts size s is src lg x.part u.part t.0.0.0 w.0.0.0
+          λ e. one_name begin a x.part u.part t.0.0.0 w.0.0.0
               (t.2 ∙ ap (λ (p : PartSeen). p.component.name) e ∙ sym w.2),
         ));
     one_site = λ i j k m c d. (
-        let a = sites_are i j c in
-        let b = sites_are k m d in (
-          λ e. (let x = apart.1 _ _ _ _ (sym a.2 ∙ ap (site_name calls.one (layout s)) e ∙ b.2) in
-              one_site modules' parts' size s' is' src' lh j m (at_h j a.1) (at_h m b.1) x.0 x.1),
-          λ e. (let x = apart.0 _ _ _ _ (a.2 ∙ ap (site_name calls.other (layout s')) e ∙ sym b.2) in
-              one_site modules parts size s is src lg i k (at_g i a.0) (at_g k b.0) x.0 x.1),
+        let y = sites_are i j c in
+        let z = sites_are k m d in (
+          λ e. (let x = apart.1 _ _ _ _ (sym y.2 ∙ ap (site_name calls.one (layout s)) e ∙ z.2) in
+              one_site begin b j m (at_h j y.1) (at_h m z.1) x.0 x.1),
+          λ e. (let x = apart.0 _ _ _ _ (y.2 ∙ ap (site_name calls.other (layout s')) e ∙ sym z.2) in
+              one_site begin a i k (at_g i y.0) (at_g k z.0) x.0 x.1),
         ));
-    free = λ a r t. free_too G H lg lh beside stacks a r;
+    free = λ x r t.
+        free_too G H (linked_is begin a.linked) (linked_is begin b.linked) beside.same_parts stacks x r;
     seals = λ n. (open_too n, open_back n);
     stack = ap (λ (t : Span). t.base) stacks;
   }
@@ -419,13 +416,11 @@ module _ (calls : CallNames) (apart : AreOneToOne calls) (begin : StartsBegin) (
           (nx.name ∙ sym ny.name))
       by false c t u =
           inl (
-            one (one_name modules' parts' size s' is' src' lh x.part y.part
-                ((beside x.part).0 (mx, t)).0 my parts_same),
+            one (one_name begin b x.part y.part ((beside.same_parts x.part).0 (mx, t)).0 my parts_same),
             t,
           )
       by true false t u =
-          let k = one_name modules parts size s is src lg x.part y.part mx
-          ((beside y.part).1 (my, u)).0 parts_same in
+          let k = one_name begin a x.part y.part mx ((beside.same_parts y.part).1 (my, u)).0 parts_same in
           absurd (let bad : true ≡ false = sym t ∙ ap (λ (z : PartSeen). z.trusted) k ∙ u in cc)
 
   go_by_names : GoByNames calls by_name
@@ -435,15 +430,14 @@ module _ (calls : CallNames) (apart : AreOneToOne calls) (begin : StartsBegin) (
     twins = λ x y c. (
         let t = twin_is x y c in (
           t.2,
-          told_is modules parts size s is src lg x t.0 ∙ t.3
-              ∙ sym (told_is modules' parts' size s' is' src' lh y t.1),
+          told_is begin a x t.0 ∙ t.3 ∙ sym (told_is begin b y t.1),
         ));
     sites = λ i j c. (sites_are i j c).2;
-    all_sites = λ i j a b e f k.
+    all_sites = λ i j u v e f k.
         in_paired (same_site calls (layout s) (layout s')) (below (length s.sites)) (below (length s'.sites))
         i j
-        (in_below (length s.sites) i (site_below modules parts size s is src lg i a e))
-        (in_below (length s'.sites) j (site_below modules' parts' size s' is' src' lh j b f))
+        (in_below (length s.sites) i (site_below begin a i u e))
+        (in_below (length s'.sites) j (site_below begin b j v f))
         (rw (
           k,
           names_same (site_name calls.other (layout s') j).0,
@@ -455,17 +449,9 @@ module _ (calls : CallNames) (apart : AreOneToOne calls) (begin : StartsBegin) (
   beside_by_names = (by_name, go_by_names)
 
 -- where exports stand for each other by their names, so do those that untrusted parts import
-pub import_by_names : {calls : CallNames} → StartsBegin → StartsAgree → SourcesLeaveNothing →
-    (modules modules' : List ModuleFields)
-    (parts parts' : List PartSeen) (size : ℕ) (s s' : StartSeen) (is : IsStartOf parts size s)
-    (is' : IsStartOf parts' size s') → AreSources modules parts → AreSources modules' parts'
-    → AreBeside (linked_at parts size s) (linked_at parts' size s')
-    → (names : SameNames (linked_at parts size s) (linked_at parts' size s')) → GoByNames calls names
-    → ImportTheSame names
-import_by_names begin agree leaves modules modules' parts parts' size s s' is is' src src' beside names
-    by_names p i u m =
-    let x = import_there modules parts size s is src (linked_is begin agree leaves parts size s is) p i u.0 m
-    in
-    let y = import_there modules' parts' size s' is' src' (linked_is begin agree leaves parts' size s' is') p
-    i ((beside p).0 u).0 m in
+pub import_by_names : {calls : CallNames} → StartsBegin → (a b : LinkedSources) → Beside a.link b.link
+    → (names : NamesOf a.link b.link) → GoByNames calls names → ImportTheSame names
+import_by_names begin a b beside names by_names p i u m =
+    let x = import_there begin a p i u.0 m in
+    let y = import_there begin b p i ((beside.same_parts p).0 u).0 m in
     rw (x.1, y.1) (by_names.exports i x.0 y.0 x.1 y.1)

@@ -1,28 +1,34 @@
--- Two lists of sources and the starts of their links, with what is cited of the crates below; and what both
--- links have.
-use Rattle.std.proofs.Common.{ℕ, List, map}
-use Rattle.linked_starts.specs.Parts.{PartSeen}
-use Rattle.linked_starts.specs.Standing.{placed}
-use Rattle.linked_starts.specs.Started.{StartSeen}
-use Rattle.linked_starts.specs.LinkedStarts.{IsStartOf}
+-- Two lists of linked sources, with what is cited of the crates below; and what both links have.
+use Rattle.std.proofs.Common.{◌≡◌, ℕ, List, ◌++◌, map, sym, subst}
+use Rattle.overlay_machine.specs.declared.words.OWord.{OWord}
+use Rattle.overlay_machine.specs.State.{OState}
 use Rattle.overlay_machine.specs.Link.{Link}
 use Rattle.overlay_machine.specs.Linked.{Linked}
 use Rattle.overlay_machine.specs.Names.{NamesTold}
-use Rattle.overlay_machine.specs.Starting.{overlay_at, StartsBegin}
+use Rattle.overlay_machine.specs.Starting.{StartsBegin}
 use Rattle.overlay_machine.proofs.Offers.{starts_tell_names}
-use Rattle.proc_language.specs.declared.module.ModuleFields.{ModuleFields}
-use Rattle.proc_program.specs.Lower.{part_of}
-use Rattle.source_laws.specs.Sources.{MeansAlways}
-use Rattle.source_starts.specs.Sources.{AreSources, linked_at, SourcesLeaveNothing}
+use Rattle.trusted_border.specs.declared.layout.Layout.{Layout}
+use Rattle.run_lines.specs.Layout.{layout}
+use Rattle.source_events.specs.declared.Item.{Item}
+use Rattle.source_events.specs.declared.End.TheVariants.{OutOfFuel}
+use Rattle.proc_semantics.specs.Values.{World}
+use Rattle.proc_semantics.specs.Marked.{Thing, Event, refined}
+use Rattle.same_meanings.specs.Observed.{Name, CallNames, SameFeed, FeedFits, events_named, observed}
+use Rattle.same_meanings.specs.Observed.{TellsAsMuch, EndsAsWell}
+use Rattle.source_laws.specs.Seen.{Back}
+use Rattle.source_starts.specs.Links.{overlay_link, first_state}
+use Rattle.source_starts.specs.Sources.{LinkedSources, world_of, SourcesLeaveNothing, SourcesDoWhatTheyMean}
 use Rattle.source_starts.specs.Words.{SourcesTellWords}
 use Rattle.source_starts.specs.Wiped.{WipedCellsAreTold}
-use Rattle.context_laws.specs.Lockstep.{Holds, Tidies}
+use Rattle.lockstep.specs.Lockstep.{Holds, Tidies}
 use Rattle.context_laws.proofs.Sources.{StartsAgree, linked_is, holds_is, tidies_is}
 
-abbrev pub SourcesMeanAll : Type 0
-SourcesMeanAll =
-    (modules : List ModuleFields) (parts : List PartSeen) (size : ℕ) (s : StartSeen) → IsStartOf parts size s
-    → AreSources modules parts → MeansAlways (map part_of modules) size s
+-- what came in, and its items
+abbrev pub Things : Type 0
+Things = List (Thing OWord Back)
+
+abbrev pub feed : Things → List Item
+feed xs = map (λ (x : Thing OWord Back). x.item) xs
 
 pub record TwoLinks : Type 0 where
   pub begin : StartsBegin
@@ -30,92 +36,102 @@ pub record TwoLinks : Type 0 where
   pub leaves : SourcesLeaveNothing
   pub words : SourcesTellWords
   pub wipes : WipedCellsAreTold
-  pub means : SourcesMeanAll
-  pub modules : List ModuleFields
-  pub modules' : List ModuleFields
-  pub parts : List PartSeen
-  pub parts' : List PartSeen
-  pub size : ℕ
-  pub s : StartSeen
-  pub s' : StartSeen
-  pub is : IsStartOf parts size s
-  pub is' : IsStartOf parts' size s'
-  pub src : AreSources modules parts
-  pub src' : AreSources modules' parts'
+  pub means : SourcesDoWhatTheyMean
+  pub one : LinkedSources
+  pub other : LinkedSources
+  pub one_size : one.size ≡ other.size
 
 module _ (begin : StartsBegin) (agree : StartsAgree) (leaves : SourcesLeaveNothing) (words : SourcesTellWords)
-    (wipes : WipedCellsAreTold) (means : SourcesMeanAll) where
-  abbrev pub two_links : (modules modules' : List ModuleFields) (parts parts' : List PartSeen) (size : ℕ)
-      (s s' : StartSeen) → IsStartOf parts size s → IsStartOf parts' size s' → AreSources modules parts
-      → AreSources modules' parts' → TwoLinks
-  two_links modules modules' parts parts' size s s' is is' src src' = record {
+    (wipes : WipedCellsAreTold) (means : SourcesDoWhatTheyMean) where
+  abbrev pub two_links : (a b : LinkedSources) → a.size ≡ b.size → TwoLinks
+  two_links a b one_size = record {
     begin = begin;
     agree = agree;
     leaves = leaves;
     words = words;
     wipes = wipes;
     means = means;
-    modules = modules;
-    modules' = modules';
-    parts = parts;
-    parts' = parts';
-    size = size;
-    s = s;
-    s' = s';
-    is = is;
-    is' = is';
-    src = src;
-    src' = src';
+    one = a;
+    other = b;
+    one_size = one_size;
   }
 
 abbrev pub turned : TwoLinks → TwoLinks
-turned it = record {
-  begin = it.begin;
-  agree = it.agree;
-  leaves = it.leaves;
-  words = it.words;
-  wipes = it.wipes;
-  means = it.means;
-  modules = it.modules';
-  modules' = it.modules;
-  parts = it.parts';
-  parts' = it.parts;
-  size = it.size;
-  s = it.s';
-  s' = it.s;
-  is = it.is';
-  is' = it.is;
-  src = it.src';
-  src' = it.src;
-}
+turned it = record it { one = it.other; other = it.one; one_size = sym it.one_size }
 
 module _ (it : TwoLinks) where
-  abbrev pub one_link : Link
-  one_link = linked_at it.parts it.size it.s
+  abbrev pub G : Link
+  G = overlay_link it.one.link
 
-  abbrev pub other_link : Link
-  other_link = linked_at it.parts' it.size it.s'
+  abbrev pub H : Link
+  H = overlay_link it.other.link
 
-  pub lg : Linked one_link
-  lg = linked_is it.begin it.agree it.leaves it.parts it.size it.s it.is
+  abbrev pub L : Layout
+  L = layout it.one.start
 
-  pub lh : Linked other_link
-  lh = linked_is it.begin it.agree it.leaves it.parts' it.size it.s' it.is'
+  abbrev pub L' : Layout
+  L' = layout it.other.start
 
-  pub hg : Holds one_link (overlay_at it.s).state
-  hg = holds_is it.begin it.agree it.leaves it.parts it.size it.s it.is
+  abbrev pub O : OState
+  O = first_state it.one.link
 
-  pub hh : Holds other_link (overlay_at it.s').state
-  hh = holds_is it.begin it.agree it.leaves it.parts' it.size it.s' it.is'
+  abbrev pub O' : OState
+  O' = first_state it.other.link
 
-  pub tg : Tidies one_link (overlay_at it.s).state
-  tg = tidies_is it.begin it.agree it.leaves it.modules it.parts it.size it.s it.is it.src
+  abbrev pub W : World
+  W = world_of it.one
 
-  pub th : Tidies other_link (overlay_at it.s').state
-  th = tidies_is it.begin it.agree it.leaves it.modules' it.parts' it.size it.s' it.is' it.src'
+  abbrev pub W' : World
+  W' = world_of it.other
 
-  pub ng : NamesTold one_link.parts one_link.layout
-  ng = starts_tell_names (placed it.parts it.size) it.size it.s it.is
+  pub lg : Linked G
+  lg = linked_is it.begin it.one.linked
 
-  pub nh : NamesTold other_link.parts other_link.layout
-  nh = starts_tell_names (placed it.parts' it.size) it.size it.s' it.is'
+  pub lh : Linked H
+  lh = linked_is it.begin it.other.linked
+
+  pub hg : Holds G O
+  hg = holds_is it.agree it.one.linked
+
+  pub hh : Holds H O'
+  hh = holds_is it.agree it.other.linked
+
+  pub tg : Tidies G O
+  tg = tidies_is it.leaves it.one
+
+  pub th : Tidies H O'
+  th = tidies_is it.leaves it.other
+
+  pub ng : NamesTold G.parts L
+  ng = starts_tell_names G.parts it.one.size it.one.start it.one.is_start
+
+  pub nh : NamesTold H.parts L'
+  nh = starts_tell_names H.parts it.other.size it.other.start it.other.is_start
+
+  -- ---- the one tells as much as the other, and ends as it does, each with the stack of its own link
+
+  module _ (calls : CallNames) where
+    abbrev ToldWith : ℕ → Type 0
+    ToldWith size =
+        (feed feed' : List Item) → SameFeed calls feed feed' → FeedFits feed → (fuel : ℕ) → (enough : ℕ)
+        × (rest : List (Event Name ℕ))
+        × (events_named calls.other (observed W' size feed' enough)
+        ≡ events_named calls.one (observed W it.one.size feed fuel) ++ rest)
+
+    abbrev EndsWith : ℕ → Type 0
+    EndsWith size =
+        (feed feed' : List Item) → SameFeed calls feed feed' → FeedFits feed → (fuel : ℕ)
+        → ((refined W it.one.size feed fuel).end ≡ OutOfFuel → ⊥) → (enough : ℕ)
+        × ((refined W' size feed' enough).end ≡ (refined W it.one.size feed fuel).end)
+
+    abbrev pub Tells : Type 0
+    Tells = ToldWith it.other.size
+
+    abbrev pub EndsLike : Type 0
+    EndsLike = EndsWith it.other.size
+
+    pub tells_so : TellsAsMuch calls W W' it.one.size → Tells
+    tells_so same = subst ToldWith it.one_size same
+
+    pub ends_so : EndsAsWell calls W W' it.one.size → EndsLike
+    ends_so ends = subst EndsWith it.one_size ends

@@ -35,12 +35,13 @@ use Rattle.proc_semantics.specs.Marked.{Arg, Number, OfPair, Event, Calls, Leave
 use Rattle.source_laws.specs.Seen.{Back, Shown, Went, handed, left_with, shown_of, event_outs, call_shown}
 use Rattle.source_laws.specs.Seen.{args_shown, arg_shown, left_shown}
 use Rattle.source_laws.specs.Wiped.{low_of}
-use Rattle.context_laws.specs.Related.{SameNames, RunsOutside, Calls as Pairs, SameWord, ours, code_halves}
-use Rattle.context_laws.specs.Related.{data_halves, ret_codes, ret_datas}
-use Rattle.context_laws.specs.Lockstep.{Round, SameCrossing}
-use Rattle.context_laws.specs.Lockstep as spec
-use Rattle.context_laws.specs.Meanings.{Name, CallNames, event_named, GoByNames}
-use Rattle.context_laws.proofs.Arrive.{opened_open}
+use Rattle.lockstep.specs.Related.{SameNames, RunsOutside, Calls as Pairs, SameWord, ours, code_halves}
+use Rattle.lockstep.specs.Related.{data_halves, ret_codes, ret_datas}
+use Rattle.lockstep.specs.Lockstep.{Round, SameCrossing}
+use Rattle.lockstep.specs.Lockstep as spec
+use Rattle.same_meanings.specs.Observed.{Name, CallNames, event_named}
+use Rattle.context_laws.specs.Meanings.{GoByNames}
+use Rattle.lockstep.proofs.Offers.{opened_open}
 use Rattle.context_laws.proofs.Open.{HasSites, newest_is}
 use Rattle.context_laws.proofs.History.{BackAlike}
 

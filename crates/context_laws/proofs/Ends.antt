@@ -1,5 +1,5 @@
 -- Sources that mean the same and end the same way: the plain runs of their links end alike.
-use Rattle.std.proofs.Common.{◌≡◌, inl, inr, ℕ, ◌+◌, ℤ, map, Bool, true, false, Option, Some, None, refl, sym}
+use Rattle.std.proofs.Common.{◌≡◌, inl, inr, ℕ, ◌+◌, ℤ, Bool, true, false, Option, Some, None, refl, sym}
 use Rattle.std.proofs.Common.{ap, ◌∙◌, subst, arith}
 use Rattle.cap_words.specs.declared.Word.{Word}
 use Rattle.cap_words.specs.declared.Word.TheVariants.{Int}
@@ -8,10 +8,9 @@ use Rattle.lcm_machine.specs.declared.End.{End}
 use Rattle.lcm_machine.specs.declared.End.TheVariants.{Halted, Failed}
 use Rattle.lcm_machine.specs.Run.{plain, answer_by}
 use Rattle.linked_starts.specs.Parts.{PartSeen}
-use Rattle.linked_starts.specs.Standing.{placed}
 use Rattle.linked_starts.specs.Started.{StartSeen}
 use Rattle.overlay_machine.specs.State.{OState}
-use Rattle.overlay_machine.specs.Link.{Link, IsUntrusted}
+use Rattle.overlay_machine.specs.Link.{IsUntrusted}
 use Rattle.overlay_machine.proofs.Offers.{any_is, any_of}
 use Rattle.template_runs.specs.Runs.{is_inside}
 use Rattle.std.specs.Prelude.{not}
@@ -23,17 +22,17 @@ use Rattle.run_lines.specs.Cuts.{Matched, cut, cut_overlay, StopsAreCuts}
 use Rattle.run_lines.specs.Runs.{written}
 use Rattle.headline.specs.Headline.{OverlayHalts, OverlayFails, Headline, HeadlineHolds}
 use Rattle.run_lines.proofs.Offers.{reached_by}
-use Rattle.proc_program.specs.Lower.{part_of}
 use Rattle.proc_semantics.specs.Values.{World}
-use Rattle.source_starts.specs.Sources.{linked_at, SourcesLeaveNothing}
+use Rattle.same_meanings.specs.Observed.{CallNames, AreOneToOne, swapped, MeanTheSame, EndTheSame}
+use Rattle.source_starts.specs.Sources.{SourcesLeaveNothing, SourcesDoWhatTheyMean}
 use Rattle.source_starts.specs.Words.{SourcesTellWords}
 use Rattle.source_starts.specs.Wiped.{WipedCellsAreTold}
 use Rattle.source_starts.proofs.Offers.{halts_there, fails_there}
-use Rattle.context_laws.specs.Related.{SameNames}
-use Rattle.context_laws.specs.Sources.{AreBeside, ImportTheSame}
-use Rattle.context_laws.specs.Meanings.{CallNames, AreOneToOne, swapped, MeanTheSame, GoByNames}
-use Rattle.context_laws.specs.Ends.{EndTheSame, PlainHalts, PlainFails, RunsForever, SameResult, EndsToo}
-use Rattle.context_laws.specs.Ends.{RunsEndAlike, SameMeaningsEndAlike}
+use Rattle.lockstep.specs.Related.{SameNames}
+use Rattle.context_laws.specs.Sources.{Beside, ImportTheSame}
+use Rattle.context_laws.specs.Meanings.{GoByNames}
+use Rattle.context_laws.specs.Ends.{PlainHalts, PlainFails, RunsForever, SameResult, EndsToo, RunsEndAlike}
+use Rattle.context_laws.specs.Ends.{SameMeaningsEndAlike}
 use Rattle.context_laws.proofs.Sources.{StartsAgree}
 use Rattle.context_laws.proofs.Starts.{placed_alike}
 use Rattle.context_laws.proofs.Around.{one_stack}
@@ -43,7 +42,8 @@ use Rattle.context_laws.proofs.Meanings.{first_point}
 use Rattle.context_laws.proofs.Mains.{beside_back, main_part, outside_main, same_first}
 use Rattle.context_laws.proofs.Inside.{HaltsToo, FailsToo, alone_halts, alone_fails}
 use Rattle.context_laws.proofs.Stands.{Begin, both_outside, both_inside, halts_too, fails_too}
-use Rattle.context_laws.proofs.Both.{SourcesMeanAll, TwoLinks, turned, two_links, one_link, other_link}
+use Rattle.context_laws.proofs.Both.{TwoLinks, turned, two_links, Tells, tells_so, EndsLike, ends_so, G, H}
+use Rattle.context_laws.proofs.Both.{L, L', O, O', W, W'}
 
 -- ---- a plain run, by the overlay's
 
@@ -122,120 +122,106 @@ not_true : (b : Bool) → not b ≡ true → b ≡ false
 not_true true e = absurd cc
 not_true false e = refl
 
-ends_back : (calls : CallNames) (w v : World) (size : ℕ) → EndTheSame calls w v size
-    → EndTheSame (swapped calls) v w size
-ends_back calls w v size ends = (ends.1, ends.0)
+ends_back : (calls : CallNames) (w v : World) (n m : ℕ) → n ≡ m → EndTheSame calls w v n
+    → EndTheSame (swapped calls) v w m
+ends_back calls w v n m e ends = subst (EndTheSame (swapped calls) v w) e (ends.1, ends.0)
 
 module _ (headline : HeadlineHolds) (stops : StopsAreCuts) (it : TwoLinks)
-    (beside : AreBeside (one_link it) (other_link it)) (calls : CallNames) (apart : AreOneToOne calls)
-    (same : MeanTheSame calls (map part_of it.modules) (map part_of it.modules') it.size)
-    (ends : EndTheSame calls (map part_of it.modules) (map part_of it.modules') it.size) where
-  abbrev G : Link
-  G = one_link it
+    (beside : Beside it.one.link it.other.link) (calls : CallNames) (apart : AreOneToOne calls)
+    (same : MeanTheSame calls (W it) (W' it) it.one.size)
+    (ends : EndTheSame calls (W it) (W' it) it.one.size) where
+  open it.one.linked.link use {start as s}
+  open it.other.linked.link use {start as s'}
+
+  told : Tells it calls
+  told = tells_so it calls same.0
+
+  ended : EndsLike it calls
+  ended = ends_so it calls ends.0
+
+  first : is_inside (L it) (O it) ≡ is_inside (L' it) (O' it)
+  first = same_first it.begin it.one.linked it.other.linked beside
 
   -- what the overlays do the plain runs do
-  ends_from : ((j : ℕ) (p : OState) → Matched it.s j p → OverlayHalts it.s p → HaltsToo it.s it.s' p)
-      → ((j : ℕ) (p : OState) → Matched it.s j p → OverlayFails it.s p → FailsToo it.s') → EndsToo it.s it.s'
+  ends_from : ((j : ℕ) (p : OState) → Matched s j p → OverlayHalts s p → HaltsToo s s' p)
+      → ((j : ℕ) (p : OState) → Matched s j p → OverlayFails s p → FailsToo s') → EndsToo s s'
   ends_from halts fails =
-      let head = headline (placed it.parts it.size) it.size it.s it.is in
-      let head' = headline (placed it.parts' it.size) it.size it.s' it.is' in
+      let head = headline (G it).parts it.one.size s it.one.is_start in
+      let head' = headline (H it).parts it.other.size s' it.other.is_start in
       record {
         halts = λ w h. (
-            let a = halts_from stops it.s head w h in
+            let a = halts_from stops s head w h in
             let b = halts a.0 a.1 a.2 a.3 in
-            let v = (flat_view (layout it.s') b.1).reg A0 in
-            (v, halts_to stops it.s' head' b.0 b.1 b.2 b.3, subst (λ z. SameResult z v) (sym a.4) b.4)
+            let v = (flat_view (L' it) b.1).reg A0 in
+            (v, halts_to stops s' head' b.0 b.1 b.2 b.3, subst (λ z. SameResult z v) (sym a.4) b.4)
             );
         fails = λ h. (
-            let a = fails_from stops it.s head h in
+            let a = fails_from stops s head h in
             let b = fails a.0 a.1 a.2 a.3 in
-            fails_to stops it.s' head' b.0 b.1 b.2 b.3
+            fails_to stops s' head' b.0 b.1 b.2 b.3
             );
       }
 
   -- where a part is untrusted
-  beside_code : (p : PartSeen) → IsUntrusted G p → EndsToo it.s it.s'
+  beside_code : (p : PartSeen) → IsUntrusted (G it) p → EndsToo s s'
   beside_code p u =
-      ends_from
-      (halts_too it
-      b.0 b.1 beside imports same.0 ends.0 both_begin)
-      (fails_too it
-      b.0 b.1 beside imports same.0 ends.0 both_begin)
+      ends_from (halts_too it b.0 b.1 beside.same_parts imports told ended both_begin)
+      (fails_too it b.0 b.1 beside.same_parts imports told ended both_begin)
     where
-      b : (names : SameNames G (linked_at it.parts' it.size it.s')) × GoByNames calls names
-      b = beside_by_names calls apart it.begin it.agree it.leaves it.modules it.modules' it.parts it.parts'
-          it.size it.s it.s' it.is it.is' it.src
-          it.src' beside (one_stack it.parts it.parts' it.size it.s it.s' it.is it.is' beside p u)
+      b : (names : SameNames (G it) (H it)) × GoByNames calls names
+      b = beside_by_names calls apart it.begin it.one it.other beside
+          (one_stack it.one.linked it.other.linked beside p u)
 
       imports : ImportTheSame b.0
-      imports = import_by_names it.begin it.agree it.leaves it.modules it.modules' it.parts it.parts' it.size
-          it.s it.s' it.is it.is' it.src it.src'
-          beside b.0 b.1
-
-      first : is_inside (layout it.s) (overlay_at it.s).state ≡ is_inside (layout it.s')
-          (overlay_at it.s').state
-      first = same_first it.begin it.agree it.leaves it.parts it.parts' it.size it.s it.s' it.is it.is' beside
+      imports = import_by_names it.begin it.one it.other beside b.0 b.1
 
       Begins : Type 0
-      Begins = Begin it b.0 b.1 beside imports same.0 ends.0
+      Begins = Begin it b.0 b.1 beside.same_parts imports told ended
 
       both_begin : Begins
-      both_begin = by (is_inside (layout it.s) (overlay_at it.s).state) refl
+      both_begin = by (is_inside (L it) (O it)) refl
         where
-          by : (x : Bool) → is_inside (layout it.s) (overlay_at it.s).state ≡ x → Begins
+          by : (x : Bool) → is_inside (L it) (O it) ≡ x → Begins
           by true i = both_inside i (sym first ∙ i)
           by false i =
-              let a = placed_alike it.begin it.parts it.parts' it.size it.s it.s' it.is it.is' b.0 beside
-              imports
-              (outside_main it.begin it.agree it.leaves it.parts it.parts' it.size it.s it.s' it.is it.is'
-              beside i) in
-              both_outside (first_point it b.0 b.1 same.0 a.0 a.1 i (sym first ∙ i))
+              let a = placed_alike it.begin it.one.linked it.other.linked beside b.0 imports
+              (outside_main it.begin it.one.linked it.other.linked beside i) in
+              both_outside (first_point it b.0 b.1 told a.0 a.1 i (sym first ∙ i))
 
   -- where none is
-  beside_none : ((p : PartSeen) → IsUntrusted G p → ⊥) → EndsToo it.s it.s'
+  beside_none : ((p : PartSeen) → IsUntrusted (G it) p → ⊥) → EndsToo s s'
   beside_none alone =
-      ends_from
-      (alone_halts it calls ends.0 alone i i')
-      (alone_fails it calls ends.0 alone i i')
+      ends_from (alone_halts it calls ended alone i i') (alone_fails it calls ended alone i i')
     where
-      i : is_inside (layout it.s) (overlay_at it.s).state ≡ true
-      i = by (is_inside (layout it.s) (overlay_at it.s).state) refl
+      i : is_inside (L it) (O it) ≡ true
+      i = by (is_inside (L it) (O it)) refl
         where
-          by : (x : Bool) → is_inside (layout it.s) (overlay_at it.s).state ≡ x
-              → is_inside (layout it.s) (overlay_at it.s).state ≡ true
+          by : (x : Bool) → is_inside (L it) (O it) ≡ x → is_inside (L it) (O it) ≡ true
           by true e = e
           by false e =
-              let m = it.is.starts.state.main.part in
-              absurd (alone m (main_part it.begin it.agree it.leaves it.parts it.size it.s it.is e))
+              absurd (alone it.one.is_start.starts.state.main.part (main_part it.begin it.one.linked e))
 
-      i' : is_inside (layout it.s') (overlay_at it.s').state ≡ true
-      i' = sym (same_first it.begin it.agree it.leaves it.parts it.parts' it.size it.s it.s' it.is it.is'
-          beside) ∙ i
+      i' : is_inside (L' it) (O' it) ≡ true
+      i' = sym first ∙ i
 
-  ends_too : EndsToo it.s it.s'
-  ends_too = by (list_any (λ (p : PartSeen). not p.trusted) (placed it.parts it.size)) refl
+  ends_too : EndsToo s s'
+  ends_too = by (list_any (λ (p : PartSeen). not p.trusted) (G it).parts) refl
     where
-      none : (p : PartSeen) → IsUntrusted G p
-          → list_any (λ (p : PartSeen). not p.trusted) (placed it.parts it.size) ≡ true
-      none p u = any_is (λ (p : PartSeen). not p.trusted) (placed it.parts it.size) p u.0 (ap not u.1)
+      none : (p : PartSeen) → IsUntrusted (G it) p
+          → list_any (λ (p : PartSeen). not p.trusted) (G it).parts ≡ true
+      none p u = any_is (λ (p : PartSeen). not p.trusted) (G it).parts p u.0 (ap not u.1)
 
-      by : (b : Bool) → list_any (λ (p : PartSeen). not p.trusted) (placed it.parts it.size) ≡ b → EndsToo
-          it.s it.s'
+      by : (b : Bool) → list_any (λ (p : PartSeen). not p.trusted) (G it).parts ≡ b → EndsToo s s'
       by true e =
-          let x = any_of (λ (p : PartSeen). not p.trusted) (placed it.parts it.size) e in
+          let x = any_of (λ (p : PartSeen). not p.trusted) (G it).parts e in
           beside_code x.0 (x.1, not_true x.0.trusted x.2)
       by false e = beside_none (λ p u. (let bad : false ≡ true = sym e ∙ none p u in cc))
 
 pub end_alike : StartsBegin → StartsAgree → SourcesLeaveNothing → SourcesTellWords → WipedCellsAreTold
-    → SourcesMeanAll → HeadlineHolds → StopsAreCuts → SameMeaningsEndAlike
-end_alike begin agree leaves words wipes means headline stops calls apart modules modules' parts parts' size s
-    s'
-    is is' src src' beside same ends =
-    let it = two_links begin agree leaves words wipes means modules modules' parts parts' size s s' is is' src
-    src' in
-    both_ways s s' (ends_too headline stops it beside calls apart same ends)
-    (ends_too headline stops (turned it)
-    (beside_back (linked_at parts size s) (linked_at parts' size s') beside) (swapped calls)
-    (apart.1, apart.0)
-    (mean_back calls (map part_of modules) (map part_of modules') size same)
-    (ends_back calls (map part_of modules) (map part_of modules') size ends))
+    → SourcesDoWhatTheyMean → HeadlineHolds → StopsAreCuts → SameMeaningsEndAlike
+end_alike begin agree leaves words wipes means headline stops calls apart a b beside same ends =
+    let it = two_links begin agree leaves words wipes means a b beside.one_size in
+    both_ways a.start b.start (ends_too headline stops it beside calls apart same ends)
+    (ends_too headline stops (turned it) (beside_back a.link b.link beside) (swapped calls)
+    (apart.1, apart.0) (mean_back calls (W it) (W' it) a.size b.size beside.one_size same)
+    (ends_back calls (W it) (W' it) a.size b.size beside.one_size ends))

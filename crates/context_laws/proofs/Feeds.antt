@@ -24,7 +24,7 @@ use Rattle.source_laws.specs.Seen as seen
 use Rattle.source_laws.specs.Trace.{event_items}
 use Rattle.source_laws.specs.Wiped.{TellsSince, none_yet, and_then}
 use Rattle.source_laws.proofs.Offers.{things_item, map-both}
-use Rattle.context_laws.specs.Meanings.{NumberFits, FeedFits}
+use Rattle.same_meanings.specs.Observed.{NumberFits, FeedFits}
 
 same_fits : (z : ℤ) → fits_64 z ≡ machine.fits_64 z
 same_fits (pos n) = refl

@@ -25,10 +25,9 @@ use Rattle.source_laws.specs.Seen.{Back, thing_of, back_here, nothing_back}
 use Rattle.source_laws.specs.Seen as seen
 use Rattle.source_laws.specs.Trace as lines
 use Rattle.source_laws.specs.Words.{words_at, back_at}
-use Rattle.context_laws.specs.Related.{SameNames, Calls, SameWord, ours, Newest, ComesAlike, EnterAlike}
-use Rattle.context_laws.specs.Related.{ReturnAlike}
-use Rattle.context_laws.proofs.Step.{face_is, own_of}
-use Rattle.context_laws.proofs.Arrive.{more}
+use Rattle.lockstep.specs.Related.{SameNames, Calls, SameWord, ours, Newest, ComesAlike, EnterAlike}
+use Rattle.lockstep.specs.Related.{ReturnAlike}
+use Rattle.lockstep.proofs.Offers.{face_is, own_of, more}
 use Rattle.context_laws.proofs.Told.{enter_item}
 
 module _ (g h : Link) (names : SameNames g h) where
@@ -96,7 +95,7 @@ module _ (g h : Link) (names : SameNames g h) where
     back_alike (x ∷ xs) (y ∷ ys) zero a = a.0.entry
     back_alike (x ∷ xs) (y ∷ ys) (suc k) a = back_alike xs ys k a.1
 
-  -- ---- behind a further call
+  -- ---- after a further call
 
   newest_more : (c : ℕ × ℕ) (cs : Calls) (fs es : List OpenFrame) → Newest g h names cs fs es
       → Newest g h names (c ∷ cs) fs es

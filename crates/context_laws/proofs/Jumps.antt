@@ -32,7 +32,7 @@ use Rattle.overlay_machine.specs.Flat.{flat_code, flat_range}
 use Rattle.overlay_machine.specs.Link.{Link, IsTrusted}
 use Rattle.overlay_machine.specs.Linked.{Linked}
 use Rattle.overlay_machine.specs.Safe.{IsOpenSeal}
-use Rattle.context_laws.specs.Related.{SameNames, IsOurs}
+use Rattle.lockstep.specs.Related.{SameNames, IsOurs}
 
 -- ---- of two sealed words
 

@@ -16,22 +16,21 @@ use Rattle.linked_starts.specs.Links.{has_main}
 use Rattle.linked_starts.specs.Start.{Exported, main_of, is_main, export_that, exported_by, start_regs}
 use Rattle.linked_starts.specs.Start.{code_of}
 use Rattle.linked_starts.specs.declared.owners.Owner.{Owner}
-use Rattle.linked_starts.specs.Started.{StartSeen}
-use Rattle.linked_starts.specs.LinkedStarts.{IsStartOf}
 use Rattle.linked_starts.proofs.Offers.{given}
 use Rattle.trusted_border.specs.Layout.{runs_part, trusted_owner}
 use Rattle.overlay_machine.specs.declared.words.OWord.TheVariants.{Plain}
 use Rattle.overlay_machine.specs.Words.{look}
-use Rattle.overlay_machine.specs.Link.{Link, IsUntrusted, ranges_of}
+use Rattle.overlay_machine.specs.Link.{IsUntrusted, ranges_of}
 use Rattle.overlay_machine.specs.Linked.{any_pc}
-use Rattle.overlay_machine.specs.Starting.{overlay_at, StartsBegin}
+use Rattle.overlay_machine.specs.Starting.{StartsBegin}
 use Rattle.overlay_machine.proofs.Offers.{any_is, found_is, index_of, listed_at, crossing_code_is as code_is}
 use Rattle.run_lines.specs.Layout.{layout}
 use Rattle.template_runs.specs.Runs.{is_inside}
-use Rattle.source_starts.specs.Sources.{linked_at, SourcesLeaveNothing}
+use Rattle.source_starts.specs.Links.{Linking, overlay_link, first_state}
+use Rattle.source_starts.specs.Sources.{LinkedStart}
 use Rattle.source_starts.proofs.Offers.{one_main}
-use Rattle.context_laws.specs.Sources.{AreBeside}
-use Rattle.context_laws.proofs.Sources.{StartsAgree, linked_is}
+use Rattle.context_laws.specs.Sources.{AreBeside, Beside, SameMain}
+use Rattle.context_laws.proofs.Sources.{linked_is}
 
 -- the part of main
 record MainAt (parts : List PartSeen) (m : Exported) : Type 0 where
@@ -58,125 +57,127 @@ main_at parts m e =
           has = any_is is_main p.component.exports x it.0 it.1;
         })
 
-module _ (parts parts' : List PartSeen) (size : ℕ) (s s' : StartSeen) (is : IsStartOf parts size s)
-    (is' : IsStartOf parts' size s')
-    (beside : AreBeside (linked_at parts size s) (linked_at parts' size s')) where
+module _ (a b : LinkedStart) (beside : AreBeside (overlay_link a.link) (overlay_link b.link)) where
+  abbrev P : List PartSeen
+  P = placed a.parts a.size
+
+  abbrev Q : List PartSeen
+  Q = placed b.parts b.size
+
   -- where main is untrusted, it is the other's too
-  main_too : (m : Exported) → main_of (placed parts size) ≡ Some m → m.part.trusted ≡ false
-      → main_of (placed parts' size) ≡ Some m
+  main_too : (m : Exported) → main_of P ≡ Some m → m.part.trusted ≡ false → main_of Q ≡ Some m
   main_too m e u =
-      let a = main_at (placed parts size) m e in
-      let there = index_of (placed parts' size) m.part
-      ((beside m.part).0 (listed_at (placed parts size) a.index m.part a.at, u)).0 in
-      let n = is'.starts.state.main in
-      let b = main_at (placed parts' size) n is'.starts.state.main_is in
-      let one = by_place there.0 b.index n.part m there.1 a.has b.at b.has in
+      let k = main_at P m e in
+      let there = index_of Q m.part ((beside m.part).0 (listed_at P k.index m.part k.at, u)).0 in
+      let n = b.is_start.starts.state.main in
+      let l = main_at Q n b.is_start.starts.state.main_is in
+      let one = by_place there.0 l.index n.part m there.1 k.has l.at l.has in
       let same : Some m ≡ Some n =
-      sym a.found ∙ ap (export_that is_main) (sym one) ∙ b.found in
-      is'.starts.state.main_is ∙ sym same
+      sym k.found ∙ ap (export_that is_main) (sym one) ∙ l.found in
+      b.is_start.starts.state.main_is ∙ sym same
     where
-      by_place : (i j : ℕ) (q : PartSeen) (m : Exported) → slice_get (placed parts' size) i ≡ Some m.part
-          → has_main m.part ≡ true → slice_get (placed parts' size) j ≡ Some q → has_main q ≡ true
+      by_place : (i j : ℕ) (q : PartSeen) (m : Exported) → slice_get Q i ≡ Some m.part
+          → has_main m.part ≡ true → slice_get Q j ≡ Some q → has_main q ≡ true
           → q ≡ m.part
       by_place i j q m at has at' has' = elim (cases_lt i j) as (λ _. q ≡ m.part) [
-        | inl lt ↦ absurd (one_main (placed parts' size) size is'.rules i j m.part q lt at at' has has')
+        | inl lt ↦ absurd (one_main Q b.size b.is_start.rules i j m.part q lt at at' has has')
         | inr ge ↦ elim (cases_lt j i) as (λ _. q ≡ m.part) [
-          | inl lt ↦ absurd (one_main (placed parts' size) size is'.rules j i q m.part lt at' at has' has)
+          | inl lt ↦ absurd (one_main Q b.size b.is_start.rules j i q m.part lt at' at has' has)
           | inr le ↦ (let k : j ≡ i = omega (arith, ge, le) in
-              let z : Some q ≡ Some m.part = sym at' ∙ ap (slice_get (placed parts' size)) k ∙ at in cc)
+              let z : Some q ≡ Some m.part = sym at' ∙ ap (slice_get Q) k ∙ at in cc)
         ]
       ]
 
   -- so both have one main, where it is untrusted in the one
-  same_main : is.starts.state.main.part.trusted ≡ false
-      → main_of (placed parts size) ≡ main_of (placed parts' size)
+  same_main : a.is_start.starts.state.main.part.trusted ≡ false → SameMain a.link b.link
   same_main u =
-      is.starts.state.main_is ∙ sym (main_too is.starts.state.main is.starts.state.main_is u)
+      a.is_start.starts.state.main_is
+      ∙ sym (main_too a.is_start.starts.state.main a.is_start.starts.state.main_is u)
 
 -- its code may be written
 writes : (m : Exported) → m.part.trusted ≡ false → (code_of m).perm ≡ Rx → ⊥
 writes m u e = let k : (if m.part.trusted then Rx else Rwx) ≡ Rwx = rw u refl in cc
 
-pub beside_back : (g h : Link) → AreBeside g h → AreBeside h g
-beside_back g h beside p = ((beside p).1, (beside p).0)
+pub beside_back : (a b : Linking) → Beside a b → Beside b a
+beside_back a b beside = record {
+  one_size = sym beside.one_size;
+  same_parts = λ p. ((beside.same_parts p).1, (beside.same_parts p).0);
+}
 
-module _ (begin : StartsBegin) (agree : StartsAgree) (leaves : SourcesLeaveNothing) where
+module _ (begin : StartsBegin) where
   -- where main is trusted, so is the code that runs first
-  pub main_inside : (parts : List PartSeen) (size : ℕ) (s : StartSeen) (is : IsStartOf parts size s)
-      → is.starts.state.main.part.trusted ≡ true → is_inside (layout s) (overlay_at s).state ≡ true
+  main_inside : (a : LinkedStart) → a.is_start.starts.state.main.part.trusted ≡ true
+      → is_inside (layout a.start) (first_state a.link) ≡ true
   unfolding faces start_regs
-  main_inside parts size s is t =
-      let m = is.starts.state.main in
-      let a = main_at (placed parts size) m is.starts.state.main_is in
+  main_inside a t =
+      let m = a.is_start.starts.state.main in
+      let k = main_at (placed a.parts a.size) m a.is_start.starts.state.main_is in
       let c = code_at (ranges_of m.part) m.export.offset in
-      let pc : s.state.maps.regs.pc ≡ Mem (any_pc m.part c.addr) =
-      ap (λ rs. rs.pc) is.starts.state.regs ∙ ap Mem (code_is m t) in
-      ap (λ w. is_some (trusted_owner (layout s) (face_of (look (Plain w))))) pc
-      ∙ (linked_is begin agree leaves parts size s is).owned m.part c.addr
-      (listed_at (placed parts size) a.index m.part a.at, t)
+      let pc : a.start.state.maps.regs.pc ≡ Mem (any_pc m.part c.addr) =
+      ap (λ rs. rs.pc) a.is_start.starts.state.regs ∙ ap Mem (code_is m t) in
+      ap (λ w. is_some (trusted_owner (layout a.start) (face_of (look (Plain w))))) pc
+      ∙ (linked_is begin a).owned m.part c.addr
+      (listed_at (placed a.parts a.size) k.index m.part k.at, t)
 
   -- and where it is untrusted, so is that
-  pub main_outside : (parts : List PartSeen) (size : ℕ) (s : StartSeen) (is : IsStartOf parts size s)
-      → is.starts.state.main.part.trusted ≡ false → is_inside (layout s) (overlay_at s).state ≡ false
+  main_outside : (a : LinkedStart) → a.is_start.starts.state.main.part.trusted ≡ false
+      → is_inside (layout a.start) (first_state a.link) ≡ false
   unfolding faces start_regs
-  main_outside parts size s is u =
-      let pc : s.state.maps.regs.pc ≡ Mem (code_of is.starts.state.main) =
-      ap (λ rs. rs.pc) is.starts.state.regs in
-      ap (λ w. is_some (trusted_owner (layout s) (face_of (look (Plain w))))) pc
-      ∙ by is.starts.state.main u (find (runs_part (code_of is.starts.state.main)) s.owners) refl
+  main_outside a u =
+      let pc : a.start.state.maps.regs.pc ≡ Mem (code_of a.is_start.starts.state.main) =
+      ap (λ rs. rs.pc) a.is_start.starts.state.regs in
+      ap (λ w. is_some (trusted_owner (layout a.start) (face_of (look (Plain w))))) pc
+      ∙ by a.is_start.starts.state.main u
+      (find (runs_part (code_of a.is_start.starts.state.main)) a.start.owners) refl
     where
       by : (m : Exported) → m.part.trusted ≡ false → (o : Option Owner)
-          → find (runs_part (code_of m)) s.owners ≡ o → is_some o ≡ false
+          → find (runs_part (code_of m)) a.start.owners ≡ o → is_some o ≡ false
       by m v None f = refl
       by m v (Some o) f =
-          absurd (let x = (linked_is begin agree leaves parts size s is).owners (code_of m) o f
+          absurd (let x = (linked_is begin a).owners (code_of m) o f
           in writes m v (ap (λ (c : CapFields). c.perm) x.2))
 
-  main_first : (parts : List PartSeen) (size : ℕ) (s : StartSeen) (is : IsStartOf parts size s)
-      → is_inside (layout s) (overlay_at s).state ≡ is.starts.state.main.part.trusted
-  main_first parts size s is = by is.starts.state.main.part.trusted refl
+  main_first : (a : LinkedStart)
+      → is_inside (layout a.start) (first_state a.link) ≡ a.is_start.starts.state.main.part.trusted
+  main_first a = by a.is_start.starts.state.main.part.trusted refl
     where
-      by : (b : Bool) → is.starts.state.main.part.trusted ≡ b
-          → is_inside (layout s) (overlay_at s).state ≡ is.starts.state.main.part.trusted
-      by true t = main_inside parts size s is t ∙ sym t
-      by false t = main_outside parts size s is t ∙ sym t
+      by : (b : Bool) → a.is_start.starts.state.main.part.trusted ≡ b
+          → is_inside (layout a.start) (first_state a.link) ≡ a.is_start.starts.state.main.part.trusted
+      by true t = main_inside a t ∙ sym t
+      by false t = main_outside a t ∙ sym t
 
   -- where code outside runs first, main's part is untrusted
-  pub main_part : (parts : List PartSeen) (size : ℕ) (s : StartSeen) (is : IsStartOf parts size s)
-      → is_inside (layout s) (overlay_at s).state ≡ false
-      → IsUntrusted (linked_at parts size s) is.starts.state.main.part
-  main_part parts size s is io =
-      let a = main_at (placed parts size) is.starts.state.main is.starts.state.main_is in (
-        listed_at (placed parts size) a.index is.starts.state.main.part a.at,
-        sym (main_first parts size s is) ∙ io,
-      )
+  pub main_part : (a : LinkedStart) → is_inside (layout a.start) (first_state a.link) ≡ false
+      → IsUntrusted (overlay_link a.link) a.is_start.starts.state.main.part
+  main_part a io =
+      let parts = placed a.parts a.size in
+      let k = main_at parts a.is_start.starts.state.main a.is_start.starts.state.main_is in
+      (listed_at parts k.index a.is_start.starts.state.main.part k.at, sym (main_first a) ∙ io)
 
-  module _ (parts parts' : List PartSeen) (size : ℕ) (s s' : StartSeen) (is : IsStartOf parts size s)
-      (is' : IsStartOf parts' size s')
-      (beside : AreBeside (linked_at parts size s) (linked_at parts' size s')) where
+  module _ (a b : LinkedStart) (beside : Beside a.link b.link) where
     -- where code outside runs first in the one, both have one main
-    pub outside_main : is_inside (layout s) (overlay_at s).state ≡ false
-        → main_of (placed parts size) ≡ main_of (placed parts' size)
-    outside_main io = same_main parts parts' size s s' is is' beside (sym (main_first parts size s is) ∙ io)
+    pub outside_main : is_inside (layout a.start) (first_state a.link) ≡ false → SameMain a.link b.link
+    outside_main io = same_main a b beside.same_parts (sym (main_first a) ∙ io)
 
-    one_mark : main_of (placed parts size) ≡ main_of (placed parts' size)
-        → is.starts.state.main.part.trusted ≡ is'.starts.state.main.part.trusted
+    one_mark : SameMain a.link b.link
+        → a.is_start.starts.state.main.part.trusted ≡ b.is_start.starts.state.main.part.trusted
     one_mark e =
-        let k : Some is.starts.state.main ≡ Some is'.starts.state.main =
-        sym is.starts.state.main_is ∙ e ∙ is'.starts.state.main_is in
-        let same : is.starts.state.main ≡ is'.starts.state.main = cc in
+        let k : Some a.is_start.starts.state.main ≡ Some b.is_start.starts.state.main =
+        sym a.is_start.starts.state.main_is ∙ e ∙ b.is_start.starts.state.main_is in
+        let same : a.is_start.starts.state.main ≡ b.is_start.starts.state.main = cc in
         ap (λ (m : Exported). m.part.trusted) same
 
     -- code outside runs first in both or in neither
-    pub same_first : is_inside (layout s) (overlay_at s).state ≡ is_inside (layout s') (overlay_at s').state
+    pub same_first :
+        is_inside (layout a.start) (first_state a.link) ≡ is_inside (layout b.start) (first_state b.link)
     same_first =
-        main_first parts size s is
-        ∙ by is.starts.state.main.part.trusted is'.starts.state.main.part.trusted refl refl
-        ∙ sym (main_first parts' size s' is')
+        main_first a
+        ∙ by a.is_start.starts.state.main.part.trusted b.is_start.starts.state.main.part.trusted refl refl
+        ∙ sym (main_first b)
       where
-        by : (b c : Bool) → is.starts.state.main.part.trusted ≡ b → is'.starts.state.main.part.trusted ≡ c
-            → is.starts.state.main.part.trusted ≡ is'.starts.state.main.part.trusted
+        by : (c d : Bool) → a.is_start.starts.state.main.part.trusted ≡ c
+            → b.is_start.starts.state.main.part.trusted ≡ d
+            → a.is_start.starts.state.main.part.trusted ≡ b.is_start.starts.state.main.part.trusted
         by true true t u = t ∙ sym u
-        by false c t u = one_mark (same_main parts parts' size s s' is is' beside t)
-        by true false t u = one_mark (sym (same_main parts' parts size s' s is' is
-            (beside_back (linked_at parts size s) (linked_at parts' size s') beside) u))
+        by false d t u = one_mark (same_main a b beside.same_parts t)
+        by true false t u = one_mark (sym (same_main b a (beside_back a.link b.link beside).same_parts u))

@@ -1,5 +1,5 @@
 -- Words of two runs that have one name stand for each other.
-use Rattle.std.proofs.Common.{◌≡◌, inl, inr, ℕ, ◌+◌, ◌*◌, pos, List, map, Option, Some, None, refl, subst}
+use Rattle.std.proofs.Common.{◌≡◌, inl, inr, ℕ, ◌+◌, ◌*◌, pos, List, Option, Some, None, refl, subst}
 use Rattle.std.proofs.Common.{eq-eqb}
 use Rattle.std.specs.Prelude.{slice_get, slice_index_or}
 use Rattle.cap_words.specs.declared.Word.TheVariants.{Int}
@@ -7,33 +7,30 @@ use Rattle.component_file.specs.declared.component.Import.{Import}
 use Rattle.linked_starts.specs.Parts.{PartSeen}
 use Rattle.linked_starts.specs.Standing.{placed}
 use Rattle.linked_starts.specs.Start.{Exported, imported, code_half, data_half}
-use Rattle.linked_starts.specs.Started.{StartSeen}
-use Rattle.linked_starts.specs.LinkedStarts.{IsStartOf}
 use Rattle.linked_starts.proofs.Offers.{imported_there, listed_at}
 use Rattle.overlay_machine.specs.declared.words.OWord.{OWord}
 use Rattle.overlay_machine.specs.declared.words.OWord.TheVariants.{Plain}
 use Rattle.overlay_machine.specs.Link.{Link, IsUntrusted}
 use Rattle.overlay_machine.specs.Safe.{IsOpenSeal}
 use Rattle.overlay_machine.specs.Starting.{StartsBegin}
-use Rattle.proc_language.specs.declared.module.ModuleFields.{ModuleFields}
 use Rattle.proc_program.specs.declared.program.Procedure.{Procedure}
 use Rattle.proc_program.specs.declared.program.ProgramImport as program
 use Rattle.proc_program.specs.declared.program.Program.{Program}
-use Rattle.proc_program.specs.Lower.{part_of}
 use Rattle.proc_semantics.specs.Values.{World, home_part, proc_in, import_in}
 use Rattle.proc_semantics.specs.Rules as rules
-use Rattle.proc_semantics.specs.Marked.{PairHalf, CodeHalf, DataHalf, Marks, Thing, Whence, OwnWord}
+use Rattle.proc_semantics.specs.Marked.{PairHalf, CodeHalf, DataHalf, Thing, Whence, OwnWord}
 use Rattle.proc_semantics.specs.Marked.{ImportWord, CameWord}
 use Rattle.source_laws.specs.Seen.{Back}
 use Rattle.source_laws.specs.Words.{words_at, word_from}
-use Rattle.source_starts.specs.Sources.{trusted_parts, AreSources}
-use Rattle.source_starts.specs.Words.{slots, slot_in, imports_in, where_there, half_at}
+use Rattle.source_starts.specs.Sources.{trusted_parts, LinkedSources, world_of}
+use Rattle.source_starts.specs.Words.{slots_of, slot_in, imports_in, where_there, half_at}
 use Rattle.source_starts.specs.Named.{by_name, exported_half}
 use Rattle.source_starts.proofs.Offers.{import_words, own_words}
-use Rattle.context_laws.specs.Related.{SameNames, Calls, SameWord, ours, code_halves, data_halves}
+use Rattle.lockstep.specs.Related.{SameNames, Calls, SameWord, ours, code_halves, data_halves}
 use Rattle.context_laws.specs.Sources.{SameImported}
-use Rattle.context_laws.specs.Meanings.{Name, Exports, Came, Nothing, own_name, import_name, name_of}
-use Rattle.context_laws.specs.Meanings.{CallNames, GoByNames}
+use Rattle.same_meanings.specs.Observed.{Name, Exports, Came, Nothing, own_name, import_name, name_of}
+use Rattle.same_meanings.specs.Observed.{CallNames}
+use Rattle.context_laws.specs.Meanings.{GoByNames}
 use Rattle.context_laws.proofs.History.{AllAlike, words_alike, word_alike}
 
 abbrev pub zero_word : OWord
@@ -46,16 +43,15 @@ IsNamed parts is (Exports part name x) w =
     (e : Exported) × (imported parts (by_name part name) ≡ Some e) × (w ≡ exported_half e x)
 IsNamed parts is (Came k j) w = w ≡ slice_index_or (words_at is k) j zero_word
 
-module _ (begin : StartsBegin) (modules : List ModuleFields) (parts : List PartSeen) (size : ℕ)
-    (s : StartSeen) (is : IsStartOf parts size s) (src : AreSources modules parts) where
+module _ (begin : StartsBegin) (a : LinkedSources) where
+  open a use {modules}
+  open a.linked.link use {parts, size, start as s}
+
   abbrev P : List PartSeen
   P = placed parts size
 
   abbrev W : World
-  W = map part_of modules
-
-  abbrev Slots : Marks OWord
-  Slots = slots modules P s
+  W = world_of a
 
   own_by : (i j : ℕ) (x : PairHalf) (is' : List (Thing OWord Back)) (o : Option Program) → home_part W i ≡ o
       → (q : Option Procedure) → proc_in o j ≡ q
@@ -66,7 +62,7 @@ module _ (begin : StartsBegin) (modules : List ModuleFields) (parts : List PartS
   own_by i j x is' None e (Some q) f = absurd cc
   own_by i j x is' (Some u) e None f = refl
   own_by i j x is' (Some u) e (Some q) f =
-      let w = own_words begin modules parts size s is src i j u e q f in (w.0, w.1, w.2 x)
+      let w = own_words begin a i j u e q f in (w.0, w.1, w.2 x)
 
   import_by : (i k : ℕ) (x : PairHalf) (is' : List (Thing OWord Back)) (o : Option Program) → home_part W i
       ≡ o
@@ -77,10 +73,10 @@ module _ (begin : StartsBegin) (modules : List ModuleFields) (parts : List PartS
   import_by i k x is' None e (Some q) f = absurd cc
   import_by i k x is' (Some u) e None f = refl
   import_by i k x is' (Some u) e (Some q) f =
-      let w = import_words begin modules parts size s is src i k u e q f in (w.0, w.1, w.2 x)
+      let w = import_words begin a i k u e q f in (w.0, w.1, w.2 x)
 
   pub is_named : (is' : List (Thing OWord Back)) (w : Whence)
-      → IsNamed P is' (name_of W w) (word_from Slots is' w)
+      → IsNamed P is' (name_of W w) (word_from (slots_of modules a.link) is' w)
   is_named is' (OwnWord i j x) = own_by i j x is' (home_part W i) refl (proc_in (home_part W i) j) refl
   is_named is' (ImportWord i k x) = import_by i k x is' (home_part W i) refl
       (import_in (home_part W i) k) refl

@@ -17,10 +17,10 @@ use Rattle.overlay_machine.specs.Runs.{Reached}
 use Rattle.overlay_machine.specs.Safe.{IsMet}
 use Rattle.overlay_machine.proofs.Offers.{frame_in, stays_open}
 use Rattle.source_laws.specs.Secrets.{Until, still_there, one_more}
-use Rattle.context_laws.specs.Related.{SameNames, Calls, AreCalls, SameWord, ours, code_halves, data_halves}
-use Rattle.context_laws.specs.Related.{ret_codes, ret_datas}
-use Rattle.context_laws.specs.Lockstep.{Holds}
-use Rattle.context_laws.proofs.Counts.{until_reached}
+use Rattle.lockstep.specs.Related.{SameNames, Calls, AreCalls, SameWord, ours, code_halves, data_halves}
+use Rattle.lockstep.specs.Related.{ret_codes, ret_datas}
+use Rattle.lockstep.specs.Lockstep.{Holds}
+use Rattle.lockstep.proofs.Offers.{until_reached}
 use Rattle.context_laws.proofs.Jumps.{Flat, f_ours, f_code, f_data, f_ret, f_frame}
 
 -- the site of each frame is there
@@ -38,7 +38,7 @@ module _ (g : Link) (linked : Linked g) (o : OState) (holds : Holds g o) where
   pub met : (i : ℕ) (q : OState) → Reached g.layout o i q → (d : Reg) → IsMet g q.frames (reg q.maps.regs d)
   met i q r d = (holds i q r).1.met (R d) (reg q.maps.regs d) refl
 
-  -- a call of before that is open behind a step was open before it
+  -- a call of before that is open after a step was open before it
   pub step_kept : (i : ℕ) (p q : OState) → Reached g.layout o i p → overlay_step g.layout p ≡ goes q
       → (n : ℕ) (f : OpenFrame) → n < p.calls → frame_of q.frames n ≡ Some f → frame_of p.frames n ≡ Some f
   step_kept i p q r s = let k = holds i p r in (stays_open g linked p k.0 k.1 q s).1
@@ -86,7 +86,7 @@ module _ (g h : Link) (names : SameNames g h) where
       → CallsAlike cs fs' es'
   calls_kept cs fs es fs' es' al a b k m c f e x y = al k m c f e (a k m c f x) (b k m c e y)
 
-  -- behind a further call
+  -- after a further call
   pub calls_more : (cs : Calls) (fs es gs ds : List OpenFrame) (f e : OpenFrame) → gs ≡ f ∷ fs → ds ≡ e ∷ es
       → CallsAlike cs gs ds → Contains names.sites (f.site, e.site) → f.base ≡ e.base
       → CallsAlike ((f.call, e.call) ∷ cs) gs ds

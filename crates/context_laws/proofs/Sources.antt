@@ -13,68 +13,56 @@ use Rattle.linked_starts.specs.Start.{Exported, stack_base_of, start_regs, code_
 use Rattle.linked_starts.proofs.Offers.{stack_begins}
 use Rattle.lcm_machine.specs.Spans.{zero_regs}
 use Rattle.linked_starts.specs.Started.{StartSeen}
-use Rattle.linked_starts.specs.LinkedStarts.{IsStartOf, IsLinkedStart}
-use Rattle.proc_language.specs.declared.module.ModuleFields.{ModuleFields}
+use Rattle.linked_starts.specs.LinkedStarts.{IsLinkedStart}
 use Rattle.overlay_machine.specs.declared.words.OWord.TheVariants.{Plain}
 use Rattle.overlay_machine.specs.Copies.{plain_regs}
 use Rattle.overlay_machine.specs.Link.{Link}
 use Rattle.overlay_machine.specs.Linked.{Linked}
-use Rattle.overlay_machine.specs.Starting.{overlay_at, StartsBegin, AgreesFromStart}
-use Rattle.overlay_machine.proofs.Offers.{is_overlay}
+use Rattle.overlay_machine.specs.Starting.{StartsBegin, AgreesFromStart}
 use Rattle.source_laws.specs.Secrets.{comes}
-use Rattle.source_starts.specs.Sources.{AreSources, linked_at, SourcesLeaveNothing}
-use Rattle.context_laws.specs.Related.{IsOurs, SameWord, ours}
-use Rattle.context_laws.specs.Lockstep.{Holds, Tidies}
+use Rattle.source_starts.specs.Links.{overlay_link, first_state}
+use Rattle.source_starts.specs.Sources.{LinkedStart, LinkedSources, SourcesLeaveNothing}
+use Rattle.source_starts.proofs.Offers.{held_at}
+use Rattle.lockstep.specs.Related.{IsOurs, SameWord, ours}
+use Rattle.lockstep.specs.Lockstep.{Holds, Tidies}
 use Rattle.context_laws.specs.Sources.{SourcesInStep, SourcesAgainstContexts, StartsAlike}
-use Rattle.context_laws.proofs.Whole.{run_in_step}
-use Rattle.context_laws.proofs.Contexts.{no_context_tells}
+use Rattle.lockstep.proofs.Offers.{run_in_step, no_context_tells}
 
 abbrev pub StartsAgree : Type 0
 StartsAgree = (parts : List PartSeen) (size : ℕ) (s : StartSeen) → IsLinkedStart parts size s
     → AgreesFromStart parts size s
 
+pub linked_is : StartsBegin → (a : LinkedStart) → Linked (overlay_link a.link)
+linked_is begin a = (held_at begin a).linked
+
+pub holds_is : StartsAgree → (a : LinkedStart) → Holds (overlay_link a.link) (first_state a.link)
+holds_is agree a j p r =
+    let m = (agree (placed a.parts a.size) a.size a.start a.is_start).matched j p r in (m.0, m.2)
+
+pub tidies_is : SourcesLeaveNothing → (a : LinkedSources) → Tidies (overlay_link a.link)
+    (first_state a.link)
+tidies_is leaves a i r reached ir =
+    (leaves a).tidied r.before r.entered r.last r.after
+    (record { at = i; matched = reached; outside = ir.outside; steps = ir.comes })
+    (record {
+      came = comes i r.before reached ir.outside ir.comes;
+      until = ir.until;
+      steps = ir.lets;
+      gone = ir.gone;
+    })
+
 module _ (begin : StartsBegin) (agree : StartsAgree) (leaves : SourcesLeaveNothing) where
-  pub linked_is : (parts : List PartSeen) (size : ℕ) (s : StartSeen) → IsStartOf parts size s
-      → Linked (linked_at parts size s)
-  linked_is parts size s is =
-      (begin s (overlay_at s) (is_overlay (placed parts size) size s is) (placed parts size) size is).linked
-
-  pub holds_is : (parts : List PartSeen) (size : ℕ) (s : StartSeen) → IsStartOf parts size s
-      → Holds (linked_at parts size s) (overlay_at s).state
-  holds_is parts size s is j p r =
-      let m = (agree (placed parts size) size s is).matched j p r in (m.0, m.2)
-
-  pub tidies_is : (modules : List ModuleFields) (parts : List PartSeen) (size : ℕ) (s : StartSeen)
-      → IsStartOf parts size s → AreSources modules parts
-      → Tidies (linked_at parts size s) (overlay_at s).state
-  tidies_is modules parts size s is sources i r reached ir =
-      (leaves modules parts size s is sources).tidied r.before r.entered r.last r.after
-      (record { at = i; matched = reached; outside = ir.outside; steps = ir.comes })
-      (record {
-        came = comes i r.before reached ir.outside ir.comes;
-        until = ir.until;
-        steps = ir.lets;
-        gone = ir.gone;
-      })
-
   pub sources_in_step : SourcesInStep
-  sources_in_step modules modules' parts parts' size size' s s' is is' src src' names n i j cs p q p' q' as_
-      bs r r'
-      io io' al below k k' obs =
-      run_in_step (linked_at parts size s) (linked_at parts' size' s') names (linked_is parts size s is)
-      (linked_is parts' size' s' is') (overlay_at s).state (overlay_at s').state (holds_is parts size s is)
-      (holds_is parts' size' s' is') (tidies_is modules parts size s is src)
-      (tidies_is modules' parts' size' s' is' src') n i j cs p q p' q' as_ bs r r' io io' al below k k' obs
+  sources_in_step a b names =
+      run_in_step (overlay_link a.link) (overlay_link b.link) names (linked_is begin a.linked)
+      (linked_is begin b.linked) (first_state a.link) (first_state b.link) (holds_is agree a.linked)
+      (holds_is agree b.linked) (tidies_is leaves a) (tidies_is leaves b)
 
   pub sources_against_contexts : {I O : Type 0} → SourcesAgainstContexts I O
-  sources_against_contexts modules modules' parts parts' size size' s s' is is' src src' names t u tell
-      observed
-      i j cs p p' r r' io io' al below fg fh n q as_ k =
-      no_context_tells (linked_at parts size s) (linked_at parts' size' s') names (linked_is parts size s is)
-      (linked_is parts' size' s' is') (overlay_at s).state (overlay_at s').state (holds_is parts size s is)
-      (holds_is parts' size' s' is') (tidies_is modules parts size s is src)
-      (tidies_is modules' parts' size' s' is' src') t u tell observed i j cs p p' r r' io io' al below fg fh n
-      q as_ k
+  sources_against_contexts a b names =
+      no_context_tells (overlay_link a.link) (overlay_link b.link) names (linked_is begin a.linked)
+      (linked_is begin b.linked) (first_state a.link) (first_state b.link) (holds_is agree a.linked)
+      (holds_is agree b.linked) (tidies_is leaves a) (tidies_is leaves b)
 
 -- ---- starts
 
@@ -126,37 +114,42 @@ base_only ps qs size m e = ap (λ b. record (zero_regs (λ w. w)) {
 }) e
 
 pub starts_alike : StartsAlike
-starts_alike parts parts' size s s' is is' names main cells = (
+starts_alike a b one_size names main cells = (
   record { seen = (regs, cells); newest = tt },
   record { first = λ k j c. absurd c; second = λ k j c. absurd c; one = λ k j i h c. absurd c },
 )
   where
+    P : List PartSeen
+    P = placed a.parts a.size
+
+    Q : List PartSeen
+    Q = placed b.parts b.size
+
     m : Exported
-    m = is.starts.state.main
+    m = a.is_start.starts.state.main
 
-    one : s.state.maps.regs ≡ start_regs (placed parts size) size m
-    one = is.starts.state.regs
+    one : a.start.state.maps.regs ≡ start_regs P a.size m
+    one = a.is_start.starts.state.regs
 
-    base : stack_base_of (placed parts' size) ≡ stack_base_of (placed parts size)
-    base = stack_begins (placed parts' size) size s'.stack is'.starts.stack ∙ sym names.stack
-        ∙ sym (stack_begins (placed parts size) size s.stack is.starts.stack)
+    base : stack_base_of Q ≡ stack_base_of P
+    base = stack_begins Q b.size b.start.stack b.is_start.starts.stack ∙ sym names.stack
+        ∙ sym (stack_begins P a.size a.start.stack a.is_start.starts.stack)
 
-    same_main : is'.starts.state.main ≡ m
+    same_main : b.is_start.starts.state.main ≡ m
     same_main =
-        let k : Some is'.starts.state.main ≡ Some m =
-        sym is'.starts.state.main_is ∙ sym main ∙ is.starts.state.main_is in
+        let k : Some b.is_start.starts.state.main ≡ Some m =
+        sym b.is_start.starts.state.main_is ∙ sym main ∙ a.is_start.starts.state.main_is in
         cc
 
-    other : s'.state.maps.regs ≡ start_regs (placed parts size) size m
-    other = is'.starts.state.regs ∙ ap (start_regs (placed parts' size) size) same_main
-        ∙ base_only (placed parts' size) (placed parts size) size m base
+    other : b.start.state.maps.regs ≡ start_regs P a.size m
+    other = b.is_start.starts.state.regs ∙ ap (start_regs Q b.size) same_main
+        ∙ ap (λ n. start_regs Q n m) (sym one_size) ∙ base_only Q P a.size m base
 
-    regs : (r : Reg) → SameWord (linked_at parts size s) (linked_at parts' size s') names []
-        (reg (overlay_at s).state.maps.regs r) (reg (overlay_at s').state.maps.regs r)
+    regs : (r : Reg) → SameWord (overlay_link a.link) (overlay_link b.link) names []
+        (reg (first_state a.link).maps.regs r) (reg (first_state b.link).maps.regs r)
     regs r = rw (
-      plain_reg s.state.maps.regs r,
-      plain_reg s'.state.maps.regs r,
+      plain_reg a.start.state.maps.regs r,
+      plain_reg b.start.state.maps.regs r,
       one,
       other,
-    ) (ours (reg (start_regs (placed parts size) size m) r)
-        (all_ours (linked_at parts size s) (placed parts size) size m r))
+    ) (ours (reg (start_regs P a.size m) r) (all_ours (overlay_link a.link) P a.size m r))

@@ -12,8 +12,6 @@ use Rattle.call_sequence.specs.SequenceRuns.{IsOutsideRange}
 use Rattle.lcm_machine.specs.Cells.{cell}
 use Rattle.linked_starts.specs.Parts.{PartSeen}
 use Rattle.linked_starts.specs.Standing.{placed}
-use Rattle.linked_starts.specs.Started.{StartSeen}
-use Rattle.linked_starts.specs.LinkedStarts.{IsStartOf}
 use Rattle.linked_starts.specs.Regions.{in_regions, regions_of}
 use Rattle.linked_starts.specs.Start.{Exported, imported, code_half, data_half, slot_word, data_word, from}
 use Rattle.linked_starts.specs.Start.{part_word, first_given, start_cell}
@@ -27,11 +25,13 @@ use Rattle.overlay_machine.specs.Safe.{IsOpenSeal}
 use Rattle.overlay_machine.specs.Starting.{overlay_at, StartsBegin}
 use Rattle.overlay_machine.proofs.Offers.{contains_first, contains_rest, is_overlay, start_word_is}
 use Rattle.template_runs.specs.Public.{IsFreeAt}
-use Rattle.source_starts.specs.Sources.{linked_at}
-use Rattle.context_laws.specs.Related.{SameNames, IsOurs, SameWord, ours, code_halves, data_halves, CellPair}
-use Rattle.context_laws.specs.Sources.{AreBeside, SameImported, ImportTheSame, PlacedStartsAlike}
+use Rattle.source_starts.specs.Links.{overlay_link, first_state}
+use Rattle.source_starts.specs.Sources.{LinkedStart}
+use Rattle.source_starts.proofs.Offers.{held_at}
+use Rattle.lockstep.specs.Related.{SameNames, IsOurs, SameWord, ours, code_halves, data_halves, CellPair}
+use Rattle.context_laws.specs.Sources.{NamesOf, AreBeside, SameImported, ImportTheSame, PlacedStartsAlike}
 use Rattle.overlay_machine.specs.Keeping.{HoldsFor}
-use Rattle.context_laws.proofs.Arrive.{in_region_of}
+use Rattle.lockstep.proofs.Offers.{in_region_of}
 use Rattle.context_laws.proofs.Sources.{starts_alike}
 use Rattle.context_laws.proofs.OneAt.{OneAt, one_at, given_alone}
 
@@ -211,51 +211,49 @@ module _ (g h : Link) (names : SameNames g h) (lg : Linked g) (lh : Linked h) wh
           by (Some w) None b c p = absurd p
           by (Some w) (Some v) b c p = p
 
-module _ (begin : StartsBegin) (parts parts' : List PartSeen) (size size' : ℕ) (s s' : StartSeen)
-    (is : IsStartOf parts size s) (is' : IsStartOf parts' size' s')
-    (names : SameNames (linked_at parts size s) (linked_at parts' size' s'))
-    (beside : AreBeside (linked_at parts size s) (linked_at parts' size' s'))
-    (imports : ImportTheSame names) where
+-- a cell of the overlay's first state
+first_cell : (a : LinkedStart) (n : ℕ)
+    → cell (first_state a.link).maps.cells n ≡ option_map Plain (start_cell (placed a.parts a.size) a.size n)
+first_cell a n =
+    let parts = placed a.parts a.size in
+    (is_overlay parts a.size a.start a.is_start).cells n ∙ start_word_is parts a.size a.start a.is_start n
+    ∙ ap (option_map Plain) (a.is_start.starts.state.cells n)
+
+module _ (begin : StartsBegin) (a b : LinkedStart) (names : NamesOf a.link b.link)
+    (beside : AreBeside (overlay_link a.link) (overlay_link b.link)) (imports : ImportTheSame names) where
   abbrev G : Link
-  G = linked_at parts size s
+  G = overlay_link a.link
 
   abbrev H : Link
-  H = linked_at parts' size' s'
+  H = overlay_link b.link
 
-  one_held : HoldsFor (placed parts size) size (overlay_at s) s.state.maps
-  one_held = begin s (overlay_at s) (is_overlay (placed parts size) size s is) (placed parts size) size is
+  one_held : HoldsFor G.parts a.size (overlay_at a.start) a.start.state.maps
+  one_held = held_at begin a
 
-  other_held : HoldsFor (placed parts' size') size' (overlay_at s') s'.state.maps
-  other_held =
-      begin s' (overlay_at s') (is_overlay (placed parts' size') size' s' is') (placed parts' size') size'
-      is'
+  other_held : HoldsFor H.parts b.size (overlay_at b.start) b.start.state.maps
+  other_held = held_at begin b
 
-  pub start_cells_alike : (a : ℕ) → IsFreeAt G a → CellPair (SameWord G H names []) (IsFreeAt G)
-      (cell (overlay_at s).state.maps.cells a) (cell (overlay_at s').state.maps.cells a)
-  start_cells_alike a free = by _ _ refl refl
+  pub start_cells_alike : (n : ℕ) → IsFreeAt G n → CellPair (SameWord G H names []) (IsFreeAt G)
+      (cell (first_state a.link).maps.cells n) (cell (first_state b.link).maps.cells n)
+  start_cells_alike n free = by _ _ refl refl
     where
-      by : (x y : Option OWord) → cell (overlay_at s).state.maps.cells a ≡ x
-          → cell (overlay_at s').state.maps.cells a ≡ y
+      by : (x y : Option OWord) → cell (first_state a.link).maps.cells n ≡ x
+          → cell (first_state b.link).maps.cells n ≡ y
           → CellPair (SameWord G H names []) (IsFreeAt G)
-          (cell (overlay_at s).state.maps.cells a) (cell (overlay_at s').state.maps.cells a)
+          (cell (first_state a.link).maps.cells n) (cell (first_state b.link).maps.cells n)
       by None y e f = rw e tt
       by (Some w) None e f = rw (e, f) tt
       by (Some w) (Some v) e f =
-          let free' : IsFreeAt H a = names.free a
-          (in_region_of G (overlay_at s).state s.state.maps one_held.holds a w e)
-          (in_region_of H (overlay_at s').state s'.state.maps other_held.holds a v f) free in
-          let one = (is_overlay (placed parts size) size s is).cells a
-          ∙ start_word_is (placed parts size) size s is a ∙ ap (option_map Plain) (is.starts.state.cells a)
-          in
-          let two = (is_overlay (placed parts' size') size' s' is').cells a
-          ∙ start_word_is (placed parts' size') size' s' is' a
-          ∙ ap (option_map Plain) (is'.starts.state.cells a)
-          in
-          rw (one, two) (cells_pair G H names one_held.linked other_held.linked beside imports a free free'
-          (one_at (placed parts size) size is.rules one_held.linked.parts)
-          (one_at (placed parts' size') size' is'.rules other_held.linked.parts))
+          let free' : IsFreeAt H n = names.free n
+          (in_region_of G (first_state a.link) a.start.state.maps one_held.holds n w e)
+          (in_region_of H (first_state b.link) b.start.state.maps other_held.holds n v f) free in
+          let one = first_cell a n in
+          let two = first_cell b n in
+          rw (one, two) (cells_pair G H names one_held.linked other_held.linked beside imports n free free'
+          (one_at G.parts a.size a.is_start.rules one_held.linked.parts)
+          (one_at H.parts b.size b.is_start.rules other_held.linked.parts))
 
 pub placed_alike : StartsBegin → PlacedStartsAlike
-placed_alike begin parts parts' size s s' is is' names beside imports main =
-    starts_alike parts parts' size s s' is is' names main
-    (start_cells_alike begin parts parts' size size s s' is is' names beside imports)
+placed_alike begin a b beside names imports main =
+    starts_alike a b beside.one_size names main
+    (start_cells_alike begin a b names beside.same_parts imports)

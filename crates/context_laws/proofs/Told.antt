@@ -44,10 +44,10 @@ use Rattle.source_events.specs.declared.Item.TheVariants.{Enter}
 use Rattle.source_laws.specs.Trace.{event_items}
 use Rattle.template_runs.proofs.Offers.{open_no_owner, if_bad}
 use Rattle.source_starts.proofs.Offers.{open_foreign, closure_foreign}
-use Rattle.context_laws.specs.Related.{SameNames, IsExport, Calls, SameWord, EnterAlike, ReturnAlike}
-use Rattle.context_laws.specs.Related.{ComesAlike, entered_at}
-use Rattle.context_laws.specs.Meanings.{CallNames, back_named, feed_named, SameFeed, GoByNames, told_name}
-use Rattle.context_laws.specs.Meanings.{export_name}
+use Rattle.lockstep.specs.Related.{SameNames, IsExport, Calls, SameWord, EnterAlike, ReturnAlike}
+use Rattle.lockstep.specs.Related.{ComesAlike, entered_at}
+use Rattle.same_meanings.specs.Observed.{CallNames, back_named, feed_named, SameFeed}
+use Rattle.context_laws.specs.Meanings.{GoByNames, told_name, export_name}
 use Rattle.context_laws.proofs.Jumps.{Flat, f_ours, f_code, f_data, f_ret, f_frame, Jump, fails, outside}
 use Rattle.context_laws.proofs.Jumps.{hops, back, jumps, plan_is, code_opened, data_opened, jump_same}
 use Rattle.context_laws.proofs.Open.{CallsAlike, HasSites, flat_same}

@@ -1,5 +1,5 @@
 -- Sources that mean the same and end alike, and that whole runs of their links end alike.
-use Rattle.std.specs.Prelude.{◌≡◌, ◌⊎◌, ◌↔◌, ℕ, ℤ, List, map, Some, None}
+use Rattle.std.specs.Prelude.{◌≡◌, ◌⊎◌, ◌↔◌, ℕ, ℤ, Some, None}
 use Rattle.cap_words.specs.declared.Word.{Word}
 use Rattle.cap_words.specs.declared.Word.TheVariants.{Int, Sealed}
 use Rattle.lcm_isa.specs.declared.Reg.TheVariants.{A0}
@@ -7,32 +7,10 @@ use Rattle.lcm_machine.specs.declared.FailCause.{FailCause}
 use Rattle.lcm_machine.specs.declared.End.TheVariants.{Halted, Failed}
 use Rattle.lcm_machine.specs.Places.{reg}
 use Rattle.lcm_machine.specs.Run.{plain}
-use Rattle.linked_starts.specs.Parts.{PartSeen}
 use Rattle.linked_starts.specs.Started.{StartSeen}
-use Rattle.linked_starts.specs.LinkedStarts.{IsStartOf}
-use Rattle.proc_language.specs.declared.module.ModuleFields.{ModuleFields}
-use Rattle.proc_program.specs.Lower.{part_of as program_of}
-use Rattle.source_events.specs.declared.Item.{Item}
-use Rattle.source_events.specs.declared.End.TheVariants.{OutOfFuel}
-use Rattle.proc_semantics.specs.Values.{World}
-use Rattle.proc_semantics.specs.Marked.{refined}
-use Rattle.source_starts.specs.Sources.{AreSources, linked_at}
-use Rattle.context_laws.specs.Sources.{AreBeside}
-use Rattle.context_laws.specs.Meanings.{CallNames, AreOneToOne, swapped, FeedFits, SameFeed, MeanTheSame}
-
--- ---- meanings
-
--- Where the one ends on a feed whose integers have 64 bits, so does the other on the same feed, under some
--- fuel: by `halt` with the same value, by a failure, or with nothing left in the feed.
-abbrev pub EndsAsWell : CallNames → World → World → ℕ → Type 0
-EndsAsWell calls world world' stack =
-    (feed feed' : List Item) → SameFeed calls feed feed' → FeedFits feed → (fuel : ℕ)
-    → ((refined world stack feed fuel).end ≡ OutOfFuel → ⊥) → (enough : ℕ)
-    × ((refined world' stack feed' enough).end ≡ (refined world stack feed fuel).end)
-
-abbrev pub EndTheSame : CallNames → World → World → ℕ → Type 0
-EndTheSame calls world world' stack =
-    EndsAsWell calls world world' stack × EndsAsWell (swapped calls) world' world stack
+use Rattle.same_meanings.specs.Observed.{CallNames, AreOneToOne, MeanTheSame, EndTheSame}
+use Rattle.source_starts.specs.Sources.{LinkedSources, world_of}
+use Rattle.context_laws.specs.Sources.{Beside}
 
 -- ---- plain runs
 
@@ -81,9 +59,6 @@ pub record RunsEndAlike (s s' : StartSeen) : Type 0 where
 -- both links end alike, whichever part has main.
 abbrev pub SameMeaningsEndAlike : Type 0
 SameMeaningsEndAlike =
-    (calls : CallNames) → AreOneToOne calls → (modules modules' : List ModuleFields)
-    (parts parts' : List PartSeen) (size : ℕ) (s s' : StartSeen)
-    → IsStartOf parts size s → IsStartOf parts' size s' → AreSources modules parts
-    → AreSources modules' parts' → AreBeside (linked_at parts size s) (linked_at parts' size s')
-    → MeanTheSame calls (map program_of modules) (map program_of modules') size
-    → EndTheSame calls (map program_of modules) (map program_of modules') size → RunsEndAlike s s'
+    (calls : CallNames) → AreOneToOne calls → (a b : LinkedSources) → Beside a.link b.link
+    → MeanTheSame calls (world_of a) (world_of b) a.size
+    → EndTheSame calls (world_of a) (world_of b) a.size → RunsEndAlike a.start b.start

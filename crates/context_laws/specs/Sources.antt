@@ -2,71 +2,66 @@
 use Rattle.std.specs.Prelude.{◌≡◌, ◌⊎◌, ◌↔◌, ℕ, false, List, [], Option, Some, None}
 use Rattle.std.specs.List.{Contains}
 use Rattle.component_file.specs.declared.component.Import.{Import}
-use Rattle.overlay_machine.specs.Link.{Link, IsUntrusted}
 use Rattle.lcm_machine.specs.Cells.{cell}
 use Rattle.linked_starts.specs.Parts.{PartSeen}
-use Rattle.linked_starts.specs.Standing.{placed}
 use Rattle.linked_starts.specs.Start.{Exported, main_of, imported}
 use Rattle.linked_starts.specs.Started.{StartSeen}
-use Rattle.linked_starts.specs.LinkedStarts.{IsStartOf}
-use Rattle.proc_language.specs.declared.module.ModuleFields.{ModuleFields}
 use Rattle.overlay_machine.specs.State.{OState}
+use Rattle.overlay_machine.specs.Step.{goes, overlay_step}
 use Rattle.overlay_machine.specs.Starting.{overlay_at}
+use Rattle.overlay_machine.specs.Link.{Link, IsUntrusted}
 use Rattle.run_lines.specs.Layout.{layout}
 use Rattle.run_lines.specs.Cuts.{Matched}
 use Rattle.template_runs.specs.Runs.{is_inside}
 use Rattle.template_runs.specs.Public.{IsFreeAt}
-use Rattle.source_starts.specs.Sources.{AreSources, linked_at}
-use Rattle.context_laws.specs.Related.{SameNames, Calls, SameWord, CellPair, Alike}
-use Rattle.context_laws.specs.Lockstep.{Round, Path, SameCrossing, SameWiped, SameObserved, InStep, AreBelow}
-use Rattle.overlay_machine.specs.Step.{goes, overlay_step}
 use Rattle.source_laws.specs.Secrets.{Until}
-use Rattle.context_laws.specs.Contexts.{Telling, TellAlike, Follows, firsts, seconds}
+use Rattle.source_starts.specs.Links.{Linking, overlay_link, first_state}
+use Rattle.source_starts.specs.Sources.{LinkedStart, LinkedSources}
+use Rattle.lockstep.specs.Related.{SameNames, Calls, SameWord, CellPair, Alike}
+use Rattle.lockstep.specs.Lockstep.{Round, Path, SameCrossing, SameWiped, SameObserved, InStep, AreBelow}
+use Rattle.lockstep.specs.Lockstep.{OutsideInStep}
+use Rattle.lockstep.specs.Contexts.{AreNotToldApart}
+
+abbrev pub NamesOf : Linking → Linking → Type 0
+NamesOf a b = SameNames (overlay_link a) (overlay_link b)
 
 -- Of two links of sources: as long as the same is observed of their rounds, code outside makes the same
 -- steps.
 abbrev pub SourcesInStep : Type 0
 SourcesInStep =
-    (modules modules' : List ModuleFields) (parts parts' : List PartSeen) (size size' : ℕ) (s s' : StartSeen)
-    → IsStartOf parts size s → IsStartOf parts' size' s' → AreSources modules parts
-    → AreSources modules' parts' → (names : SameNames (linked_at parts size s) (linked_at parts' size' s'))
-    → (n i j : ℕ) (cs : Calls) (p q p' q' : OState) (as_ bs : List Round) → Matched s i p → Matched s' j p'
-    → is_inside (layout s) p ≡ false → is_inside (layout s') p' ≡ false
-    → Alike (linked_at parts size s) (linked_at parts' size' s') names cs p p' → AreBelow cs p p'
-    → Path (layout s) n p as_ q → Path (layout s') n p' bs q'
-    → SameObserved (linked_at parts size s) (linked_at parts' size' s') names cs as_ bs
-    → InStep (linked_at parts size s) (linked_at parts' size' s') names cs as_ bs q q'
+    (a b : LinkedSources) (names : NamesOf a.link b.link)
+    → OutsideInStep (overlay_link a.link) (overlay_link b.link) names (first_state a.link)
+    (first_state b.link)
 
 -- And of two lists of sources of which the same is observed on each feed, no code outside can tell them
 -- apart.
 abbrev pub SourcesAgainstContexts : Type 0 → Type 0 → Type 0
 SourcesAgainstContexts I O =
-    (modules modules' : List ModuleFields) (parts parts' : List PartSeen) (size size' : ℕ)
-    (s s' : StartSeen) → IsStartOf parts size s → IsStartOf parts' size' s' → AreSources modules parts
-    → AreSources modules' parts' → (names : SameNames (linked_at parts size s) (linked_at parts' size' s'))
-    → (t u : Telling I O)
-    → TellAlike (linked_at parts size s) (linked_at parts' size' s') names (overlay_at s).state
-    (overlay_at s').state t u
-    → (observed : List I → Option O) (i j : ℕ) (cs : Calls) (p p' : OState) → Matched s i p → Matched s' j p'
-    → is_inside (layout s) p ≡ false → is_inside (layout s') p' ≡ false
-    → Alike (linked_at parts size s) (linked_at parts' size' s') names cs p p' → AreBelow cs p p'
-    → Follows (layout s) t observed (firsts cs) p → Follows (layout s') u observed (seconds cs) p'
-    → (n : ℕ) (q : OState) (as_ : List Round) → Path (layout s) n p as_ q
-    → (q' : OState) × (bs : List Round) × Path (layout s') n p' bs q'
-    × InStep (linked_at parts size s) (linked_at parts' size' s') names cs as_ bs q q'
+    (a b : LinkedSources) (names : NamesOf a.link b.link)
+    → AreNotToldApart I O (overlay_link a.link) (overlay_link b.link) names (first_state a.link)
+    (first_state b.link)
+
+-- ---- starts
+
+-- they are alike to code outside
+abbrev pub BeginAlike : (a b : Linking) → NamesOf a b → Type 0
+BeginAlike a b names =
+    Alike (overlay_link a) (overlay_link b) names [] (first_state a) (first_state b)
+    × AreBelow [] (first_state a) (first_state b)
+
+-- they have one main
+abbrev pub SameMain : Linking → Linking → Type 0
+SameMain a b = main_of (overlay_link a).parts ≡ main_of (overlay_link b).parts
 
 -- Starts with the same main are alike to code outside where their cells are.
 abbrev pub StartsAlike : Type 0
 StartsAlike =
-    (parts parts' : List PartSeen) (size : ℕ) (s s' : StartSeen) → IsStartOf parts size s
-    → IsStartOf parts' size s' → (names : SameNames (linked_at parts size s) (linked_at parts' size s'))
-    → main_of (placed parts size) ≡ main_of (placed parts' size)
-    → ((a : ℕ) → IsFreeAt (linked_at parts size s) a
-    → CellPair (SameWord (linked_at parts size s) (linked_at parts' size s') names [])
-    (IsFreeAt (linked_at parts size s)) (cell (overlay_at s).state.maps.cells a)
-    (cell (overlay_at s').state.maps.cells a))
-    → Alike (linked_at parts size s) (linked_at parts' size s') names [] (overlay_at s).state
-    (overlay_at s').state × AreBelow [] (overlay_at s).state (overlay_at s').state
+    (a b : LinkedStart) → a.size ≡ b.size → (names : NamesOf a.link b.link) → SameMain a.link b.link
+    → ((x : ℕ) → IsFreeAt (overlay_link a.link) x
+    → CellPair (SameWord (overlay_link a.link) (overlay_link b.link) names [])
+    (IsFreeAt (overlay_link a.link)) (cell (first_state a.link).maps.cells x)
+    (cell (first_state b.link).maps.cells x))
+    → BeginAlike a.link b.link names
 
 -- ---- where their cells are
 
@@ -74,6 +69,11 @@ StartsAlike =
 -- the trusted ones.
 abbrev pub AreBeside : Link → Link → Type 0
 AreBeside g h = (p : PartSeen) → IsUntrusted g p ↔ IsUntrusted h p
+
+-- and with one size of the stack
+pub record Beside (a b : Linking) : Type 0 where
+  pub one_size : a.size ≡ b.size
+  pub same_parts : AreBeside (overlay_link a) (overlay_link b)
 
 -- an import names the same export of an untrusted part in both, or twins, or nothing
 abbrev pub SameImported : {g h : Link} → SameNames g h → Option Exported → Option Exported → Type 0
@@ -91,12 +91,8 @@ ImportTheSame {g} {h} names =
 -- Starts of links beside each other with the same main are alike to code outside.
 abbrev pub PlacedStartsAlike : Type 0
 PlacedStartsAlike =
-    (parts parts' : List PartSeen) (size : ℕ) (s s' : StartSeen) → IsStartOf parts size s
-    → IsStartOf parts' size s' → (names : SameNames (linked_at parts size s) (linked_at parts' size s'))
-    → AreBeside (linked_at parts size s) (linked_at parts' size s') → ImportTheSame names
-    → main_of (placed parts size) ≡ main_of (placed parts' size)
-    → Alike (linked_at parts size s) (linked_at parts' size s') names [] (overlay_at s).state
-    (overlay_at s').state × AreBelow [] (overlay_at s).state (overlay_at s').state
+    (a b : LinkedStart) → Beside a.link b.link → (names : NamesOf a.link b.link) → ImportTheSame names
+    → SameMain a.link b.link → BeginAlike a.link b.link names
 
 -- ---- where main is trusted
 
@@ -111,16 +107,14 @@ pub record IsFirst (s : StartSeen) (r : Round) : Type 0 where
 -- are alike to it.
 abbrev pub FirstArrivalsAlike : Type 0
 FirstArrivalsAlike =
-    (modules modules' : List ModuleFields) (parts parts' : List PartSeen) (size size' : ℕ) (s s' : StartSeen)
-    → IsStartOf parts size s → IsStartOf parts' size' s' → AreSources modules parts
-    → AreSources modules' parts' → (names : SameNames (linked_at parts size s) (linked_at parts' size' s'))
-    → AreBeside (linked_at parts size s) (linked_at parts' size' s') → ImportTheSame names
-    → (a b : Round) → IsFirst s a → IsFirst s' b → (cs : Calls)
-    → SameCrossing (linked_at parts size s) (linked_at parts' size' s') names [] a b cs
-    → SameWiped (linked_at parts size s) a b
-    → Alike (linked_at parts size s) (linked_at parts' size' s') names cs a.after b.after
-    × AreBelow cs a.after b.after
-    × ((i : ℕ) × Matched s i a.after) × ((j : ℕ) × Matched s' j b.after)
+    (a b : LinkedSources) (names : NamesOf a.link b.link)
+    → AreBeside (overlay_link a.link) (overlay_link b.link) → ImportTheSame names
+    → (r t : Round) → IsFirst a.start r → IsFirst b.start t → (cs : Calls)
+    → SameCrossing (overlay_link a.link) (overlay_link b.link) names [] r t cs
+    → SameWiped (overlay_link a.link) r t
+    → Alike (overlay_link a.link) (overlay_link b.link) names cs r.after t.after
+    × AreBelow cs r.after t.after
+    × ((i : ℕ) × Matched a.start i r.after) × ((j : ℕ) × Matched b.start j t.after)
 
 -- ---- whole runs
 
@@ -128,12 +122,9 @@ FirstArrivalsAlike =
 -- same steps, as long as the same is observed.
 abbrev pub WholeRunsInStep : Type 0
 WholeRunsInStep =
-    (modules modules' : List ModuleFields) (parts parts' : List PartSeen) (size : ℕ) (s s' : StartSeen)
-    → IsStartOf parts size s → IsStartOf parts' size s' → AreSources modules parts
-    → AreSources modules' parts' → (names : SameNames (linked_at parts size s) (linked_at parts' size s'))
-    → AreBeside (linked_at parts size s) (linked_at parts' size s') → ImportTheSame names
-    → is_inside (layout s) (overlay_at s).state ≡ false
-    → (n : ℕ) (q q' : OState) (as_ bs : List Round) → Path (layout s) n (overlay_at s).state as_ q
-    → Path (layout s') n (overlay_at s').state bs q'
-    → SameObserved (linked_at parts size s) (linked_at parts' size s') names [] as_ bs
-    → InStep (linked_at parts size s) (linked_at parts' size s') names [] as_ bs q q'
+    (a b : LinkedSources) → Beside a.link b.link → (names : NamesOf a.link b.link) → ImportTheSame names
+    → is_inside (layout a.start) (first_state a.link) ≡ false
+    → (n : ℕ) (q q' : OState) (as_ bs : List Round) → Path (layout a.start) n (first_state a.link) as_ q
+    → Path (layout b.start) n (first_state b.link) bs q'
+    → SameObserved (overlay_link a.link) (overlay_link b.link) names [] as_ bs
+    → InStep (overlay_link a.link) (overlay_link b.link) names [] as_ bs q q'

@@ -1,4 +1,4 @@
-//! Outside code of two runs in lockstep, as long as trusted code lets it observe the same.
+//! Linked sources in lockstep, and that no code outside can tell sources apart that mean the same.
 //!
 //! The crate has definitions and lemmas alone. `docs/THEOREMS.md` tells the laws.
 #![tactic(auto)]

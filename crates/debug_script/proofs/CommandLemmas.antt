@@ -78,7 +78,7 @@ command_again (Register r) h = ap (option_map Register) (register_again r)
 abbrev Is : List ℕ → DebugCommand → Type 0
 Is line c = Fits c × (line ≡ command_text c)
 
--- what is read behind a front, or by what else is tried
+-- what is read after a front, or by what else is tried
 by_front : (front line : List ℕ) (meant : List ℕ → Option DebugCommand) (other : Option DebugCommand)
     (c : DebugCommand)
     → ((t : List ℕ) → line ≡ front ++ t → meant t ≡ Some c → Is line c) → (other ≡ Some c → Is line c)

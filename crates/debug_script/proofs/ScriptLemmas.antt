@@ -35,7 +35,7 @@ pub at_line : (n : ℕ) (text line back : List ℕ) → Some (line, back) ≡ cu
 at_line n text line back h =
     ap (scripted_from n) (parts_at 10 text line back h) ∙ not_last n line (lines back) (lines_some back)
 
--- what stands behind the last newline
+-- what stands after the last newline
 pub at_last : (n : ℕ) (text : List ℕ) → None ≡ cut 10 text → scripted_from n (lines text) ≡ at_end n text
 at_last n text h = ap (scripted_from n) (parts_none 10 text h) ∙ only_last n text
 
@@ -51,7 +51,7 @@ command_fits n line c h = by_number (nat_le n MOST_LINES) refl h
 
 -- ---- the loop
 
--- behind commands that are read already
+-- after commands that are read already
 abbrev pub behind_commands : List DebugCommand → Result (List DebugCommand) ScriptFault
     → Result (List DebugCommand) ScriptFault
 behind_commands cs (Ok more) = Ok (cs ++ more)

@@ -46,7 +46,7 @@ address_in text = number_in LAST_ADDRESS text
 unfoldable pub register_in : List ℕ → Option Reg
 register_in text = find (λ r. bytes_eq (reg_name r) text) all_regs
 
--- what stands behind a front is the operand, where there is such a front; else something else is tried
+-- what stands after a front is the operand, where there is such a front; else something else is tried
 abbrev pub with_operand : Option (List ℕ) → (List ℕ → Option DebugCommand) → Option DebugCommand
     → Option DebugCommand
 with_operand None meant other = other

@@ -20,7 +20,7 @@ pub record AreCommands (cs : List DebugCommand) : Type 0 where
   pub few : length cs ≤ MOST_LINES
 
 -- The line of this number is the first bad one of a text. Before it stand commands, a line for each. At it
--- something stands that is no command's line with what follows, or comes behind the most lines that there
+-- something stands that is no command's line with what follows, or comes after the most lines that there
 -- may be.
 pub record IsFirstBad (text : List ℕ) (line : ℕ) : Type 0 where
   pub before : List DebugCommand

@@ -8,11 +8,11 @@ use Rattle.debug_script.specs.declared.fault.ScriptFault.TheVariants.{Line}
 use Rattle.debug_script.specs.declared.TheConstants.{MOST_LINES}
 use Rattle.debug_script.specs.Commands.{command_in}
 
--- of a line with this number: behind the most lines that there may be, there is none
+-- of a line with this number: after the most lines that there may be, there is none
 abbrev pub command_at : ℕ → List ℕ → Option DebugCommand
 command_at n line = if nat_le n MOST_LINES then command_in line else None
 
--- what stands behind the last newline has to be nothing
+-- what stands after the last newline has to be nothing
 abbrev pub at_end : ℕ → List ℕ → Result (List DebugCommand) ScriptFault
 at_end n [] = Ok []
 at_end n (b ∷ bs) = Err (Line n)
@@ -23,7 +23,7 @@ with_command n None more = Err (Line n)
 with_command n (Some c) (Ok cs) = Ok (c ∷ cs)
 with_command n (Some c) (Err e) = Err e
 
--- of what stands before, between and behind newlines, where the first line has this number
+-- of what stands before, between and after newlines, where the first line has this number
 unfoldable pub scripted_from : ℕ → List (List ℕ) → Result (List DebugCommand) ScriptFault
 scripted_from n [] = Ok []
 scripted_from n (last ∷ []) = at_end n last

@@ -61,8 +61,8 @@ fn command_at(number: u32, line: &[u8]) -> Option<DebugCommand>
 
 /// The script that a text is; else its first bad line, counted from 1, or that memory was refused.
 ///
-/// Each line spells a command and ends in a newline. What stands behind the last newline is a bad line,
-/// unless it is nothing, and so is whatever stands behind [`MOST_LINES`] lines.
+/// Each line spells a command and ends in a newline. What stands after the last newline is a bad line,
+/// unless it is nothing, and so is whatever stands after [`MOST_LINES`] lines.
 pub fn script_of(alloc: Global, text: &[u8]) -> Result<Script, ScriptFault>
     ensures read { IfOk result (λ s. scripted text.now ≡ Ok s) }
     ensures fails { IfErr result (λ e. (e ≡ NoMemory) ⊎ (scripted text.now ≡ Err e)) }

@@ -52,7 +52,7 @@ fn run_command<S: Sink>(
 /// Does the commands of a script, one after another, and writes the reply to each in one piece. It needs no
 /// memory.
 ///
-/// It stops at a write that fails: a front of this reply stands then behind those before it, and the debugger
+/// It stops at a write that fails: a front of this reply stands then after those before it, and the debugger
 /// stands where its command led. The debugger has still to be closed.
 pub fn run_script<S: Sink>(
     debugger: &mut Debugger,

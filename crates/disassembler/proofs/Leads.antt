@@ -34,7 +34,7 @@ pub record Leads (lines : ℕ) (text : List ℕ) (d new : Draft) : Type 0 where
       → ((next : ℕ) → Goes whole end next (at + length text) rest new final)
       → Goes whole end number at (text ++ rest) d final
 
--- ---- no line, and lines behind lines
+-- ---- no line, and lines after lines
 
 pub leads_none : (d : Draft) → Leads 0 [] d d
 leads_none d = record {
@@ -73,7 +73,7 @@ leads_rest t D xs step front (x ∷ rest) is =
     (leads_then 1 (length rest) (t x) (flat_map t rest) (D front) (D (front ++ x ∷ [])) (D xs)
     (step front x rest is) (leads_rest t D xs step (front ++ x ∷ []) rest next))
 
--- the lines of items, each behind those before it
+-- the lines of items, each after those before it
 pub leads_all : {A : Type 0} (t : A → List ℕ) (D : List A → Draft) (xs : List A)
     → ((before : List A) (x : A) (after : List A) → xs ≡ before ++ x ∷ after
     → Leads 1 (t x) (D before) (D (before ++ x ∷ []))) → Leads (length xs) (flat_map t xs) (D []) (D xs)
@@ -111,7 +111,7 @@ unfolding line_or_none
 line_drafts fs ls end d new some alike one = let is = not_empty fs ls some alike in
     rw is (one.read ls end alike)
 
--- a line and the lines behind it
+-- a line and the lines after it
 lines_read : (number at : ℕ) (line : List ℕ) (lines : List (List ℕ)) (first others : List Token)
     → 0 < length lines → line_tokens number at line ≡ Ok first
     → lines_from (number + 1) (at + length line + 1) lines ≡ Ok others

@@ -136,7 +136,7 @@ code_leads (Sealed seal content) h code words t fits plain room = absurd plain
 
 -- ---- the order of items
 
--- behind `.data`
+-- after `.data`
 pub in_tables : (n m : ℕ) (b : Bool) → rank item.Data ≤ n → n < m → m ≤ rank item.Row
     → ((nat_lt n m || ((m == n) && b)) && nat_le m (furthest n)) ≡ true
 in_tables n m b low lt high = grind (arith, nat_tests)
@@ -156,7 +156,7 @@ pub ends : (last : Option ItemKind) (h : TextHeader) (code words : List Word) (t
 ends last h code words t c w = ends_in (section_of last) (so_far last h code words t)
     (some_words (length code) c) (some_words (length words) w)
 
--- the last item, where items of one kind stand behind another
+-- the last item, where items of one kind stand after another
 abbrev pub last_in : {A : Type 0} → ItemKind → Option ItemKind → List A → Option ItemKind
 last_in i last [] = last
 last_in i last (x ∷ xs) = Some i

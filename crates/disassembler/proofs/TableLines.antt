@@ -50,7 +50,7 @@ pub record HasWords (code words : List Word) : Type 0 where
   pub in_code : 1 ≤ length code
   pub in_data : 1 ≤ length words
 
--- one more item has room behind some of them
+-- one more item has room after some of them
 pub fewer : {A : Type 0} (most : ℕ) (xs before : List A) (x : A) (after : List A) → length xs ≤ most
     → xs ≡ before ++ x ∷ after → nat_lt (length before) most ≡ true
 fewer most xs before x after few is =
@@ -58,7 +58,7 @@ fewer most xs before x after few is =
     ∙ length-append before (x ∷ after) in
     lt-ltb (length before) most (omega (arith, all, few))
 
--- an item of a table may stand behind those before it
+-- an item of a table may stand after those before it
 stands : {A : Type 0} (i : ItemKind) (last : Option ItemKind) (h : TextHeader) (code words : List Word)
     (t : Tables)
     (before : List A) → HasWords code words → rank item.Data ≤ rank_of last → rank_of last < rank i

@@ -69,7 +69,7 @@ name_leads name h =
     (one_operand 31 name (name_form name ∷ []) (proper_field name h)) (lit≤ tt) refl
     (λ at. name_again at name (record nothing { last = Some item.Name }) h)
 
--- the last item behind `.closure`, and behind `.movable` where it stands
+-- the last item after `.closure`, and after `.movable` where it stands
 abbrev at_closure : Bool → Option ItemKind
 at_closure false = Some item.Closure
 at_closure true = Some item.Movable
@@ -87,7 +87,7 @@ movable_leads name stack closure true =
     leads_item item.Movable 0 [] [] d _ rest_none (lit≤ tt) refl
     (λ at. movable_again at (record d { last = Some item.Movable }))
 
--- the last item, where one that counts something may stand behind another
+-- the last item, where one that counts something may stand after another
 abbrev last_counted : ItemKind → Option ItemKind → ℕ → Option ItemKind
 last_counted i last zero = last
 last_counted i last (suc n) = Some i
@@ -211,7 +211,7 @@ past_some i last (Some n) low p = record { low = low; high = omega arith }
 abbrev header_of : ComponentFields → TextHeader
 header_of c = header c.name c.stack_base c.closure c.movable c.seals c.linear c.code_base c.data_base
 
--- the last item behind each table
+-- the last item after each table
 abbrev at_imports : ComponentFields → Option ItemKind
 at_imports c = last_in item.Import (Some item.Data) c.imports
 

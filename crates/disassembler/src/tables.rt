@@ -79,7 +79,7 @@ impl Listed for KindRow {
     }
 }
 
-// The name of a kind, and the offset behind `pc`.
+// The name of a kind, and the offset after `pc`.
 fn push_kind(text: &mut Vec<u8>, kind: Kind) -> Result<(), AllocError>
     ensures { OnOk result (text.new.items ≡ text.old.items ++ flat_map field_text (kind_fields kind)) }
 {

@@ -1,5 +1,1 @@
-mod Rows
-mod Drawn
-mod Follow
-mod Caused
-mod Complete
+mod Due

@@ -1,4 +1,2 @@
 pub mod Words
-pub mod Refusals
 pub mod Answers
-pub mod Causes

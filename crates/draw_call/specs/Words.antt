@@ -12,7 +12,7 @@ use Rattle.draw_call.specs.declared.words.DrawCall.{DrawCall}
 abbrev pub required : Text → Rule
 required name = record (new_rule name) { long = Some name; required = true }
 
--- the one simple command, of the words behind the program's name
+-- the one simple command, of the words after the program's name
 abbrev pub draw_line : App
 draw_line =
     on_top (λ s. record s { no_binary_name = true })

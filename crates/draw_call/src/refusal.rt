@@ -1,14 +1,12 @@
 //! Why no picture is put, with the line and the status that tell it.
 ghost use Rattle.std.specs.Prelude.{◌≡◌, ◌<◌, ◌++◌, [], decimal};
 ghost use Rattle.arrayvec.specs.ArrayString.{array_string_len};
-ghost use Rattle.draw_call.specs.Refusals.{audit_line, refusal_line, refusal_ends};
-ghost use Rattle.draw_call.specs.declared.refusal.DrawStop.TheVariants.{NoMemory};
+ghost use Rattle.draw_call.specs.Answers.{audit_line, told};
 
 use crate::status::DrawStatus;
 use arrayvec::ArrayString;
 use itoa::Buffer;
 use run_audit::AuditFault;
-use std::alloc::AllocError;
 
 /// What a refusal tells.
 #[derive(Clone, Copy, PartialEq, Eq)]
@@ -33,14 +31,6 @@ pub(crate) enum DrawStop {
     NoMemory,
 }
 
-impl From<AllocError> for DrawStop {
-    ghost from_gives = { λ _ e. e ≡ NoMemory };
-
-    fn from(_e: AllocError) -> DrawStop {
-        DrawStop::NoMemory
-    }
-}
-
 fn push_audit(line: &mut ArrayString<64>, fault: AuditFault)
     requires { line.old.bytes ≡ [] }
     ensures { line.new.bytes ≡ audit_line fault }
@@ -56,7 +46,7 @@ fn push_audit(line: &mut ArrayString<64>, fault: AuditFault)
 
 /// The line that a refusal writes.
 pub(crate) fn refusal_line(why: DrawRefusal) -> ArrayString<64>
-    ensures text { result.bytes ≡ refusal_line why }
+    ensures text { result.bytes ≡ (told why).1 }
     ensures some { 0 < array_string_len result }
 {
     let mut line = ArrayString::new();
@@ -71,7 +61,7 @@ pub(crate) fn refusal_line(why: DrawRefusal) -> ArrayString<64>
 
 /// The status of a refusal.
 pub(crate) fn refusal_ends(why: DrawRefusal) -> DrawStatus
-    ensures { result ≡ refusal_ends why }
+    ensures { result ≡ (told why).0 }
 {
     match why {
         DrawRefusal::Usage => DrawStatus::Usage,

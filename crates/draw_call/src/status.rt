@@ -1,6 +1,6 @@
 //! What a call of the program came to.
 ghost use Rattle.std.specs.Prelude.{◌≡◌};
-ghost use Rattle.draw_call.specs.Refusals.{draw_status_number};
+ghost use Rattle.draw_call.specs.Answers.{draw_status_number};
 
 /// What a call of the program came to. The number is the process's exit status.
 #[derive(Clone, Copy, PartialEq, Eq, Debug)]

@@ -1,14 +1,15 @@
 //! The call.
-ghost use Rattle.std.specs.Prelude.{◌<◌, length, Some, Ok};
+ghost use Rattle.std.specs.Prelude.{◌<◌, [], length, Some, Ok, Err};
+ghost use Rattle.call_answers.specs.Answers.{Gives, WritesOrFails};
 ghost use Rattle.command_words.specs.Texts.{texts};
-ghost use Rattle.draw_call.specs.declared.status.DrawStatus.TheVariants.{Done};
 ghost use Rattle.draw_call.specs.Words.{call_in};
-ghost use Rattle.draw_call.specs.Answers.{Answers, Gives, Says, Refuses, done_line, seen_by};
+ghost use Rattle.draw_call.specs.Answers.{DrawAnswers, answer_to, stk_draw, seen_by};
 
 use crate::drawing::picture_of;
 use crate::refusal::{DrawRefusal, DrawStop, refusal_ends, refusal_line};
 use crate::status::DrawStatus;
 use crate::words::{DrawCall, call_in};
+use cap_words::Items;
 use command_words::FileName;
 use outside_io::{Files, Sink};
 use std::alloc::Global;
@@ -16,7 +17,7 @@ use std::alloc::Global;
 // Writes a line, and answers the status, or WriteFault where the sink fails.
 fn say<S: Sink>(out: &mut S, line: &str, status: DrawStatus) -> DrawStatus
     requires { 0 < length line.now }
-    ensures { Says (S.seen out.old) line.now status result (S.seen out.new) }
+    ensures { WritesOrFails (stk_draw []) (S.seen out.old) line.now status result (S.seen out.new) }
 {
     match out.write(line.as_bytes()) {
         Ok(()) => status,
@@ -26,8 +27,8 @@ fn say<S: Sink>(out: &mut S, line: &str, status: DrawStatus) -> DrawStatus
 
 // Tells of a refusal.
 fn refuse<S: Sink>(why: DrawRefusal, out: &mut S) -> DrawStatus
-    ensures { (files : _) → Refuses why (seen_by files (S.seen out.old)) result
-        (seen_by files (S.seen out.new)) }
+    ensures { (name : _) (files : _) → Gives (stk_draw name) (seen_by files (S.seen out.old))
+        (answer_to name (Err why)) result (seen_by files (S.seen out.new)) }
 {
     say(out, refusal_line(why).as_str(), refusal_ends(why))
 }
@@ -35,14 +36,14 @@ fn refuse<S: Sink>(why: DrawRefusal, out: &mut S) -> DrawStatus
 // Puts the picture, and then writes `ok`.
 fn give<F: Files, S: Sink>(
     name: &FileName<'_>,
-    svg: &[u8],
+    svg: &Items<u8>,
     files: &mut F,
     out: &mut S,
 ) -> DrawStatus
-    ensures { Gives name.now svg.now (seen_by (F.seen files.old) (S.seen out.old)) result
-        (seen_by (F.seen files.new) (S.seen out.new)) }
+    ensures { Gives (stk_draw name.now) (seen_by (F.seen files.old) (S.seen out.old))
+        (answer_to name.now (Ok svg.now)) result (seen_by (F.seen files.new) (S.seen out.new)) }
 {
-    match files.put(name.as_str(), svg) {
+    match files.put(name.as_str(), svg.as_slice()) {
         Ok(()) => say(out, "ok\n", DrawStatus::Done),
         Err(_) => DrawStatus::WriteFault,
     }
@@ -55,10 +56,10 @@ fn answer<F: Files, S: Sink>(
     files: &mut F,
     out: &mut S,
 ) -> DrawStatus
-    ensures { Answers (Some call.now) (seen_by (F.seen files.old) (S.seen out.old)) result
+    ensures { DrawAnswers (Some call.now) (seen_by (F.seen files.old) (S.seen out.old)) result
         (seen_by (F.seen files.new) (S.seen out.new)) }
 {
-    match picture_of(alloc, files, &call.feed) {
+    match picture_of(alloc, files, call) {
         Ok(svg) => give(&call.out, &svg, files, out),
         Err(DrawStop::Refused(why)) => refuse(why, out),
         Err(DrawStop::NoMemory) => DrawStatus::NoMemory,
@@ -77,12 +78,12 @@ pub fn draw_main<F: Files, S: Sink>(
     files: &mut F,
     out: &mut S,
 ) -> DrawStatus
-    ensures { Answers (call_in (texts words.now)) (seen_by (F.seen files.old) (S.seen out.old)) result
+    ensures { DrawAnswers (call_in (texts words.now)) (seen_by (F.seen files.old) (S.seen out.old)) result
         (seen_by (F.seen files.new) (S.seen out.new)) }
 {
     match call_in(alloc, words) {
-        Ok(call) => answer(alloc, &call, files, out),
-        Err(DrawStop::Refused(why)) => refuse(why, out),
-        Err(DrawStop::NoMemory) => DrawStatus::NoMemory,
+        Ok(Some(call)) => answer(alloc, &call, files, out),
+        Ok(None) => refuse(DrawRefusal::Usage, out),
+        Err(_) => DrawStatus::NoMemory,
     }
 }

@@ -5,9 +5,7 @@ ghost use Rattle.clap.specs.Words.{app_of, first_of, found_of, rows_of, rule_of}
 ghost use Rattle.command_words.specs.Name.{file_of};
 ghost use Rattle.command_words.specs.Texts.{texts};
 ghost use Rattle.draw_call.specs.Words.{required, draw_line, draw_rows, call_of, call_in};
-ghost use Rattle.draw_call.specs.Answers.{Asks};
 
-use crate::refusal::{DrawRefusal, DrawStop};
 use clap::error::ErrorKind;
 use clap::{Arg, ArgMatches, Command};
 use command_words::FileName;
@@ -75,17 +73,15 @@ fn call_of<'a>(matches: &ArgMatches<'a>) -> Option<DrawCall<'a>>
     Some(DrawCall { feed, out })
 }
 
-/// What the words ask for, which are those after the program's own name.
-///
-/// Usage comes exactly where they ask for nothing and memory wasn't refused first.
-pub(crate) fn call_in<'a>(alloc: Global, words: &'a [String]) -> Result<DrawCall<'a>, DrawStop>
-    ensures { Asks (call_in (texts words.now)) result }
+/// What the words ask for, which are those after the program's own name: None where they are no command.
+pub(crate) fn call_in<'a>(
+    alloc: Global,
+    words: &'a [String],
+) -> Result<Option<DrawCall<'a>>, AllocError>
+    ensures { IfOk result (λ call. call ≡ call_in (texts words.now)) }
 {
-    let Some(matches) = matches(alloc, words)? else {
-        return Err(DrawStop::Refused(DrawRefusal::Usage));
-    };
-    match call_of(&matches) {
-        Some(call) => Ok(call),
-        None => Err(DrawStop::Refused(DrawRefusal::Usage)),
+    match matches(alloc, words)? {
+        Some(matches) => Ok(call_of(&matches)),
+        None => Ok(None),
     }
 }

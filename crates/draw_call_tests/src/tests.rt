@@ -190,7 +190,7 @@ fn calls_come_to_what_the_table_says(rt: HostRuntime) -> Result<(), Fail> {
     Ok(())
 }
 
-// The first write of a call is its last: `ok`, behind the put, or the line of a refusal.
+// The first write of a call is its last: `ok`, after the put, or the line of a refusal.
 static UNWRITTEN: [Case<'static>; 4] = [
     ("--feed kept --out o", DrawStatus::WriteFault, "", true),
     ("--feed kept", DrawStatus::WriteFault, "", false),

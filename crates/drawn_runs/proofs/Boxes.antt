@@ -1,4 +1,4 @@
--- The boxes of frames that stand behind a line are those of the calls that are open there.
+-- The boxes of frames that stand after a line are those of the calls that are open there.
 use Rattle.std.proofs.Common.{◌≡◌, ℕ, ◌+◌, ◌<◌, Bool, true, false, List, [], ◌∷◌, ◌++◌, length, Option, Some}
 use Rattle.std.proofs.Common.{None, refl, sym, ap, ◌∙◌, subst, arith, map, append-nil}
 use Rattle.std.specs.Prelude.{nat_le, if◌then◌else◌, filter, flat_map, reverse}

@@ -1,4 +1,4 @@
--- Which boxes of frames stand behind a line.
+-- Which boxes of frames stand after a line.
 use Rattle.std.proofs.Common.{◌≡◌, ℕ, ◌+◌, ◌<◌, ◌≤◌, Bool, true, false, List, ◌∷◌, ◌++◌, length, Option, Some}
 use Rattle.std.proofs.Common.{None, refl, ap, ◌∙◌, subst, arith, inl, inr}
 use Rattle.std.specs.Prelude.{nat_le, ◌&&◌}
@@ -67,7 +67,7 @@ module _ (es : List EventSeen) (rises : ColumnsRise) (m : ℕ) where
       lt-leb (x p (m + 1)) (x p (n + k)) (rises es (n + k) (m + 1) lt) in
       rw b (and_false (nat_le (x p n) (x p m)))
 
--- ---- the box of a call, of which so many lines stand behind it up to there
+-- ---- the box of a call, of which so many lines stand after it up to there
 
 module _ (es : List EventSeen) (rises : ColumnsRise) (follow : BoxesFollow) (m : ℕ) (within : m < length es)
     (n : ℕ) (span : Extent) (inner : List EventSeen) (r : EventSeen) (rs : List EventSeen)

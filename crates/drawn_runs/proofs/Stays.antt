@@ -1,4 +1,4 @@
--- A call is open behind lines exactly where none of them closes it in the picture.
+-- A call is open after lines exactly where none of them closes it in the picture.
 use Rattle.std.proofs.Common.{◌≡◌, ℕ, suc, ◌+◌, ◌-◌, ◌<◌, ◌≤◌, false, List, [], ◌∷◌, ◌++◌, length}
 use Rattle.std.proofs.Common.{Option, Some, None, refl, sym, ap, ◌∙◌, arith}
 use Rattle.std.specs.Prelude.{nat_eq}
@@ -70,7 +70,7 @@ module _ (e : EventSeen) (es : List EventSeen) (k w : ℕ) where
   at_other : IsNeither e.turn → closing_from k w (e ∷ es) ≡ closing_from (k + 1) w es
   at_other h = ap (λ o. closes_or o k (λ v. closing_from (k + 1) v es)) (neither_stays e.turn w h)
 
--- ---- behind lines
+-- ---- after lines
 
 -- a call that is closed there or isn't, and what is open above it
 abbrev pub ends_with : Option ℕ → LineTold → List LineTold → List LineTold
@@ -115,13 +115,13 @@ module _ (c : LineTold) where
   through (leave part a0 ∷ ls) (e ∷ es) h k w above len =
       by_other (leave part a0) ls e es k w above tt h.0 (through ls es h.1 (k + 1) w above len)
 
--- behind a call and lines it is the oldest that is open, or closed
+-- after a call and lines it is the oldest that is open, or closed
 pub opened_one : (c : LineTold) (ls : List Line) (es : List EventSeen) → Tells ls es
     → open_behind (c ∷ []) ls ≡ ends_with (closing es) c (open_behind [] ls)
 unfolding closing
 opened_one c ls es h = through c ls es h 1 0 [] refl
 
--- ---- a call that these lines don't close is closed behind them, if it is
+-- ---- a call that these lines don't close is closed after them, if it is
 
 least_by : (es : List EventSeen) (k j : ℕ) → ((v : ℕ) → closing_from (k + 1) v es ≡ Some j → k + 1 ≤ j)
     → (o : Option ℕ) → closes_or o k (λ v. closing_from (k + 1) v es) ≡ Some j → k ≤ j

@@ -1,4 +1,4 @@
--- What is dark in the picture of a text: the boxes of frames that stand behind a line.
+-- What is dark in the picture of a text: the boxes of frames that stand after a line.
 use Rattle.std.specs.Prelude.{◌≡◌, ℕ, ◌+◌, ◌<◌, ◌≤◌, nat_le, Bool, false, ◌&&◌, List, filter, flat_map}
 use Rattle.std.specs.List.{Contains}
 use Rattle.run_picture.specs.Shapes.{Shape, box, line, label, Group}
@@ -39,7 +39,7 @@ IsIn p (box c left top right low) a = (top < y p a) × (y p a ≤ low)
 IsIn p (line c x1 y1 x2 y2) a = ⊥
 IsIn p (label c left top s) a = ⊥
 
--- behind the m-th line an address is dark: its row lies in a box of a frame that stands there
+-- after the m-th line an address is dark: its row lies in a box of a frame that stands there
 pub record IsDark (text : List ℕ) (m a : ℕ) : Type 0 where
   pub row : HasRow (page text) a
   pub frame : Shape

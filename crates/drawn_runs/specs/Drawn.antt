@@ -27,7 +27,7 @@ RunsAreDrawn =
     → drawn (text_of s steps)
     ≡ (if is_too_long (text_of s steps) then Err TooLong else Ok (picture (text_of s steps)))
 
--- ---- behind n of its instructions
+-- ---- after n of its instructions
 
 -- the boxes that stand there are over the ranges of the calls that are open, one for each, the oldest first
 abbrev pub BoxesAreOpenCalls : Type 0
@@ -49,7 +49,7 @@ DarkIsOpen =
     → (steps n a : ℕ) → n ≤ steps
     → IsDark (text_of s steps) (length (written s n)) a ↔ IsOfOpen s n a
 
--- the instruction behind n others touches an address that is dark there
+-- the instruction after n others touches an address that is dark there
 pub record TouchesDark (s : StartSeen) (steps n a : ℕ) : Type 0 where
   pub within : n ≤ steps
   pub goes : (plain n s.state).end ≡ None

@@ -10,8 +10,8 @@ use Rattle.file_plans.specs.declared.refusal.Stop.{Stop}
 use Rattle.file_plans.specs.declared.refusal.Stop.TheVariants.{Refused, NoMemory}
 use Rattle.command_words.specs.declared.part.PartWord.{PartWord}
 use Rattle.file_plans.specs.Plans.{Plan, Made, ◌>>=◌, each_at, Comes, Follows}
-use Rattle.file_plans.proofs.Follow.{comes_bind, comes_end, comes_left, comes_as, comes_map, comes_quiet}
-use Rattle.file_plans.proofs.Follow.{only_same, only_again}
+use Rattle.call_answers.proofs.Offers.{comes_bind, comes_end, comes_left, comes_as, comes_map, comes_quiet}
+use Rattle.call_answers.proofs.Offers.{only_same, only_again}
 
 -- the words before the k-th made these, and what comes of the others comes of all
 pub record SoFar {A : Type 0} (item : ℕ → PartWord → Plan A) (words : List PartWord) (old : FilesSeen) (k : ℕ)
@@ -66,7 +66,7 @@ module _ {A : Type 0} (item : ℕ → PartWord → Plan A) (words : List PartWor
       rw (← same) d in at_word k made now w (Err why) new s h e (comes_end (item k w) _ now new why c)
   so_end k p made now new w NoMemory s same h e c = only_again old now new s.quiet c
 
-  -- memory was refused behind a word
+  -- memory was refused after a word
   pub so_none : (k p : ℕ) (made : List A) (now mid : FilesSeen) (w : PartWord) (x : A)
       → SoFar item words old k made now → Comes (item p w) now (Ok x) mid → OnlyGave old mid
   so_none k p made now mid w x s c = only_again old now mid s.quiet (comes_quiet (item p w) now mid x c)

@@ -1,26 +1,33 @@
--- The order in which a call reads its files. A plan reads a file and goes on with its bytes, ends the call,
--- or has made something.
-use Rattle.std.specs.Prelude.{◌≡◌, ℕ, ◌+◌, List, [], ◌∷◌, Result, Ok, Err, ⊤}
+-- The plans of the program's calls: what they read in which order, and what they refuse.
+use Rattle.std.specs.Prelude.{ℕ, ◌+◌, List, [], ◌∷◌, Option, Some, None, Result, Ok, Err}
 use Rattle.command_words.specs.declared.part.PartWord.{PartWord}
-use Rattle.outside_io.specs.FilesSeen.{FilesSeen}
-use Rattle.outside_io.specs.Whole.{GivesWhole, IsTooLong, Faults, OnlyGave}
 use Rattle.file_plans.specs.declared.TheConstants.{LONGEST_FILE}
 use Rattle.file_plans.specs.declared.refusal.Refusal.{Refusal}
 use Rattle.file_plans.specs.declared.refusal.Refusal.TheVariants.{ReadFault, TooLong}
 use Rattle.file_plans.specs.declared.refusal.Stop.{Stop}
 use Rattle.file_plans.specs.declared.refusal.Stop.TheVariants.{Refused, NoMemory}
+use Rattle.call_answers.specs.Plans.{Reading, PlanOf}
+pub use Rattle.call_answers.specs.Plans.{Reads, Ends, Made, ◌>>=◌, whole, too_long, unread, Comes, Settles}
+pub use Rattle.call_answers.specs.Plans.{Follows, Meets, FollowsAs}
 
--- `index` is the index of the file's part, which a refusal tells
-pub data Plan (A : Type 0) : Type 0 where
-  Reads : (name : List ℕ) (index : ℕ) (next : List ℕ → Plan A) → Plan A
-  Ends : (why : Refusal) → Plan A
-  Made : (made : A) → Plan A
+-- what a stop tells
+abbrev pub stop_tells : Stop → Option Refusal
+stop_tells (Refused why) = Some why
+stop_tells NoMemory = None
 
-infixl 10 ◌>>=◌
-abbrev pub ◌>>=◌ : {A B : Type 0} → Plan A → (A → Plan B) → Plan B
-(Reads name index next) >>= f = Reads name index (λ bytes. next bytes >>= f)
-(Ends why) >>= f = Ends why
-(Made x) >>= f = f x
+-- the index of a file is that of its part
+abbrev pub stk_reading : Reading
+stk_reading = record {
+  Refusal = Refusal;
+  Stop = Stop;
+  longest = LONGEST_FILE;
+  longer = TooLong;
+  unreadable = ReadFault;
+  told = stop_tells;
+}
+
+abbrev pub Plan : Type 0 → Type 0
+Plan A = PlanOf stk_reading A
 
 -- the turn of a file
 abbrev pub file : List ℕ → ℕ → Plan (List ℕ)
@@ -38,41 +45,3 @@ each_at item index (word ∷ words) = do
   first ← item index word
   others ← each_at item (index + 1) words
   Made (first ∷ others)
-
--- ---- what comes of a plan
-
--- a file came whole, and the plan goes on; or the call ends, since it is too long or a read failed
-pub data ReadCame (old : FilesSeen) (name : List ℕ) (index : ℕ) (goes : List ℕ → FilesSeen → Type 0)
-    (ends : Refusal → Type 0) (new : FilesSeen) : Type 0 where
-  whole : (bytes : List ℕ) (mid : FilesSeen) → GivesWhole old name LONGEST_FILE bytes mid → goes bytes mid
-      → ReadCame old name index goes ends new
-  too_long : IsTooLong old name LONGEST_FILE new → ends (TooLong index)
-      → ReadCame old name index goes ends new
-  unread : Faults old name LONGEST_FILE new → ends ReadFault → ReadCame old name index goes ends new
-
--- what comes of a plan, from files that tell `old` to files that tell `new`: what it made, or why it ends
-abbrev pub Comes : {A : Type 0} → Plan A → FilesSeen → Result A Refusal → FilesSeen → Type 0
-Comes (Made x) old due new = (due ≡ Ok x) × (new ≡ old)
-Comes (Ends why) old due new = (due ≡ Err why) × (new ≡ old)
-Comes (Reads name index next) old due new =
-    ReadCame old name index (λ bytes mid. Comes (next bytes) mid due new) (λ why. due ≡ Err why) new
-
--- ---- bodies
-
--- a body's answer is what came of the plan; or memory was refused, and nothing changed but what reads gave
-abbrev pub Follows : {A : Type 0} → Plan A → FilesSeen → Result A Stop → FilesSeen → Type 0
-Follows plan old (Ok x) new = Comes plan old (Ok x) new
-Follows plan old (Err (Refused why)) new = Comes plan old (Err why) new
-Follows plan old (Err NoMemory) new = OnlyGave old new
-
--- the same of a plan that reads nothing
-abbrev pub Meets : {A : Type 0} → Plan A → Result A Stop → Type 0
-Meets plan (Ok x) = plan ≡ Made x
-Meets plan (Err (Refused why)) = plan ≡ Ends why
-Meets plan (Err NoMemory) = ⊤
-
--- a body's answer is made of what came of the plan: `P` says how
-abbrev pub FollowsAs : {A B : Type 0}
-    → (A → B → Type 0) → Plan A → FilesSeen → Result B Stop → FilesSeen → Type 0
-FollowsAs {A} P plan old (Ok y) new = (x : A) × Comes plan old (Ok x) new × P x y
-FollowsAs P plan old (Err stop) new = Follows plan old (Err stop) new

@@ -19,7 +19,7 @@ pub(crate) fn begins_entry(c: &ComponentFields, at: u32) -> bool
     c.exports.as_slice().iter().any(|e| e.offset == at)
 }
 
-// Whether the offset is one of so many words behind the first.
+// Whether the offset is one of so many words after the first.
 fn is_behind(first: u32, size: u32, at: u32) -> bool
     ensures { result ≡ is_behind first size at }
 {

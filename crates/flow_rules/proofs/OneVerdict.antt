@@ -26,7 +26,7 @@ use Rattle.flow_rules.proofs.Walks.{stays}
 
 -- ---- a walk ends within the code's length
 
--- it stands behind an offset, if it goes on
+-- it stands after an offset, if it goes on
 abbrev Behind : ℕ → Walk → Type 0
 Behind o (Before p current) = o < p
 Behind o Ended = Unit {0}
@@ -79,7 +79,7 @@ module _ (c : ComponentFields) (o : ℕ) where
       by_entry false = behind_word (declared c o) current
 
 module _ (c : ComponentFields) where
-  -- after n steps it stands at n or behind, if it goes on
+  -- after n steps it stands at n or after, if it goes on
   abbrev Far : ℕ → Walk → Type 0
   Far n (Before p current) = n ≤ p
   Far n Ended = Unit {0}

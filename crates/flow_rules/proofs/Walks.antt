@@ -422,7 +422,7 @@ module _ (c : ComponentFields) where
     ]
   ]
 
-  -- an offset that a step of the walk passes over, and one behind its end: it comes to neither
+  -- an offset that a step of the walk passes over, and one after its end: it comes to neither
   past_step : (n a o k : ℕ) (x z : Option Row) → walk c n ≡ before a x → a < o → walk c k ≡ before o z → n < k
   past_step n a o k x z h lt e = elim (order n k) as (λ _. n < k) [
     | inl l ↦ l

@@ -13,7 +13,7 @@ begins_entry c o = list_any (λ e. e.offset == o) c.exports
 unfoldable pub begins_site : ComponentFields → ℕ → Bool
 begins_site c o = list_any (λ s. s == o) c.sites
 
--- the offset is one of so many words behind the first
+-- the offset is one of so many words after the first
 abbrev pub is_behind : ℕ → ℕ → ℕ → Bool
 is_behind first size o = nat_lt first o && nat_lt o (first + size)
 

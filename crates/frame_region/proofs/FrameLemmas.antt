@@ -136,13 +136,22 @@ begun ss ts s top e k l f n =
     ((ap (λ a. a + s.size) st, k, subst (Lie ss) (sym st) l), (omega (arith, e), omega (arith, t)))
 
 -- where the newest frame has an item there is a frame
-pub at_least : {H T : Type 0} (xs : List (Slot H)) (ts : List T) (i : ℕ)
+at_least : {H T : Type 0} (xs : List (Slot H)) (ts : List T) (i : ℕ)
     → IsSome (item_of (stacked (reverse xs) ts) i) → 0 < length xs
 at_least {H} {T} xs ts i h = let l = length-reverse xs in let k = some (reverse xs) h in omega (arith, l, k)
   where
     some : (ss : List (Slot H)) → IsSome (item_of (stacked ss ts) i) → 0 < length ss
     some [] h = let k : is_some {T = T} None ≡ true = h in cc
     some (s ∷ ss) h = omega arith
+
+-- and it has the last slot
+pub newest-item : {H T : Type 0} (xs : List (Slot H)) (ts : List T) (i n : ℕ) (s : Slot H)
+    → IsSome (item_of (stacked (reverse xs) ts) i) → n ≡ length xs → s ≡ get_or xs (n - 1) s
+    → (ys : List (Slot H)) × (reverse xs ≡ s ∷ ys) × IsSome (item_of (stacked (s ∷ ys) ts) i)
+newest-item xs ts i n s h e is =
+    let some = at_least xs ts i h in
+    let k = last-first xs (n - 1) s (omega (arith, some, e)) is in
+    (k.0, k.1, rw k.1 at h)
 
 -- an item of any frame
 pub frame_there : {H T : Type 0} (fs : List (FrameSeen H T)) (k i : ℕ) → IsSome (item_at fs k i)

@@ -52,7 +52,7 @@ IsNewestEmpty (f ∷ fs) = f.items ≡ []
 abbrev pub with_frame : {H T : Type 0} → List (FrameSeen H T) → H → ℕ → List (FrameSeen H T)
 with_frame fs h n = record { head = h; size = n; items = [] } ∷ fs
 
--- one more item in the newest frame, behind those that it has
+-- one more item in the newest frame, after those that it has
 abbrev pub with_item : {H T : Type 0} → List (FrameSeen H T) → T → List (FrameSeen H T)
 with_item [] x = []
 with_item (f ∷ fs) x = record f { items = f.items ++ x ∷ [] } ∷ fs

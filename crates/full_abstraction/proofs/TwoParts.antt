@@ -36,7 +36,7 @@ use Rattle.linked_starts.proofs.Offers.{as_word, other, each as each_of_pair, no
 
 -- ---- the trusted parts
 
--- behind its entry the one halts, and the other fails
+-- after its entry the one halts, and the other fails
 abbrev pub last_of : Bool → Instr
 last_of true = Halt
 last_of false = Fail

@@ -55,7 +55,7 @@ module _ (b : Bool) where
   abbrev first : OState
   first = (overlay_at (start b)).state
 
-  -- behind the entry
+  -- after the entry
   abbrev pub inside : OState
   inside = record {
     maps = record {

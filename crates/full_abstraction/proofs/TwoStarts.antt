@@ -1,6 +1,6 @@
 -- The starts of both.
 use Rattle.std.proofs.Common.{◌≡◌, ℕ, zero, suc, Bool, true, List, [], ◌∷◌, map, Some, None, refl, sym, subst}
-use Rattle.std.proofs.Common.{arith}
+use Rattle.std.proofs.Common.{arith, rules}
 use Rattle.std.specs.Prelude.{slice_get}
 use Rattle.std.proofs.lemmas.List.Sorted.{IsPermutation-refl}
 use Rattle.lcm_machine.specs.declared.cells.Span.{Span}
@@ -53,27 +53,7 @@ cells_are b = cells_filled (both b) 4 (made b)
 -- the regions stand in ascending order already
 spans_rise : (b : Bool) → AreSpans 0 (spans b)
 unfolding regions_of entry_code
-spans_rise b = (
-  omega arith,
-  omega arith,
-  omega arith,
-  (
-    omega arith,
-    omega arith,
-    omega arith,
-    (
-      omega arith,
-      omega arith,
-      omega arith,
-      (
-        omega arith,
-        omega arith,
-        omega arith,
-        (omega arith, omega arith, omega arith, (omega arith, omega arith, omega arith, tt)),
-      ),
-    ),
-  ),
-)
+spans_rise b = search (rules, arith)
 
 main_found : (b : Bool) → main_of (both b) ≡ Some (main b)
 main_found b = refl

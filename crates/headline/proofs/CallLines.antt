@@ -13,7 +13,7 @@ use Rattle.run_lines.specs.Told.{Told, none_yet, and_then, step_lines}
 use Rattle.run_lines.specs.StepLines.{AreOfStep, none_told, one_told, pass_told}
 use Rattle.run_lines.proofs.Offers.{steps_tell_so}
 
--- an item of two lists, one behind the other, is of the first, or of the second
+-- an item of two lists, one after the other, is of the first, or of the second
 abbrev IsOfEither : {A : Type 0} → List A → List A → List A → A → List A → Type 0
 IsOfEither {A} xs ys before x after =
     ((more : List A) × (xs ≡ before ++ x ∷ more))
@@ -46,7 +46,7 @@ alone_in_step inward part site base last args words _ (x ∷ []) after pass_told
 alone_in_step inward part site base last args words _ (x ∷ y ∷ []) after pass_told e = absurd cc
 alone_in_step inward part site base last args words _ (x ∷ y ∷ z ∷ xs) after pass_told e = absurd cc
 
--- the step that tells a line and nothing else, behind others
+-- the step that tells a line and nothing else, after others
 pub record OneTells (l : Layout) (o : OState) (n : ℕ) (before : List Line) (line : Line) : Type 0 where
   pub at : ℕ
   pub caller : OState

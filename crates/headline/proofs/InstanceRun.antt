@@ -51,7 +51,7 @@ use Rattle.linked_starts.proofs.Offers.{as_word, pair, start, spans, cells_are, 
 
 -- ---- how many instructions lead to where
 
--- to its call, behind the call's `xjmp`, and behind the answer's and the return
+-- to its call, after the call's `xjmp`, and after the answer's and the return
 abbrev pub to_call : ℕ
 to_call = site_at
 

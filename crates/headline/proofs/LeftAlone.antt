@@ -32,7 +32,7 @@ told_of l o _ _ begins = ([], none_yet)
 told_of l o _ q (goes_on {j = j} {p = p} r e) = let k =
     told_of l o j p r in (k.0 ++ step_lines l p q, and_then k.1 e)
 
--- one run of steps behind another
+-- one run of steps after another
 then_told : (l : Layout) (o p : OState) (j : ℕ) (ls : List Line) → Told l o j ls p
     → (m : ℕ) (more : List Line) (r : OState) → Told l p m more r → Told l o (j + m) (ls ++ more) r
 then_told l o p j ls t _ _ _ none_yet =
@@ -55,7 +55,7 @@ module _ (s : StartSeen) (is : s.state ≡ fresh s.state.maps) (alone : HaltsAlo
       → written s j ≡ ls
   written_is j ls p t = ap (λ (r : Run). lines_of (layout s) (begun r) j) is ∙ agree.matched j ls p t
 
-  -- what is written behind the lines of some steps is what further steps tell
+  -- what is written after the lines of some steps is what further steps tell
   behind_is : (j k : ℕ) (ls more new : List Line) (p r : OState) → Told (layout s) (overlay_at s).state j ls p
       → Told (layout s) (overlay_at s).state k (ls ++ new) r
       → written s k ≡ written s j ++ more → more ≡ new

@@ -20,7 +20,7 @@ use Rattle.run_lines.specs.Traces.{trace_of}
 use Rattle.run_lines.specs.Told.{Told, EndsOverlay}
 
 -- The plain run of a state writes the lines of the overlay's steps. At a matched point it has written those
--- of the steps up to there. Behind it, it writes none until the weight of the next step is full, and none at
+-- of the steps up to there. After it, it writes none until the weight of the next step is full, and none at
 -- all where that step ends the overlay.
 pub record LinesAgree (l : Layout) (o : OState) (t : State Word) : Type 0 where
   pub matched : (j : ℕ) (ls : List Line) (p : OState) → Told l o j ls p → lines_of l (begun (fresh t)) j ≡ ls

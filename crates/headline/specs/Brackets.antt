@@ -73,7 +73,7 @@ pub record RangeIsPrivate (l : Layout) (q : OState) (u : State Word) (base last 
   pub up_to_ret : (j e a : ℕ) (ls : List Line) (r next : OState) → Told l q j ls r → Depth (marks_in ls) 0 e
       → IsRet (step_lines l r next) → base ≤ a → a ≤ last → Untouched (λ w. w) (λ w. w) a (j + 1) u
 
--- so it is of the range of each call line that is told from an overlay on, from the plain state behind its
+-- so it is of the range of each call line that is told from an overlay on, from the plain state after its
 -- `xjmp`
 abbrev pub CallsArePrivate : Layout → OState → State Word → Type 0
 CallsArePrivate l o t =

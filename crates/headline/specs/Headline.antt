@@ -44,7 +44,7 @@ pub record PlainEnds (s : StartSeen) (n : ℕ) (e : End) : Type 0 where
   pub goes : (plain n s.state).end ≡ None
   pub ends : (plain (n + 1) s.state).end ≡ Some e
 
--- the instruction behind n others lies within the weight of the step at a matched point
+-- the instruction after n others lies within the weight of the step at a matched point
 abbrev pub WithinStep : StartSeen → ℕ → ℕ → OState → Type 0
 WithinStep s n j p = Matched s j p × (j ≤ n) × (n < j + weight_of (layout s) p)
 
@@ -66,7 +66,7 @@ pub record Agrees (s : StartSeen) : Type 0 where
       → WithinStep s n (cut s n).at (cut_overlay s n) × OverlayFails s (cut_overlay s n)
   pub overlay_fails : (j : ℕ) (p : OState) → Matched s j p → OverlayFails s p
       → (n : ℕ) × (cause : FailCause) × (at : ℤ) × WithinStep s n j p × PlainEnds s n (Failed cause at)
-  -- where it has gone on, it stands less than the next weight behind the cut point
+  -- where it has gone on, it stands less than the next weight after the cut point
   pub goes : (n : ℕ) → (plain n s.state).end ≡ None
       → WithinStep s n (cut s n).at (cut_overlay s n)
 
@@ -86,7 +86,7 @@ AreBracketed lines = (open_now : List LineTold) × Brackets LineTold [] (marks_i
 
 -- ---- no instruction between touches a call's private frame
 
--- a range, from a matched point on that lies behind n instructions and at which the overlay is q
+-- a range, from a matched point on that lies after n instructions and at which the overlay is q
 pub record RangeIsLeftAlone (s : StartSeen) (n : ℕ) (q : OState) (base last : ℕ) : Type 0 where
   -- up to each matched point m instructions later, where the lines up to it close no call line that was open
   -- before them, no instruction touches an address of the range
@@ -101,7 +101,7 @@ pub record RangeIsLeftAlone (s : StartSeen) (n : ℕ) (q : OState) (base last : 
       → written s (n + m + weight_of (layout s) r) ≡ written s (n + m) ++ line → IsRet line
       → base ≤ a → a ≤ last → Untouched (λ w. w) (λ w. w) a (m + 1) (plain n s.state).maps
 
--- so it is of the range of each step that writes a call line, from behind the `xjmp` of its call on
+-- so it is of the range of each step that writes a call line, from after the `xjmp` of its call on
 abbrev pub FramesAreLeftAlone : StartSeen → Type 0
 FramesAreLeftAlone s =
     (j : ℕ) (p q : OState) → Matched s j p → overlay_step (layout s) p ≡ goes q
@@ -111,7 +111,7 @@ FramesAreLeftAlone s =
 
 -- A call line stands in the lines of n instructions: from a matched point on, at which just the lines before
 -- it are written, one step within these instructions writes it and nothing else, and its range is left alone
--- from behind that step's `xjmp` on.
+-- from after that step's `xjmp` on.
 pub record LineIsPrivate (s : StartSeen) (n : ℕ) (before : List Line) (line : Line)
     (base last : ℕ) : Type 0 where
   pub at : ℕ

@@ -36,7 +36,7 @@ pub record LineTold : Type 0 where
   pub last : ℕ
   pub words : List Word
 
--- those open behind some lines, newest first: a call line opens one, and a ret line closes the newest
+-- those open after some lines, newest first: a call line opens one, and a ret line closes the newest
 abbrev pub open_behind : List LineTold → List Line → List LineTold
 open_behind opened [] = opened
 open_behind opened (call inward part site base last args words ∷ ls) =
@@ -60,11 +60,11 @@ RetsCloseTheNewest s =
 
 -- ---- what is done to their ranges
 
--- the registers and cells behind so many instructions
+-- the registers and cells after so many instructions
 abbrev pub after : StartSeen → ℕ → State Word
 after s n = (plain n s.state).maps
 
--- The instruction behind n others is a word of the return of a call's own site. The `xjmp` that led there
+-- The instruction after n others is a word of the return of a call's own site. The `xjmp` that led there
 -- opened that site's code with the call's very range, as the call sealed them; the call was the newest that
 -- was open, and stk was the stack below its range.
 pub record IsOwnReturn (s : StartSeen) (n : ℕ) (c : LineTold) (word : ℕ) : Type 0 where
@@ -97,7 +97,7 @@ pub record IsOwnReturn (s : StartSeen) (n : ℕ) (c : LineTold) (word : ℕ) : T
 abbrev pub ReadsOrWipes : StartSeen → ℕ → LineTold → ℕ → Type 0
 ReadsOrWipes s n c a = (a ≡ c.base) × (IsOwnReturn s n c load_word ⊎ IsOwnReturn s n c wipe_word)
 
--- the instruction behind n others touches an address of an open call's range
+-- the instruction after n others touches an address of an open call's range
 pub record UsesRange (s : StartSeen) (n a : ℕ) (c : LineTold) : Type 0 where
   pub goes : (plain n s.state).end ≡ None
   pub is_open : Contains (open_behind [] (written s n)) c

@@ -30,7 +30,7 @@ pub record StayOpen (s : StartSeen) (n m : ℕ) (cs : List LineTold) : Type 0 wh
   pub unread : (k : ℕ) (c : LineTold) → k < m → Contains cs c
       → ¬ (IsOwnReturn s (n + k) c load_word ⊎ IsOwnReturn s (n + k) c wipe_word)
 
--- the machine behind n instructions with other registers and cells, watched as the run itself
+-- the machine after n instructions with other registers and cells, watched as the run itself
 abbrev pub instead : StartSeen → ℕ → State Word → Watched
 instead s n t = record (watched (layout s) (begun s.state) n) { run = record (plain n s.state) { maps = t } }
 
@@ -42,7 +42,7 @@ abbrev pub other_lines : StartSeen → ℕ → State Word → ℕ → List Line
 other_lines s n t m = lines_of (layout s) (instead s n t) m
 
 -- m instructions from n on, made in a state with other words in some cells: the same end, if one comes, the
--- same count, the same registers and other cells, the same lines, and the same end line behind them; and in
+-- same count, the same registers and other cells, the same lines, and the same end line after them; and in
 -- both runs these cells stay as they were
 pub record RunsTheSame (s : StartSeen) (n m : ℕ) (apart : ℕ → Type 0) (t : State Word) : Type 0 where
   pub end : (other_run s n t m).end ≡ (plain (n + m) s.state).end

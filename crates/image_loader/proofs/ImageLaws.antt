@@ -75,7 +75,7 @@ pub read_cut : (i : Image) (n : ℕ) → IsImage i → n < length (image_bytes i
 unfolding image_of
 read_cut = whole.cut_whole image_reads Trailing
 
--- what stands behind an image is too much
+-- what stands after an image is too much
 pub read_past : (i : Image) (b : ℕ) (more : List ℕ) → IsImage i
     → image_of (image_bytes i ++ b ∷ more) ≡ Err (Trailing (length (image_bytes i)))
 unfolding image_of

@@ -27,7 +27,7 @@ part_bytes p = flag_byte p.trusted ∷ (u32_bytes (length (spelling p.component)
 abbrev pub magic : List ℕ
 magic = codes "STKI"
 
--- magic, version, the size of the stack, and the parts behind their number
+-- magic, version, the size of the stack, and the parts after their number
 unfoldable pub image_bytes : Image → List ℕ
 image_bytes i = magic ++ (u16_bytes VERSION ++ (u32_bytes i.stack ++ list_bytes 2 part_bytes i.parts))
 

@@ -99,7 +99,7 @@ module _ (k : Known) where
             ∙ ap (λ vs. p.0 ∷ vs) r.1 ∙ sym p.4,
       )
 
-  -- those behind the first one
+  -- those after the first one
   behind_first : (a n : ℕ) (cs : Changes) (m : Cells) (w : OWord) (ws : List OWord) → AreIn k cs m
       → words_since k cs a (suc n) ≡ Some (w ∷ ws) → words_from Plain m (a + 1) n ≡ ws
   behind_first a n cs m w ws h e =
@@ -116,7 +116,7 @@ module _ (k : Known) (spans : List Span) (l : Layout) (n : ℕ) (fs : List OpenF
       (m : Cells) × AreIn k t.changes m
       × (overlay_step l o ≡ goes (record { maps = with_cells k spans t m; frames = gs; calls = j }))
 
-  -- the frame from an address of the stack to its end, of so many words behind the first one
+  -- the frame from an address of the stack to its end, of so many words after the first one
   module _ (s t : Partly) (m : Cells) (i j : ℕ) (e : SiteCode) (c : CapFields) (w : OWord) (ws : List OWord)
       (h : AreIn k s.changes m) (far : c.end + 1 - address c.addr ≡ suc j) (near : c.end - address c.addr ≡ j)
     where

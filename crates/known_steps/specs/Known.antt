@@ -149,7 +149,7 @@ module _ (k : Known) where
   abbrev pub is_or_not : Bool → Bool → Bool
   is_or_not b c = if b then c else not c
 
-  -- so many of them, before and behind each of which trusted code runs, or doesn't
+  -- so many of them, before and after each of which trusted code runs, or doesn't
   unfoldable pub known_run : Layout → Bool → ℕ → Partly → Option Partly
   known_run l b zero s = Some s
   known_run l b (suc n) s =
@@ -174,7 +174,7 @@ abbrev pub restored : ℕ → List OWord → Changes → Changes
 restored a [] cs = cs
 restored a (w ∷ ws) cs = restored (a + 1) ws ((a, Some w) ∷ cs)
 
--- at the `xjmp` of a call of a site, the frame taken away; and behind a return to it, the frame put back
+-- at the `xjmp` of a call of a site, the frame taken away; and after a return to it, the frame put back
 abbrev pub at_xjmp : ℕ → SiteCode → CapFields → ℕ → ℕ → Partly → Partly
 at_xjmp i e c n calls s = record {
   regs = (at_call i e c (record { maps = blank s.regs; frames = []; calls = calls })).regs;

@@ -16,8 +16,9 @@ use Rattle.refusal_lines.specs.declared.status.Status.{Status}
 use Rattle.refusal_lines.specs.declared.status.Status.TheVariants as status
 use Rattle.lcm_cli.specs.Audits.{audit_at}
 use Rattle.lcm_cli.specs.Commands.{Task, Write, ok_text, plan_of, plan_in}
-use Rattle.lcm_cli.specs.Answers.{Answer, Outside, with_files, writes, refused, IsAnswerOf, AnswersWhole}
-use Rattle.lcm_cli.specs.Answers.{whole, unput, unwritten, Answers, answer, nothing, read_in}
+use Rattle.call_answers.specs.Answers.{with_files, AnswersWhole, whole, unput, unwritten, Answers, answer}
+use Rattle.call_answers.specs.Answers.{nothing}
+use Rattle.lcm_cli.specs.Answers.{Answer, Outside, writes, refused, IsAnswerOf, read_in, stk}
 use Rattle.lcm_cli.specs.Bytes.{bytes_of}
 use Rattle.lcm_cli.specs.Causes.{AuditTold}
 use Rattle.lcm_cli.proofs.Ends.{Never, never_reads, never_unless}
@@ -140,7 +141,7 @@ neither : (name : List ℕ) (taken : List (List ℕ)) (old : Outside) (ended s :
 neither name taken old ended s new e d f = (λ is. absurd (d (sym e ∙ is)), λ is. absurd (f (sym e ∙ is)))
 
 audit_told_by : (name : List ℕ) (old : Outside) (ended : Status) (new : Outside)
-    (a : Answers (plan_of (asked.Audit name)) old ended new) → AuditTold name (read_in a) old ended new
+    (a : Answers stk (plan_of (asked.Audit name)) old ended new) → AuditTold name (read_in a) old ended new
 audit_told_by name old ended new (nothing n) =
     neither name [] old ended status.NoMemory new n.status_is (λ k. cc) (λ k. cc)
 audit_told_by name old ended new (answer due a seen c x (whole g)) =
@@ -154,8 +155,8 @@ audit_told_by name old ended new (answer due a seen c x (unwritten p w k s)) =
     s (λ k. cc) (λ k. cc)
 
 pub audits : (words : Option Command) (old : Outside) (ended : Status) (new : Outside)
-    (a : Answers (plan_in words) old ended new) (name : List ℕ) → words ≡ Some (asked.Audit name)
+    (a : Answers stk (plan_in words) old ended new) (name : List ℕ) → words ≡ Some (asked.Audit name)
     → AuditTold name (read_in a) old ended new
 audits words old ended new a name e =
-    subst (λ q. (b : Answers (plan_in q) old ended new) → AuditTold name (read_in b) old ended new) (sym e)
-    (audit_told_by name old ended new) a
+    subst (λ q. (b : Answers stk (plan_in q) old ended new) → AuditTold name (read_in b) old ended new)
+    (sym e) (audit_told_by name old ended new) a

@@ -40,9 +40,9 @@ use Rattle.source_events.specs.declared.End.{End}
 use Rattle.source_events.specs.declared.End.TheVariants as end
 use Rattle.meaning_tool.specs.Subjects.{Subject, told_of}
 use Rattle.lcm_cli.specs.Commands.{Telling, Task, Run, Trace, Reach, Debug, Put, Write, Tell, plan_in}
+use Rattle.call_answers.specs.Answers.{IsPut, whole, unput, unwritten, Answers, answer, nothing}
 use Rattle.lcm_cli.specs.Answers.{Answer, Outside, end_status, meaning_status, writes, ran, ran_overlay}
-use Rattle.lcm_cli.specs.Answers.{tells, refused, IsAnswerOf, IsPut, whole, unput, unwritten, Answers, answer}
-use Rattle.lcm_cli.specs.Answers.{nothing, read_in}
+use Rattle.lcm_cli.specs.Answers.{tells, refused, IsAnswerOf, read_in, stk}
 use Rattle.lcm_cli.specs.Causes.{IsTurn, IsUnread, IsLong, IsUndecoded, IsUncompiled, IsUnassembled}
 use Rattle.lcm_cli.specs.Causes.{IsUnloaded, IsUnscripted, IsUnaudited, IsUnmade, Breaks, CameOf, RanTo}
 use Rattle.debug_tool.specs.Replies.{debug_text}
@@ -52,7 +52,7 @@ use Rattle.lcm_cli.specs.Causes.{Causes, Promised}
 use Rattle.lcm_cli.proofs.Making.{came_of}
 use Rattle.lcm_cli.proofs.Why.{WhyIs, why_is}
 use Rattle.lcm_cli.proofs.Put.{put_of}
-use Rattle.lcm_cli.proofs.Settled.{complete, puts_rose}
+use Rattle.call_answers.proofs.Offers.{complete, puts_rose}
 
 -- ---- a read that failed
 
@@ -249,7 +249,7 @@ due_caused asked fits read old new seen (Err why) a c x p w =
 
 caused : (asked : Option Command) → ((c : Command) → asked ≡ Some c → Fits c)
     → (old : Outside) (ended : Status) (new : Outside)
-    (a : Answers (plan_in asked) old ended new) → Caused asked (read_in a) old new ended
+    (a : Answers stk (plan_in asked) old ended new) → Caused asked (read_in a) old new ended
 caused asked fits old ended new (nothing n) = subst (Caused asked [] old new) (sym n.status_is) (
   n.quiet,
   n.unwritten,
@@ -289,11 +289,11 @@ causes asked read old ended new c = record {
 
 pub promised : (asked : Option Command) → ((c : Command) → asked ≡ Some c → Fits c)
     → (old : Outside) (ended : Status) (new : Outside)
-    → Answers (plan_in asked) old ended new → Promised asked old ended new
+    → Answers stk (plan_in asked) old ended new → Promised asked old ended new
 promised asked fits old ended new a = record {
   answers = a;
   causes = causes asked (read_in a) old ended new (caused asked fits old ended new a);
-  complete = complete (plan_in asked) old ended new a;
+  complete = complete stk (plan_in asked) old ended new a;
 }
 
 -- ---- words that are no command
@@ -304,7 +304,7 @@ due_usage None old new due f c = c.0
 due_usage (Some command) old new due f c = absurd (cc)
 
 pub usage : (asked : Option Command) (old : Outside) (ended : Status) (new : Outside)
-    → Answers (plan_in asked) old ended new → asked ≡ None
+    → Answers stk (plan_in asked) old ended new → asked ≡ None
     → (ended ≡ status.Usage) ⊎ ((ended ≡ status.WriteFault) ⊎ (ended ≡ status.NoMemory))
 usage asked old ended new (nothing n) f = inr (inr n.status_is)
 usage asked old ended new (answer due a seen c x (unput g i w u k s)) f = inr (inl s)

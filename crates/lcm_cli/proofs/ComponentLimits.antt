@@ -104,7 +104,7 @@ module _ (laws : LimitLaws) where
   unfolding sourced
   source_fits d text c e = module_fits d text c (module_in d text) refl e
 
-  -- all are bytes, also the 0 that stands behind the last
+  -- all are bytes, also the 0 that stands after the last
   bytes_by : (bytes : List ℕ) (i : ℕ) (b : Bool) → nat_lt i (length bytes) ≡ b → All (λ x. x < 256) bytes
       → get_or bytes i 0 < 256
   bytes_by bytes i true e h =

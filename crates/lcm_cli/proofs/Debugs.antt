@@ -39,7 +39,7 @@ use Rattle.lcm_cli.proofs.Ends.{never_reads, never_unless, never_linked, never_i
 use Rattle.lcm_cli.proofs.Reasons.{Reasoned, ByBytes, reason_by, reads_reasoned, reasoned_bind, reasoned_made}
 use Rattle.lcm_cli.proofs.Reasons.{in_reasoned, linked_break, image_fails}
 
--- the script behind what links
+-- the script after what links
 abbrev pub behind : List ℕ → ImageSeen → Plan Task
 behind script i = script_at script (length i.parts) >>= (λ lines. Made (Debug i lines))
 

@@ -13,8 +13,8 @@ use Rattle.refusal_lines.specs.declared.status.Status.{Status}
 use Rattle.refusal_lines.specs.declared.status.Status.TheVariants as status
 use Rattle.lcm_cli.specs.Commands.{Task, Debug, plan_in, debug_plan}
 use Rattle.lcm_cli.specs.Bytes.{ComesOf, Makes}
-use Rattle.lcm_cli.specs.Answers.{Answer, Outside, with_files, writes, IsAnswerOf, AnswersWhole, Answers}
-use Rattle.lcm_cli.specs.Answers.{read_in}
+use Rattle.call_answers.specs.Answers.{with_files, AnswersWhole, Answers}
+use Rattle.lcm_cli.specs.Answers.{Answer, Outside, writes, IsAnswerOf, read_in, stk}
 use Rattle.lcm_cli.specs.Causes.{IsRunStatus, DebugGiven}
 use Rattle.lcm_cli.proofs.Debugs.{DebugCame, debug_came}
 use Rattle.lcm_cli.proofs.RunsMade.{StartLaws, started, refused_none, whole_run}
@@ -57,7 +57,7 @@ module _ (all : StartLaws) (remember : CommandsRemember) (l : Linked) (script : 
       (subst (λ u. IsAnswerOf (Ok u) a) m.task x) g
 
 pub debugs : StartLaws → CommandsRemember → (words : Option Command) (old : Outside) (ended : Status)
-    (new : Outside) (a : Answers (plan_in words) old ended new) (l : Linked) (script : List ℕ)
+    (new : Outside) (a : Answers stk (plan_in words) old ended new) (l : Linked) (script : List ℕ)
     → words ≡ Some (asked.Debug l script) → IsRunStatus ended → DebugGiven l script (read_in a) old ended new
 debugs all remember words old ended new a l script e r =
     let w = whole_run (plan_in words) old ended new a r in

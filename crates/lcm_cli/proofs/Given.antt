@@ -11,10 +11,10 @@ use Rattle.generated_load.specs.Loads.{load_steps}
 use Rattle.lcm_cli.specs.Commands.{Lines, Totals, Task, Run, Trace, Reach, Debug, Put, Write, Tell}
 use Rattle.debug_tool.specs.Replies.{debug_text}
 use Rattle.lcm_cli.specs.ReadyTasks.{IsTextOf, Does, FollowsTask}
-use Rattle.lcm_cli.specs.Answers.{Outside, unwritten, Answers, answer, nothing, GivesOrNothing, with_files}
-use Rattle.lcm_cli.specs.Answers.{writes, meaning_status, says_ok, puts, ran, ran_overlay, IsAnswerOf}
+use Rattle.call_answers.specs.Answers.{unwritten, Answers, answer, nothing, GivesOrNothing, with_files}
+use Rattle.lcm_cli.specs.Answers.{Outside, writes, meaning_status, says_ok, puts, ran, ran_overlay}
+use Rattle.lcm_cli.specs.Answers.{IsAnswerOf, ready_answer, IsReady, stk}
 use Rattle.file_plans.proofs.Offers.{only_again, comes_quiet}
-use Rattle.lcm_cli.specs.Answers.{ready_answer, IsReady}
 
 text_answers : (t : Task) (text : List ℕ) → IsTextOf t text → IsAnswerOf (Ok t) (writes Done text)
 text_answers (Write own) text d = ap (writes Done) d
@@ -59,7 +59,7 @@ they_are_ready plan old new j f = does_ready f.0 j f.2
 
 pub answered : (plan : Plan Task) (old : Outside) (j : ReadyTask) (seen : FilesSeen) (status : Status)
     (new : Outside) → FollowsTask plan old.files (Ok j) seen
-    → GivesOrNothing (with_files old seen) (ready_answer j) status new → Answers plan old status new
+    → GivesOrNothing stk (with_files old seen) (ready_answer j) status new → Answers stk plan old status new
 answered plan old j seen status new f (inl g) =
     answer (Ok f.0) (ready_answer j) seen f.1 (does_answers f.0 j f.2) g
 answered plan old j seen status new f (inr n) = nothing (record {

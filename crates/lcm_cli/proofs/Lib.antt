@@ -6,7 +6,6 @@ pub mod Ends
 pub mod Tasks
 pub mod Reasons
 pub mod Modules
-pub mod Settled
 pub mod Loads
 pub mod Debugs
 pub mod Audits

@@ -65,8 +65,9 @@ same_ok x y e = cc
 
 made_by : {A : Type 0} (p : Plan A) (x : A) (old new : FilesSeen) → IsSettled p → Comes p old (Ok x) new
     → p ≡ Made x
-made_by p x old new (inl m) h =
-    let c : Comes (Made m.0) old (Ok x) new = subst (λ q. Comes q old (Ok x) new) m.1 h in
+made_by {A} p x old new (inl m) h =
+    let c : Comes (let q : Plan A = Made m.0 in q) old (Ok x) new =
+    subst (λ q. Comes q old (Ok x) new) m.1 h in
     m.1 ∙ (let e = same_ok x m.0 c.0 in rw e refl)
 made_by {A} p x old new (inr e) h =
     let c : Comes (let q : Plan A = Ends e.0 in q) old (Ok x) new =
@@ -76,7 +77,8 @@ made_by {A} p x old new (inr e) h =
 ended_by : {A : Type 0} (p : Plan A) (why : Refusal) (old new : FilesSeen) → IsSettled p
     → Comes p old (Err why) new → p ≡ Ends why
 ended_by {A} p why old new (inl m) h =
-    let c : Comes (Made m.0) old (Err why) new = subst (λ q. Comes q old (Err why) new) m.1 h in
+    let c : Comes (let q : Plan A = Made m.0 in q) old (Err why) new =
+    subst (λ q. Comes q old (Err why) new) m.1 h in
     absurd (let k = c.0 in cc)
 ended_by {A} p why old new (inr e) h =
     let c : Comes (let q : Plan A = Ends e.0 in q) old (Err why) new =

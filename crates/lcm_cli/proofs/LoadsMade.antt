@@ -13,8 +13,8 @@ use Rattle.refusal_lines.specs.declared.status.Status.{Status}
 use Rattle.link_tool.specs.Loads.{load_image}
 use Rattle.lcm_cli.specs.Commands.{Task, Totals, for_task, plan_in}
 use Rattle.lcm_cli.specs.Bytes.{ComesOf}
-use Rattle.lcm_cli.specs.Answers.{Answer, Outside, with_files, ran, IsAnswerOf, AnswersWhole, Answers}
-use Rattle.lcm_cli.specs.Answers.{read_in}
+use Rattle.call_answers.specs.Answers.{with_files, AnswersWhole, Answers}
+use Rattle.lcm_cli.specs.Answers.{Answer, Outside, ran, IsAnswerOf, read_in, stk}
 use Rattle.lcm_cli.specs.Causes.{IsRunStatus, LoadGiven}
 use Rattle.lcm_cli.proofs.Loads.{task_of, load_made, comes_stays}
 use Rattle.lcm_cli.proofs.Tasks.{made_of}
@@ -54,8 +54,8 @@ module _ (all : StartLaws) (seed : ℕ) (old : Outside) (ended : Status) (new : 
       given_load seen m.0 a m.1.0 (subst (λ t. IsAnswerOf (Ok t) a) m.2 x) g
 
 pub loads : StartLaws → (asked : Option Command) (old : Outside) (ended : Status) (new : Outside)
-    → Answers (plan_in asked) old ended new → (seed : ℕ) → asked ≡ Some (Generate seed) → IsRunStatus ended
-    → LoadGiven seed old ended new
+    → Answers stk (plan_in asked) old ended new → (seed : ℕ) → asked ≡ Some (Generate seed)
+    → IsRunStatus ended → LoadGiven seed old ended new
 loads all asked old ended new a seed e r =
     let w = whole_run (plan_in asked) old ended new a r in
     given_due all seed old ended new (read_in a) w.seen w.due w.gives

@@ -13,8 +13,8 @@ use Rattle.meaning_tool.specs.Subjects.{Subject, told_of, subject_in}
 use Rattle.refusal_lines.specs.declared.status.Status.{Status}
 use Rattle.lcm_cli.specs.Commands.{Task, Tell, plan_of, plan_in}
 use Rattle.lcm_cli.specs.Bytes.{ComesOf, Makes}
-use Rattle.lcm_cli.specs.Answers.{Answer, Outside, with_files, tells, IsAnswerOf, AnswersWhole, Answers}
-use Rattle.lcm_cli.specs.Answers.{read_in}
+use Rattle.call_answers.specs.Answers.{with_files, AnswersWhole, Answers}
+use Rattle.lcm_cli.specs.Answers.{Answer, Outside, tells, IsAnswerOf, read_in, stk}
 use Rattle.lcm_cli.specs.Causes.{IsRunStatus, MeaningGiven}
 use Rattle.lcm_cli.proofs.Tasks.{made_of}
 use Rattle.lcm_cli.proofs.Modules.{SubjectCame, subject_came}
@@ -66,7 +66,7 @@ module _ (words : List PartWord) (size fuel : ℕ) (feed : List ℕ) (read : Lis
       (subst (λ b. AnswersWhole (with_files old seen) b ended new) e g)
 
 pub means : (asked : Option Command) (old : Outside) (ended : Status) (new : Outside)
-    (a : Answers (plan_in asked) old ended new) (words : List PartWord) (size fuel : ℕ) (feed : List ℕ)
+    (a : Answers stk (plan_in asked) old ended new) (words : List PartWord) (size fuel : ℕ) (feed : List ℕ)
     → asked ≡ Some (Mean words size fuel feed) → IsRunStatus ended
     → MeaningGiven words size fuel feed (read_in a) old ended new
 means asked old ended new a words size fuel feed e r =

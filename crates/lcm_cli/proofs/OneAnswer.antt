@@ -14,7 +14,9 @@ use Rattle.file_plans.specs.declared.refusal.Refusal.{Refusal}
 use Rattle.file_plans.specs.declared.refusal.Refusal.TheVariants as refusal
 use Rattle.file_plans.specs.Plans.{Plan, Reads, Ends, Made}
 use Rattle.lcm_cli.specs.Commands.{Task, Run, Trace, Reach, Debug, Put, Write, Tell, plan_in}
-use Rattle.lcm_cli.specs.Answers.{Answer, IsAnswerOf, writes, ran, ran_overlay, Settles, IsWritten}
+use Rattle.call_answers.specs.Plans.{Settles}
+use Rattle.call_answers.specs.Answers.{IsWritten}
+use Rattle.lcm_cli.specs.Answers.{Answer, IsAnswerOf, writes, ran, ran_overlay, stk}
 use Rattle.refusal_lines.specs.declared.status.Status.TheVariants.{Done}
 use Rattle.lcm_cli.proofs.OneStart.{one_start}
 use Rattle.lcm_cli.proofs.OneOverlay.{one_overlay}
@@ -80,6 +82,6 @@ one_of one (Ok (Reach i)) a b h k =
     h.4 ∙ ap (writes Done) (one k.0 h.1 k.1 (subst (λ s. IsReachText s h.1) e h.3) k.3) ∙ sym k.4
 
 pub one_answer : TextsAreOne → (asked : Option Command) (held : List ℕ → Option (List ℕ)) (a b : Answer)
-    → IsWritten held (plan_in asked) a → IsWritten held (plan_in asked) b → a ≡ b
+    → IsWritten stk held (plan_in asked) a → IsWritten stk held (plan_in asked) b → a ≡ b
 one_answer one asked held a b h k =
     one_of one k.0 a b (subst (λ d. IsAnswerOf d a) (one_due held (plan_in asked) h.0 k.0 h.1 k.1) h.2) k.2

@@ -1,6 +1,6 @@
 -- The file that is put, and the files that stay.
-use Rattle.std.proofs.Common.{◌≡◌, ◌≢◌, ℕ, ◌⊎◌, List, Option, Some, None, refl, sym, ap, subst, ◌∙◌, inl, inr}
-use Rattle.std.specs.Prelude.{Result, Ok, Err, IsNone, IsSomeAnd, MatchOption}
+use Rattle.std.proofs.Common.{◌≡◌, ℕ, ◌⊎◌, List, Option, Some, None, refl, sym, ap, subst, ◌∙◌, inl, inr}
+use Rattle.std.specs.Prelude.{Result, Ok, Err}
 use Rattle.outside_io.specs.FilesSeen.{FilesSeen, Puts, KeepsOthers}
 use Rattle.command_words.specs.declared.command.LinkDeed.{LinkDeed}
 use Rattle.command_words.specs.declared.command.LinkDeed.TheVariants as link_deed
@@ -24,7 +24,6 @@ use Rattle.file_plans.specs.declared.refusal.Refusal.TheVariants as refusal
 use Rattle.refusal_lines.specs.declared.status.Status.{Status}
 use Rattle.refusal_lines.specs.declared.status.Status.TheVariants as status
 use Rattle.refusal_lines.specs.Refusals.{refusal_status, image_status}
-use Rattle.file_plans.specs.Plans.{Plan, Reads, Ends, Made, whole as came_whole, too_long, unread, Comes}
 use Rattle.link_tool.specs.Parts.{component_at, part_at}
 use Rattle.source_events.specs.declared.End.{End}
 use Rattle.source_events.specs.declared.End.TheVariants as end
@@ -34,16 +33,17 @@ use Rattle.lcm_cli.specs.Commands.{Task, Run, Trace, Reach, Debug, Put, Write, T
 use Rattle.lcm_cli.specs.Commands.{spelling_of, IsReadAgain, link_task, component_task, plan_of, plan_in}
 use Rattle.link_tool.specs.Linked.{linked_in}
 use Rattle.link_tool.specs.Loads.{load_image}
-use Rattle.lcm_cli.specs.Answers.{Answer, NewFile, Outside, end_status, meaning_status, ran, ran_overlay}
-use Rattle.lcm_cli.specs.Answers.{tells, puts, refused, IsAnswerOf, IsPut, whole, unput, unwritten, Answers}
-use Rattle.lcm_cli.specs.Answers.{answer, nothing, read_in}
-use Rattle.lcm_cli.specs.Causes.{PutsFile, link_out, component_out, out_name, Stay, OthersStay, StayAt}
+use Rattle.call_answers.specs.Answers.{NewFile, IsPut, whole, unput, unwritten, Answers, answer, nothing}
+use Rattle.call_answers.specs.Answers.{Stay}
+use Rattle.lcm_cli.specs.Answers.{Answer, Outside, end_status, meaning_status, ran, ran_overlay, tells, puts}
+use Rattle.lcm_cli.specs.Answers.{refused, IsAnswerOf, read_in, stk}
+use Rattle.lcm_cli.specs.Causes.{PutsFile, link_out, component_out, out_name, OthersStay, StayAt}
 use Rattle.lcm_cli.specs.Causes.{CameOf, PutsWhole}
 use Rattle.lcm_cli.specs.Bytes.{bytes_of, ComesOf}
 use Rattle.lcm_cli.proofs.Debugs.{debug_came}
 use Rattle.lcm_cli.proofs.Making.{came_of}
 use Rattle.lcm_cli.proofs.Tasks.{made_of}
-use Rattle.lcm_cli.proofs.Settled.{puts_rose}
+use Rattle.call_answers.proofs.Offers.{comes_contents, keeps_from, puts_rose}
 
 -- ---- its name is that of `--out`
 
@@ -139,21 +139,6 @@ put_of asked read due a f old seen c x e = elim (file_cases due a x)
     ]
 
 -- ---- files stay
-
-comes_contents : {A : Type 0} (p : Plan A) (old new : FilesSeen) (due : Result A Refusal)
-    → Comes p old due new → new.contents ≡ old.contents
-comes_contents (Made x) old new due h = ap (λ (s : FilesSeen). s.contents) h.1
-comes_contents (Ends why) old new due h = ap (λ (s : FilesSeen). s.contents) h.1
-comes_contents (Reads name index next) old new due (came_whole bytes mid w h) =
-    comes_contents (next bytes) mid new due h ∙ ap (λ (s : FilesSeen). s.contents) w.quiet
-comes_contents (Reads name index next) old new due (too_long t e) = ap (λ (s : FilesSeen). s.contents) t.quiet
-comes_contents (Reads name index next) old new due (unread f e) = ap (λ (s : FilesSeen). s.contents) f.stays
-
-keeps_from : (old seen new : FilesSeen) (out : List ℕ) → seen.contents ≡ old.contents
-    → KeepsOthers seen new out → KeepsOthers old new out
-keeps_from old seen new out e k =
-    let P : _ → Type 0 = λ o. MatchOption o (IsNone new.contents)
-    (λ held. IsSomeAnd new.contents (λ now. (q : List ℕ) → q ≢ out → now q ≡ held q)) in subst P e k
 
 -- what became of the files of an answer
 put_stays : (asked : Option Command) (read : List (List ℕ)) (due : Result Task Refusal) (a : Answer)
@@ -259,7 +244,7 @@ stay_by asked a old new status.RuleBroken n o k = k n
 stay_by asked a old new status.AuditRefused n o k = k n
 
 pub files_stay : (asked : Option Command) (old : Outside) (ended : Status) (new : Outside)
-    → Answers (plan_in asked) old ended new → StayAt asked old.files ended new.files
+    → Answers stk (plan_in asked) old ended new → StayAt asked old.files ended new.files
 files_stay asked old ended new (nothing n) = subst (λ s. StayAt asked old.files s new.files) (sym n.status_is)
     (ap (λ (s : FilesSeen). s.contents) n.quiet)
 files_stay asked old ended new (answer due a seen c x (whole g)) =
@@ -288,7 +273,7 @@ files_stay asked old ended new (answer due a seen c x (unwritten p w k s)) =
     (came_of asked old.files due seen c) x refl p))
 
 pub put_whole : (asked : Option Command) (old : Outside) (ended : Status) (new : Outside)
-    (a : Answers (plan_in asked) old ended new) → PutsWhole asked (read_in a) old.files new.files
+    (a : Answers stk (plan_in asked) old ended new) → PutsWhole asked (read_in a) old.files new.files
 put_whole asked old ended new (nothing n) q = inl (ap (λ (s : FilesSeen). s.contents) n.quiet)
 put_whole asked old ended new (answer due a seen c x (whole g)) q =
     let read = bytes_of (plan_in asked) old.files due seen c in

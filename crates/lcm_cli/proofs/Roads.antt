@@ -45,7 +45,8 @@ use Rattle.lcm_cli.specs.Debugs.{unscripted, script_at}
 use Rattle.lcm_cli.specs.Commands.{Task, Tell, Debug, link_task, component_task, debug_plan, for_task}
 use Rattle.link_tool.specs.Linked.{linked_parts, linked_image, linked_in}
 use Rattle.lcm_cli.specs.Commands.{plan_of}
-use Rattle.lcm_cli.specs.Answers.{NewFile, Answer, IsAnswerOf, IsWritten, tells, puts, writes}
+use Rattle.call_answers.specs.Answers.{NewFile, IsWritten}
+use Rattle.lcm_cli.specs.Answers.{Answer, IsAnswerOf, tells, puts, writes, stk}
 use Rattle.lcm_cli.specs.Roads.{Held, PutsComponent, PutsImage, ShowsText, IsErasure, HoldsShort, Pairwise}
 use Rattle.lcm_cli.specs.Roads.{HaveOneText, same, erasure, IsBeside, one_text, component, shown, AreBeside}
 use Rattle.lcm_cli.specs.Roads.{LinkBeside, AskBeside, Asking, AskTheSame, beside, back, onward, IsGiven}
@@ -182,7 +183,7 @@ due_ok over p task a (Some (Err why)) due e s h d =
     absurd (refused_none why a Done (subst (λ z. IsAnswerOf z a) q h) (sym d) tt)
 
 made_of : {A : Type 0} (over : Held) (p : Plan A) (task : A → Task) (a : Answer)
-    → IsWritten over (for_task p task) a → a.status ≡ Done → IsMade over p task a
+    → IsWritten stk over (for_task p task) a → a.status ≡ Done → IsMade over p task a
 made_of over p task a w d =
     due_ok over p task a (settled over p) w.0 refl
     (sym (settled_bind over p (λ x. Made (task x))) ∙ settled_by over (for_task p task) w.0 w.1) w.2 d
@@ -533,20 +534,20 @@ module _ (laws : RoadLaws) (held there : Held) where
   matched_back _ _ a m h = absurd m
 
   answers_agree : (c d : Command) → AskBeside held there c d → (a : Answer)
-      → IsWritten held (plan_of c) a ↔ IsWritten there (plan_of d) a
+      → IsWritten stk held (plan_of c) a ↔ IsWritten stk there (plan_of d) a
   answers_agree c d h a = (there_so, held_so)
     where
       m : Agree held there AnswerAlike (plan_of c) (plan_of d)
       m = commands_agree c d h
 
-      there_so : IsWritten held (plan_of c) a → IsWritten there (plan_of d) a
+      there_so : IsWritten stk held (plan_of c) a → IsWritten stk there (plan_of d) a
       there_so w =
           let e = settled_by held (plan_of c) w.0 w.1 in
           let x = matched w.0 (settled there (plan_of d)) a
           (subst (λ z. Match AnswerAlike z (settled there (plan_of d))) e m) w.2 in
           (x.0, settles there (plan_of d) x.0 x.1, x.2)
 
-      held_so : IsWritten there (plan_of d) a → IsWritten held (plan_of c) a
+      held_so : IsWritten stk there (plan_of d) a → IsWritten stk held (plan_of c) a
       held_so w =
           let e = settled_by there (plan_of d) w.0 w.1 in
           let x = matched_back w.0 (settled held (plan_of c)) a

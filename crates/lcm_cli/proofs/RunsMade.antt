@@ -42,9 +42,10 @@ use Rattle.file_plans.specs.Plans.{Plan}
 use Rattle.lcm_cli.specs.Commands.{Lines, Task, link_task, plan_of, plan_in}
 use Rattle.link_tool.specs.Linked.{linked_in}
 use Rattle.lcm_cli.specs.Bytes.{ComesOf, Makes}
-use Rattle.lcm_cli.specs.Answers.{Answer, NewFile, Outside, with_files, end_status, writes, ran, ran_overlay}
-use Rattle.lcm_cli.specs.Answers.{refused, IsPut, IsAnswerOf, AnswersWhole, whole, unput, unwritten, Answers}
-use Rattle.lcm_cli.specs.Answers.{answer, nothing, read_in}
+use Rattle.call_answers.specs.Answers.{NewFile, with_files, IsPut, AnswersWhole, whole, unput, unwritten}
+use Rattle.call_answers.specs.Answers.{Answers, answer, nothing}
+use Rattle.lcm_cli.specs.Answers.{Answer, Outside, end_status, writes, ran, ran_overlay, refused, IsAnswerOf}
+use Rattle.lcm_cli.specs.Answers.{read_in, stk}
 use Rattle.lcm_cli.specs.Causes.{IsRunStatus, Started, text_of_run, RunGiven, TraceGiven, ReachGiven, RunCut}
 use Rattle.lcm_cli.specs.Causes.{TraceCut}
 use Rattle.lcm_cli.proofs.Making.{makes_of}
@@ -153,7 +154,7 @@ pub record WholeRun (plan : Plan Task) (read : List (List ℕ)) (old : Outside) 
   pub given : AnswersWhole (with_files old seen) gives ended new
 
 pub whole_run : (plan : Plan Task) (old : Outside) (ended : Status) (new : Outside)
-    (a : Answers plan old ended new) → IsRunStatus ended → WholeRun plan (read_in a) old ended new
+    (a : Answers stk plan old ended new) → IsRunStatus ended → WholeRun plan (read_in a) old ended new
 whole_run plan old ended new (nothing n) r = absurd (subst IsRunStatus n.status_is r)
 whole_run plan old ended new (answer due a seen c x (unput f i w u k s)) r = absurd (subst IsRunStatus s r)
 whole_run plan old ended new (answer due a seen c x (unwritten p f k s)) r = absurd (subst IsRunStatus s r)
@@ -194,7 +195,7 @@ few_steps l steps h = let k = h.1.1 in omega (arith, k)
 
 pub runs : StartLaws → RunsPass → (asked : Option Command) → ((c : Command) → asked ≡ Some c → Fits c)
     → (old : Outside) (ended : Status) (new : Outside)
-    (a : Answers (plan_in asked) old ended new) (l : Linked) (steps : ℕ)
+    (a : Answers stk (plan_in asked) old ended new) (l : Linked) (steps : ℕ)
     → asked ≡ Some (Links l (link_deed.Run steps)) → IsRunStatus ended
     → RunGiven l steps (read_in a) old ended new
 runs all pass asked fits old ended new a l steps e r =
@@ -237,7 +238,7 @@ given_trace all one l steps read old seen ended new a (made i c t x) g r =
     }
 
 pub traces : StartLaws → OverlaysAreOne → (asked : Option Command) (old : Outside) (ended : Status)
-    (new : Outside) (a : Answers (plan_in asked) old ended new) (l : Linked) (steps : ℕ)
+    (new : Outside) (a : Answers stk (plan_in asked) old ended new) (l : Linked) (steps : ℕ)
     → asked ≡ Some (Links l (link_deed.Trace steps)) → IsRunStatus ended
     → TraceGiven l steps (read_in a) old ended new
 traces all one asked old ended new a l steps e r =
@@ -296,7 +297,7 @@ pub record Cut (plan : Plan Task) (read : List (List ℕ)) (old new : Outside) :
       → (new.files ≡ seen) × FailsToWrite old.sink gives.text new.sink
 
 pub cut_of : (plan : Plan Task) (old : Outside) (ended : Status) (new : Outside)
-    (a : Answers plan old ended new) → ended ≡ status.WriteFault → Cut plan (read_in a) old new
+    (a : Answers stk plan old ended new) → ended ≡ status.WriteFault → Cut plan (read_in a) old new
 cut_of plan old ended new (nothing n) e = absurd (let q : status.NoMemory
     ≡ status.WriteFault = sym n.status_is ∙ e in cc)
 cut_of plan old ended new (answer due a seen c x (whole g)) e = record {
@@ -375,7 +376,7 @@ given_reach all bounds influences l read old seen ended new a (made i c t x) g r
     }
 
 pub reaches : StartLaws → ReportsBoundRuns → ReportsBoundInfluence → (asked : Option Command) (old : Outside)
-    (ended : Status) (new : Outside) (a : Answers (plan_in asked) old ended new) (l : Linked)
+    (ended : Status) (new : Outside) (a : Answers stk (plan_in asked) old ended new) (l : Linked)
     → asked ≡ Some (Links l link_deed.Reach) → IsRunStatus ended → ReachGiven l (read_in a) old ended new
 reaches all bounds influences asked old ended new a l e r =
     let w = whole_run (plan_in asked) old ended new a r in
@@ -427,7 +428,7 @@ cut_trace all l steps plan read old new k (made i c t x) =
     )
 
 pub run_cut : StartLaws → (asked : Option Command) (old : Outside) (ended : Status) (new : Outside)
-    (a : Answers (plan_in asked) old ended new) (l : Linked) (steps : ℕ)
+    (a : Answers stk (plan_in asked) old ended new) (l : Linked) (steps : ℕ)
     → asked ≡ Some (Links l (link_deed.Run steps)) → ended ≡ status.WriteFault
     → RunCut l steps (read_in a) old new
 run_cut all asked old ended new a l steps e r =
@@ -436,7 +437,7 @@ run_cut all asked old ended new a l steps e r =
     (asked_due asked l (link_deed.Run steps) e (read_in a) old.files k.seen k.due k.gives k.came k.makes k.is)
 
 pub trace_cut : StartLaws → (asked : Option Command) (old : Outside) (ended : Status) (new : Outside)
-    (a : Answers (plan_in asked) old ended new) (l : Linked) (steps : ℕ)
+    (a : Answers stk (plan_in asked) old ended new) (l : Linked) (steps : ℕ)
     → asked ≡ Some (Links l (link_deed.Trace steps)) → ended ≡ status.WriteFault
     → TraceCut l steps (read_in a) old new
 trace_cut all asked old ended new a l steps e r =

@@ -44,7 +44,7 @@ first_cut (c ∷ cs) b = by_byte (first_cut cs c) (is_newline b) refl
         let more : first_len (b ∷ c ∷ cs) ≡ suc (first_len (c ∷ cs)) = rw e (omega arith) in
         rw more (goes_on b (c ∷ cs) (first_len (c ∷ cs)) e h)
 
--- the first line of a text that isn't empty, and what stands behind it
+-- the first line of a text that isn't empty, and what stands after it
 pub cut_front : (k : ℕ) (text line more : List ℕ) → 0 < length text → k ≡ first_len text
     → line ≡ take k text → more ≡ drop k text → cut_lines text ≡ line ∷ cut_lines more
 cut_front k [] line more some is front back = absurd (omega (arith, some))

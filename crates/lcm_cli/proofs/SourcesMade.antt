@@ -8,14 +8,10 @@ use Rattle.command_words.specs.declared.command.Command.TheVariants.{Links}
 use Rattle.command_words.specs.declared.command.Linked.{Linked}
 use Rattle.command_words.specs.declared.command.Linked.TheVariants as what
 use Rattle.command_words.specs.declared.command.LinkDeed.TheVariants as link_deed
-use Rattle.linked_starts.specs.Parts.{PartSeen}
-use Rattle.linked_starts.specs.Started.{StartSeen}
-use Rattle.linked_starts.specs.LinkedStarts.{IsStartOf}
 use Rattle.audited_runs.specs.Audited.{RunsPass}
 use Rattle.command_words.specs.Fits.{Fits}
 use Rattle.run_lines.specs.Runs.{written}
-use Rattle.proc_language.specs.declared.module.ModuleFields.{ModuleFields}
-use Rattle.source_starts.specs.Sources.{AreSources}
+use Rattle.source_starts.specs.Sources.{LinkedStart, LinkedSources}
 use Rattle.source_starts.specs.RunMeans.{RunsMean, StacksBegin}
 use Rattle.source_starts.specs.Shown.{SourcesShowNothingElse}
 use Rattle.linked_starts.specs.Standing.{placed}
@@ -25,9 +21,10 @@ use Rattle.run_items.specs.Items.{TextsTellItems}
 use Rattle.run_lines.specs.Layout.{layout}
 use Rattle.refusal_lines.specs.declared.status.Status.{Status}
 use Rattle.lcm_cli.specs.Commands.{plan_in}
-use Rattle.lcm_cli.specs.Answers.{Outside, Answers, read_in}
+use Rattle.call_answers.specs.Answers.{Answers}
+use Rattle.lcm_cli.specs.Answers.{Outside, read_in, stk}
 use Rattle.lcm_cli.specs.Causes.{Started, RunGiven}
-use Rattle.lcm_cli.specs.SourceRuns.{StartFact}
+use Rattle.lcm_cli.specs.SourceRuns.{StartFact, linking_in}
 use Rattle.lcm_cli.specs.SourceRuns.{AllSources, IsFeed, ModulesMean, SourcesAre, CutOf, RunTold, ModulesTold}
 use Rattle.lcm_cli.specs.SourceRuns.{SourcesTold}
 use Rattle.lcm_cli.proofs.RunsMade.{StartLaws, runs, run_cut}
@@ -35,15 +32,14 @@ use Rattle.lcm_cli.proofs.SourceWords.{SourceLaws, gathered}
 use Rattle.lcm_cli.proofs.SourceFeeds.{among, each_resolved}
 
 -- the text of a run is a feed of its modules
-feed_of : StacksBegin → TextsTellItems → LinkedModulesKeepRules → (modules : List ModuleFields)
-    (parts : List PartSeen) (size : ℕ) (s : StartSeen) (steps : ℕ) → IsStartOf parts size s
-    → AreSources modules parts → IsFeed modules size s steps
-feed_of begin tells keep modules parts size s steps is are = record {
-  rules = keep parts size modules is.rules (among parts modules are.compiled)
-      (each_resolved modules are.resolved);
-  read = tells (placed parts size) size s is (layout s).stack.base steps;
-  base = λ m others e. subst (λ ms. stack_base_of ms ≡ (layout s).stack.base) (sym e)
-      (begin m others parts size s is (subst (λ ms. AreSources ms parts) e are));
+feed_of : StacksBegin → TextsTellItems → LinkedModulesKeepRules → (a : LinkedSources) (steps : ℕ)
+    → IsFeed a.modules a.size a.start steps
+feed_of begin tells keep a steps = record {
+  rules = keep a.parts a.size a.modules a.is_start.rules (among a.parts a.modules a.are_sources.compiled)
+      (each_resolved a.modules a.are_sources.resolved);
+  read = tells (placed a.parts a.size) a.size a.start a.is_start (layout a.start).stack.base steps;
+  base = λ m others e.
+      subst (λ ms. stack_base_of ms ≡ (layout a.start).stack.base) (sym e) (begin a m others e);
 }
 
 -- what holds of all runs and sources
@@ -60,12 +56,14 @@ pub record RunLaws : Type 0 where
 -- what the modules of a start mean, whatever its parts came in
 modules_mean : RunLaws → (l : Linked) (steps : ℕ) (read : List (List ℕ)) (old new : FilesSeen)
     (from : Started l read old new) → ModulesMean l steps read old new from
-modules_mean laws l steps read old new from modules are = record {
-  means = laws.mean modules from.parts from.size from.start from.linked_start are steps;
-  shows = laws.show modules from.parts from.size from.start from.linked_start are;
-  feed = feed_of laws.begin laws.tells laws.keep modules from.parts from.size from.start steps
-      from.linked_start are;
-}
+modules_mean laws l steps read old new from modules are =
+    let linked : LinkedStart = record { link = linking_in from; is_start = from.linked_start } in
+    let a : LinkedSources = record { modules = modules; linked = linked; are_sources = are } in
+    record {
+      means = laws.mean a steps;
+      shows = laws.show a;
+      feed = feed_of laws.begin laws.tells laws.keep a steps;
+    }
 
 -- of words that are sources these are the modules of their texts
 sources_are : RunLaws → (words : List PartWord) (stack steps : ℕ) → AllSources words
@@ -83,7 +81,7 @@ sources_are laws words stack steps sources read old new from =
 -- what holds of every start is so of the one of a run, also where its text couldn't be written whole
 run_told : RunLaws → (asked : Option Command) → ((c : Command) → asked ≡ Some c → Fits c)
     → (old : Outside) (ended : Status) (new : Outside)
-    (a : Answers (plan_in asked) old ended new) (l : Linked) (steps : ℕ)
+    (a : Answers stk (plan_in asked) old ended new) (l : Linked) (steps : ℕ)
     (P : StartFact l) → asked ≡ Some (Links l (link_deed.Run steps))
     → ((read : List (List ℕ)) (old new : FilesSeen) (from : Started l read old new) → P read old new from)
     → RunTold l P steps (read_in a) old ended new
@@ -107,14 +105,14 @@ run_told laws asked fits old ended new a l steps P e so = (
 
 pub modules_told : RunLaws → (asked : Option Command) → ((c : Command) → asked ≡ Some c → Fits c)
     → (old : Outside) (ended : Status) (new : Outside)
-    (a : Answers (plan_in asked) old ended new) (l : Linked) (steps : ℕ)
+    (a : Answers stk (plan_in asked) old ended new) (l : Linked) (steps : ℕ)
     → asked ≡ Some (Links l (link_deed.Run steps)) → ModulesTold l steps (read_in a) old ended new
 modules_told laws asked fits old ended new a l steps e =
     run_told laws asked fits old ended new a l steps (ModulesMean l steps) e (modules_mean laws l steps)
 
 pub sources_told : RunLaws → (asked : Option Command) → ((c : Command) → asked ≡ Some c → Fits c)
     → (old : Outside) (ended : Status) (new : Outside)
-    (a : Answers (plan_in asked) old ended new) (words : List PartWord) (stack steps : ℕ)
+    (a : Answers stk (plan_in asked) old ended new) (words : List PartWord) (stack steps : ℕ)
     → asked ≡ Some (Links (what.Parts words stack) (link_deed.Run steps)) → AllSources words
     → SourcesTold words stack steps (read_in a) old ended new
 sources_told laws asked fits old ended new a words stack steps e sources =

@@ -19,7 +19,7 @@ bytes_of (Reads name index next) old due new (unread t e) = []
 abbrev pub ComesOf : {A : Type 0} → Plan A → List (List ℕ) → FilesSeen → Result A Refusal → FilesSeen → Type 0
 ComesOf plan read old due new = (c : Comes plan old due new) × (bytes_of plan old due new c ≡ read)
 
--- what a plan makes of these bytes, file by file, or why it ends; behind them it ends by a file that doesn't
+-- what a plan makes of these bytes, file by file, or why it ends; after them it ends by a file that doesn't
 -- come
 abbrev pub Makes : {A : Type 0} → Plan A → List (List ℕ) → Result A Refusal → Type 0
 Makes (Made x) [] due = due ≡ Ok x

@@ -95,7 +95,8 @@ use Rattle.lcm_cli.specs.Totals.{totals_text}
 use Rattle.lcm_cli.specs.Debugs.{script_line}
 use Rattle.link_tool.specs.Linked.{linked_in}
 use Rattle.lcm_cli.specs.Bytes.{ComesOf, Makes}
-use Rattle.lcm_cli.specs.Answers.{Outside, Answers, read_in, IsComplete, end_status, meaning_status}
+use Rattle.call_answers.specs.Answers.{Answers, IsComplete, Stay}
+use Rattle.lcm_cli.specs.Answers.{Outside, read_in, end_status, meaning_status, stk}
 
 -- ---- files
 
@@ -390,9 +391,6 @@ pub record Causes (asked : Option Command) (read : List (List ℕ)) (old : Outsi
 
 -- ---- files that stay
 
-abbrev pub Stay : FilesSeen → FilesSeen → Type 0
-Stay old new = new.contents ≡ old.contents
-
 -- all but the file of `--out`, where there is one
 abbrev pub OthersStay : Option Command → FilesSeen → FilesSeen → Type 0
 OthersStay asked old new = Stay old new ⊎ ((out : List ℕ) × (out_name asked ≡ Some out)
@@ -598,6 +596,6 @@ TraceCut l steps = IsCut l (link_deed.Trace steps) (λ start text.
 -- what the top call promises: the answer that was due, the cause of its status, and that no other answer is
 -- given where nothing outside fails
 pub record Promised (asked : Option Command) (old : Outside) (status : Status) (new : Outside) : Type 0 where
-  pub answers : Answers (plan_in asked) old status new
+  pub answers : Answers stk (plan_in asked) old status new
   pub causes : Causes asked (read_in answers) old status new
-  pub complete : IsComplete (plan_in asked) old status new
+  pub complete : IsComplete stk (plan_in asked) old status new

@@ -18,7 +18,8 @@ use Rattle.alike_modules.specs.Alike.{IsParsedBack}
 use Rattle.file_plans.specs.declared.TheConstants.{LONGEST_FILE}
 use Rattle.refusal_lines.specs.declared.status.Status.TheVariants.{Done}
 use Rattle.lcm_cli.specs.Commands.{plan_of}
-use Rattle.lcm_cli.specs.Answers.{Answer, IsWritten, puts, writes}
+use Rattle.call_answers.specs.Answers.{IsWritten}
+use Rattle.lcm_cli.specs.Answers.{Answer, puts, writes, stk}
 
 -- the bytes of files, by their names
 abbrev pub Held : Type 0
@@ -28,7 +29,7 @@ Held = List ℕ → Option (List ℕ)
 
 -- a command, asked to put its file under some name, answers `ok` and puts these bytes
 abbrev pub PutsBytes : Held → (List ℕ → Command) → List ℕ → Type 0
-PutsBytes held asks bytes = (out : List ℕ) × IsWritten held (plan_of (asks out)) (puts out bytes)
+PutsBytes held asks bytes = (out : List ℕ) × IsWritten stk held (plan_of (asks out)) (puts out bytes)
 
 -- by `compile` or `asm`, whichever the word's ending asks for
 abbrev pub PutsComponent : Held → PartWord → List ℕ → Type 0
@@ -40,7 +41,7 @@ PutsImage held ws size = PutsBytes held (λ out. Links (what.Parts ws size) (lin
 
 -- `dis` writes this text
 abbrev pub ShowsText : Held → PartWord → List ℕ → Type 0
-ShowsText held w text = IsWritten held (plan_of (Takes w component_deed.Show)) (writes Done text)
+ShowsText held w text = IsWritten stk held (plan_of (Takes w component_deed.Show)) (writes Done text)
 
 -- ---- words beside words
 
@@ -122,7 +123,7 @@ pub data AskTheSame : Asking → Asking → Type 0 where
   onward : {x y z : Asking} → AskTheSame x y → AskTheSame y z → AskTheSame x z
 
 abbrev pub IsGiven : Asking → Answer → Type 0
-IsGiven x a = IsWritten x.held (plan_of x.command) a
+IsGiven x a = IsWritten stk x.held (plan_of x.command) a
 
 -- and then their answers are the same
 abbrev pub RoadsAreOne : Type 0

@@ -11,7 +11,8 @@ use Rattle.file_plans.specs.Plans.{Plan}
 use Rattle.refusal_lines.specs.declared.status.Status.TheVariants.{WriteFault}
 use Rattle.lcm_cli.specs.Commands.{Task, plan_in}
 use Rattle.lcm_cli.specs.Bytes.{ComesOf, Makes}
-use Rattle.lcm_cli.specs.Answers.{Answer, IsAnswerOf, Answers, outside, read_in}
+use Rattle.call_answers.specs.Answers.{Answers, outside}
+use Rattle.lcm_cli.specs.Answers.{Answer, IsAnswerOf, read_in, stk}
 
 -- the answer to what came of the plan, which left the files so, is of these bytes, and its text has so many
 -- bytes or more
@@ -31,6 +32,6 @@ SafeSinksHoldRuns =
     (room : ℕ) (first last : SafeBytes room) → first.taken.bytes ≡ [] → (l : Linked) (steps : ℕ)
     (files seen : FilesSeen) (kept left : Option Machine)
     → (let plan = plan_in (Some (Links l (link_deed.Run steps))) in
-    (a : Answers plan (outside files (seen_of_safe_sink first) kept) WriteFault
+    (a : Answers stk plan (outside files (seen_of_safe_sink first) kept) WriteFault
     (outside seen (seen_of_safe_sink last) left))
     → FillsRoom plan (read_in a) files seen room)

@@ -22,6 +22,7 @@ use Rattle.run_feed.specs.Feed.{fed}
 use Rattle.source_events.specs.declared.End.{End}
 use Rattle.source_events.specs.declared.Told.{Told}
 use Rattle.source_events.specs.Outs.{out_lines}
+use Rattle.source_starts.specs.Links.{Linking}
 use Rattle.source_starts.specs.Sources.{AreSources}
 use Rattle.source_laws.specs.Sources.{MeaningEnds, MeaningBegins}
 use Rattle.source_starts.specs.RunMeans.{went_out, came_in, RunMeans}
@@ -48,7 +49,7 @@ abbrev pub AllSources : List PartWord → Type 0
 AllSources words = Each (λ (w : PartWord). is_trusted_mark w.mark ≡ true → is_source w.ending ≡ true) words
 
 -- of a trusted word, the text spells the first of the modules, in this language; the others are left to the
--- words behind it
+-- words after it
 abbrev pub SpelledBy : Bool → Dialect → List ℕ → List ModuleFields → (List ModuleFields → Type 0) → Type 0
 SpelledBy true d text [] rest = ⊥
 SpelledBy true d text (m ∷ modules) rest = (module_in d text ≡ Ok m) × rest modules
@@ -73,13 +74,18 @@ pub record IsFeed (modules : List ModuleFields) (stack : ℕ) (start : StartSeen
   pub base : (m : ModuleFields) (others : List ModuleFields) → modules ≡ m ∷ others
       → stack_base_of modules ≡ (layout start).stack.base
 
+-- what was linked for a run
+abbrev pub linking_in : {l : Linked} {read : List (List ℕ)} {old new : FilesSeen} → Started l read old new
+    → Linking
+linking_in from = record { parts = from.parts; size = from.size; start = from.start }
+
 -- what is so of a run whose trusted parts are the components of these modules, in their order, whatever form
 -- its words have, or in an image: what its lines tell is what the modules mean, by the feed that its text is;
 -- and wherever their code lets go of control, code outside is shown nothing else
 pub record SourcesMean (modules : List ModuleFields) (l : Linked) (steps : ℕ) (read : List (List ℕ))
     (old new : FilesSeen) (from : Started l read old new) : Type 0 where
   pub means : RunMeans (map part_of modules) from.size from.start steps
-  pub shows : ShowsNothingElse modules from.parts from.size from.start
+  pub shows : ShowsNothingElse modules (linking_in from)
   pub feed : IsFeed modules from.size from.start steps
 
 -- what is said of the start of a run

@@ -8,7 +8,8 @@ ghost use Rattle.linked_starts.specs.Standing.{placed};
 ghost use Rattle.image_loader.specs.Image.{ImageSeen, IsImage, image_bytes};
 ghost use Rattle.link_tool.specs.Parts.{linked, loaded};
 ghost use Rattle.lcm_cli.specs.Commands.{plan_in};
-ghost use Rattle.lcm_cli.specs.Answers.{Answer, IsWritten};
+ghost use Rattle.call_answers.specs.Answers.{IsWritten};
+ghost use Rattle.lcm_cli.specs.Answers.{Answer, stk};
 ghost use Rattle.lcm_cli.specs.SourceRuns.{MeanTellsRuns};
 ghost use Rattle.lcm_cli.specs.SafeRuns.{SafeSinksHoldRuns};
 ghost use Rattle.lcm_cli.specs.Roads.{RoadsAreOne};
@@ -37,7 +38,7 @@ pub fn linked_images_are_loaded()
 /// The words and the bytes of the files determine the answer.
 pub fn one_answer()
     ensures { (asked : Option Command) (held : List ℕ → Option (List ℕ)) (a b : Answer)
-        → IsWritten held (plan_in asked) a → IsWritten held (plan_in asked) b → a ≡ b }
+        → IsWritten stk held (plan_in asked) a → IsWritten stk held (plan_in asked) b → a ≡ b }
 {
     reports_are_one();
 }

@@ -13,9 +13,9 @@ ghost use Rattle.lcm_cli.specs.Commands.{plan_in, Totals};
 ghost use Rattle.run_lines.specs.Runs.{end_of};
 ghost use Rattle.lcm_cli.specs.ReadyTasks.{FollowsTask};
 ghost use Rattle.overlay_machine.specs.Seen.{IsOverlayOf};
-ghost use Rattle.lcm_cli.specs.Answers.{ran, Answers, OfBytes, Gives, WritesOrFails, outside, end_status};
-ghost use Rattle.lcm_cli.specs.Answers.{meaning_status, refused};
-ghost use Rattle.lcm_cli.specs.Answers.{GivesOrNothing, ready_answer, IsReady};
+ghost use Rattle.call_answers.specs.Answers.{Answers, Gives, WritesOrFails, outside, GivesOrNothing};
+ghost use Rattle.lcm_cli.specs.Answers.{ran, OfBytes, end_status, meaning_status, refused, ready_answer};
+ghost use Rattle.lcm_cli.specs.Answers.{IsReady, stk};
 ghost use Rattle.lcm_cli.specs.Causes.{Promised, IsRunStatus, RunGiven, TraceGiven, RunCut, TraceCut};
 ghost use Rattle.lcm_cli.specs.Causes.{StayAt, PutsWhole, MeaningGiven, LoadGiven, ReachGiven, DebugGiven};
 ghost use Rattle.lcm_cli.specs.Causes.{AuditTold};
@@ -54,7 +54,7 @@ use trace_tool::{RunEnd, run_counted, run_overlay, run_plain};
 // Writes a text, and answers the status, or WriteFault where the sink fails.
 fn tell<S: Sink>(out: &mut S, text: &str, status: Status) -> Status
     requires { 0 < length text.now }
-    ensures { WritesOrFails (S.seen out.old) text.now status result (S.seen out.new) }
+    ensures { WritesOrFails stk (S.seen out.old) text.now status result (S.seen out.new) }
 {
     match out.write(text.as_bytes()) {
         Ok(()) => status,
@@ -77,7 +77,7 @@ fn end_status(end: RunEnd) -> Status
 fn give_run<S: Sink>(start: Start, steps: Steps, out: &mut S, kept: &mut Option<LcmState>) -> Status
     requires fresh { start.state.count ≡ 0 }
     requires goes { start.state.end ≡ None }
-    ensures { (files : _) → Gives (outside files (S.seen out.old) kept.old)
+    ensures { (files : _) → Gives stk (outside files (S.seen out.old) kept.old)
         (ready_answer (ready.Run start steps)) result (outside files (S.seen out.new) kept.new) }
 {
     let mut start = start;
@@ -112,7 +112,7 @@ fn give_load<S: Sink>(
     requires fresh { start.state.count ≡ 0 }
     requires goes { start.state.end ≡ None }
     requires count { steps ≤ 2 ^ 63 }
-    ensures { (files : _) → Gives (outside files (S.seen out.old) kept.old)
+    ensures { (files : _) → Gives stk (outside files (S.seen out.old) kept.old)
         (ran start steps (Totals load)) result (outside files (S.seen out.new) kept.new) }
 {
     let mut start = start;
@@ -130,7 +130,7 @@ fn give_load<S: Sink>(
 // Runs the overlay of a start, and writes the text of the run.
 fn give_trace<S: Sink>(start: &Start, overlay: Overlay, steps: Steps, out: &mut S) -> Status
     requires { IsOverlayOf start.now overlay }
-    ensures { (files : _) (kept : _) → Gives (outside files (S.seen out.old) kept)
+    ensures { (files : _) (kept : _) → Gives stk (outside files (S.seen out.old) kept)
         (ready_answer (ready.Trace start.now overlay steps)) result (outside files (S.seen out.new) kept) }
 {
     let mut overlay = overlay;
@@ -144,7 +144,7 @@ fn give_file<F: Files, S: Sink>(
     files: &mut F,
     out: &mut S,
 ) -> Status
-    ensures { (kept : _) → Gives (outside (F.seen files.old) (S.seen out.old) kept)
+    ensures { (kept : _) → Gives stk (outside (F.seen files.old) (S.seen out.old) kept)
         (ready_answer (ready.Put name.now bytes.now)) result
         (outside (F.seen files.new) (S.seen out.new) kept) }
 {
@@ -156,7 +156,7 @@ fn give_file<F: Files, S: Sink>(
 
 // Writes a text line by line, and answers the status, or WriteFault where the sink fails.
 fn give_text<S: Sink>(text: &Items<u8>, status: Status, out: &mut S) -> Status
-    ensures { WritesOrFails (S.seen out.old) text.now status result (S.seen out.new) }
+    ensures { WritesOrFails stk (S.seen out.old) text.now status result (S.seen out.new) }
 {
     match write_lines(out, text.as_slice()) {
         Ok(()) => status,
@@ -176,7 +176,7 @@ fn meaning_status(end: End) -> Status
 
 // Writes the text of a meaning.
 fn give_meaning<S: Sink>(meant: &Meaning, out: &mut S) -> Status
-    ensures { WritesOrFails (S.seen out.old) meant.now.text (meaning_status meant.now.end) result
+    ensures { WritesOrFails stk (S.seen out.old) meant.now.text (meaning_status meant.now.end) result
         (S.seen out.new) }
 {
     give_text(&meant.text, meaning_status(meant.end), out)
@@ -186,7 +186,7 @@ fn give_meaning<S: Sink>(meant: &Meaning, out: &mut S) -> Status
 fn give_debug<S: Sink>(alloc: Global, start: Start, script: &Script, out: &mut S) -> Status
     requires fresh { start.state.count ≡ 0 }
     requires goes { start.state.end ≡ None }
-    ensures { (files : _) (kept : _) → GivesOrNothing (outside files (S.seen out.old) kept)
+    ensures { (files : _) (kept : _) → GivesOrNothing stk (outside files (S.seen out.old) kept)
         (ready_answer (ready.Debug start script.now)) result (outside files (S.seen out.new) kept) }
 {
     match debug(alloc, start, script, out) {
@@ -205,8 +205,8 @@ fn give<F: Files, S: Sink>(
     kept: &mut Option<LcmState>,
 ) -> Status
     requires { IsReady ready }
-    ensures { GivesOrNothing (outside (F.seen files.old) (S.seen out.old) kept.old) (ready_answer ready.entry)
-        result (outside (F.seen files.new) (S.seen out.new) kept.new) }
+    ensures { GivesOrNothing stk (outside (F.seen files.old) (S.seen out.old) kept.old)
+        (ready_answer ready.entry) result (outside (F.seen files.new) (S.seen out.new) kept.new) }
 {
     match ready {
         ReadyTask::Run(start, steps) => give_run(start, steps, out, kept),
@@ -222,7 +222,7 @@ fn give<F: Files, S: Sink>(
 
 // Tells of a refusal.
 fn refuse<S: Sink>(why: Refusal, out: &mut S) -> Status
-    ensures { (files : _) (kept : _) → Gives (outside files (S.seen out.old) kept) (refused why)
+    ensures { (files : _) (kept : _) → Gives stk (outside files (S.seen out.old) kept) (refused why)
         result (outside files (S.seen out.new) kept) }
 {
     tell(out, refusal_line(why).as_str(), refusal_status(why))
@@ -251,7 +251,7 @@ fn answer<F: Files, S: Sink>(
     out: &mut S,
     kept: &mut Option<LcmState>,
 ) -> Status
-    ensures { Answers (plan_in (asked_in (texts words.now)))
+    ensures { Answers stk (plan_in (asked_in (texts words.now)))
         (outside (F.seen files.old) (S.seen out.old) kept.old)
         result (outside (F.seen files.new) (S.seen out.new) kept.new) }
 {

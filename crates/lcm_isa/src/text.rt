@@ -8,7 +8,7 @@ use arrayvec::ArrayString;
 use itoa::Buffer;
 
 impl Instr {
-    /// Its operands, in the order in which a program writes them, and None behind the last.
+    /// Its operands, in the order in which a program writes them, and None after the last.
     pub fn operands(&self) -> [Option<Operand>; 4]
         ensures { result ≡ map (slice_get (operands_of self.now)) (0 ∷ 1 ∷ 2 ∷ 3 ∷ []) }
     {

@@ -47,7 +47,7 @@ pub use Rattle.lcm_machine.proofs.CountLemmas.{once_counts}
 pub use Rattle.lcm_machine.proofs.RunLemmas.{count_next, is_none, plain_count, plain_ended, plain_ends}
 pub use Rattle.lcm_machine.proofs.RunLemmas.{plain_more, within_parts}
 -- what holds before a step that a run in a stretch makes
--- what an instruction does where its conditions hold, for words of any kind; runs one behind the other
+-- what an instruction does where its conditions hold, for words of any kind; runs one after the other
 pub use Rattle.lcm_machine.proofs.Goes.{Stands-set, Stands-set_below, cca_goes, cca_seal_goes, cseal_goes}
 pub use Rattle.lcm_machine.proofs.Goes.{fail_fails, fetch_at, geta_goes, getb_goes, gete_goes, getlin_goes}
 pub use Rattle.lcm_machine.proofs.Goes.{getp_goes, gettype_goes, go, halt_halts, jmp_goes, jnz_goes}

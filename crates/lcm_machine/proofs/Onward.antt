@@ -152,7 +152,7 @@ module _ {W : Type 0} (look : W → Word) (plain : Word → W) where
   make_pc s None h = refl
   make_pc s (Some m) h = put_away s (R m.reg) (plain m.word) h
 
-  -- behind what an effect takes and makes pc has the word that it had
+  -- after what an effect takes and makes pc has the word that it had
   pub still_fits : (s : State W) (e : Effect) (o : Option Word) → NextFits look s o → SetsElsewhere o e
       → NextFits look (make plain (make plain (spend look plain (spend look plain
       (move_on look plain s e.moved) e.spent) e.also_spent) e.first) e.second) o

@@ -94,7 +94,7 @@ pub is_none : {A : Type 0} (o : Option A) → is_some o ≡ false → o ≡ None
 is_none None h = refl
 is_none (Some x) h = absurd (cc)
 
--- ---- steps in a loop, which counts them behind it
+-- ---- steps in a loop, which counts them after it
 
 -- n steps of a run were made, each one of these, and are still to be counted
 pub record Making (which : Which) (s : Run) (n : ℕ) (t : Run) : Type 0 where

@@ -127,7 +127,7 @@ impl LcmState {
     // made.
     //
     // Every step of this machine is made here: what instructions do is compiled once, into this loop. The
-    // count and the end are set behind it.
+    // count and the end are set after it.
     #[inline(never)]
     fn go(&mut self, n: u64, which: Which) -> u64
         requires room { self.old.count + n ≤ 2 ^ 63 }
@@ -154,7 +154,7 @@ impl LcmState {
         n
     }
 
-    // The machine has ended so, by one step behind so many that went. How many that makes.
+    // The machine has ended so, by one step after so many that went. How many that makes.
     fn finish(&mut self, made: u64, end: End) -> u64
         requires { self.old.count + made < 2 ^ 63 }
         ensures all { result ≡ made + 1 }
@@ -218,7 +218,7 @@ impl LcmState {
     }
 
     /// Puts back what was noted: registers, cell, count and end. The cell has to be there, and the
-    /// count may not be below the noted one. Behind the step that was noted, this is the state before
+    /// count may not be below the noted one. After the step that was noted, this is the state before
     /// it. Any other note may bring a linear word back that is elsewhere by then: so that no linear
     /// memory is held twice isn't said of this call.
     #[tactic(auto, unfolding(crate::specs::Back::back, crate::specs::Back::CanUndo))]
@@ -259,7 +259,7 @@ impl LcmState {
 
     /// Up to so many steps, each made where pc's address is `from` or above it and below `to`, and the
     /// instruction there is no `xjmp`: it stops before the first step of which that doesn't hold, and
-    /// behind one that ends the machine. How many were made, and the answer of the last one; where none
+    /// after one that ends the machine. How many were made, and the answer of the last one; where none
     /// was made that is `Went`, or how the machine had ended.
     ///
     /// The count may not pass 2^63. The spans stay, and so does which addresses have cells. No linear

@@ -16,7 +16,7 @@ cut_none : {A : Type 0} (b : Bool) (x : A) → cond b (Some x) None ≡ None →
 cut_none true x h = absurd cc
 cut_none false x h = refl
 
--- one part, and those behind the mark
+-- one part, and those after the mark
 pub parts_at : (mark : ℕ) (text front back : List ℕ) → Some (front, back) ≡ cut mark text
     → parts mark text ≡ front ∷ parts mark back
 unfolding cut parts
@@ -70,7 +70,7 @@ some_left : (ts : List (List ℕ)) → 0 < length ts → is_none_left ts ≡ fal
 some_left [] h = absurd (omega arith)
 some_left (t ∷ ts) h = refl
 
--- ---- what is left, seen behind its reference
+-- ---- what is left, seen after its reference
 
 abbrev pub seen : ℕ → Option (Bor (List ℕ)) → List (List ℕ)
 seen mark o = parts_left mark (option_map (λ (r : Bor (List ℕ)). r.now) o)
@@ -99,7 +99,7 @@ none_left mark (Some text) r h =
 
 -- ---- lines
 
--- the next line, and those behind it
+-- the next line, and those after it
 pub next_line : (left : List (List ℕ)) (line : List ℕ) (rest : List (List ℕ)) → field left ≡ Some (line, rest)
     → left ≡ line ∷ rest
 next_line [] line rest h = absurd (let k : None ≡ Some (line, rest) = h in cc)

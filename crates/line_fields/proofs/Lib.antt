@@ -1,6 +1,7 @@
 mod Digits
 pub mod Cuts
 pub mod Numbers
+pub mod Taken
 pub mod Fronts
 pub mod WordTexts
 pub mod JumpTexts

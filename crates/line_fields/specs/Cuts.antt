@@ -7,7 +7,7 @@ use Rattle.std.specs.Str.{bytes_eq}
 abbrev pub is_mark : ℕ → ℕ → Bool
 is_mark mark b = b == mark
 
--- what stands before the first mark, and what behind it, where there is one
+-- what stands before the first mark, and what after it, where there is one
 unfoldable pub cut : ℕ → List ℕ → Option (List ℕ × List ℕ)
 cut mark text =
     if nat_lt (position_or_len (is_mark mark) text) (length text)
@@ -22,7 +22,7 @@ abbrev pub parts_left : ℕ → Option (List ℕ) → List (List ℕ)
 parts_left mark None = []
 parts_left mark (Some text) = parts mark text
 
--- what stands behind a front, where the text begins with it
+-- what stands after a front, where the text begins with it
 unfoldable pub behind : List ℕ → List ℕ → Option (List ℕ)
 behind front text =
     if bytes_eq (take (length front) text) front then Some (drop (length front) text) else None

@@ -1,4 +1,4 @@
--- Reading the fields of a line, one behind another.
+-- Reading the fields of a line, one after another.
 use Rattle.std.specs.Prelude.{◌≡◌, ℕ, Bool, true, false, List, [], ◌∷◌, Option, Some, None}
 use Rattle.line_fields.specs.Options.{where_true}
 use Rattle.line_fields.specs.Cuts.{parts}

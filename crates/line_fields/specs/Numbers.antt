@@ -24,7 +24,7 @@ number_in most text =
 abbrev pub natural_in : List ℕ → Option ℕ
 natural_in text = number_in LAST_NATURAL text
 
--- a number behind a minus, which isn't 0
+-- a number after a minus, which isn't 0
 abbrev pub negative : ℕ → Option ℤ
 negative zero = None
 negative (suc n) = Some (negsuc n)

@@ -43,7 +43,7 @@ impl<'a> Parts<'a> {
         }
     }
 
-    /// The lines of a text, which newlines part. A text that ends in a newline has an empty line behind it.
+    /// The lines of a text, which newlines part. A text that ends in a newline has an empty line after it.
     pub fn of_text(text: &'a [u8]) -> Parts<'a>
         ensures { result ≡ lines text.now }
     {

@@ -10,7 +10,7 @@ fn len_before(text: &[u8], mark: u8) -> usize
     text.iter().take_while(|byte| **byte != mark).count()
 }
 
-/// What stands before the first mark and what behind it, and `None` exactly where there is no mark.
+/// What stands before the first mark and what after it, and `None` exactly where there is no mark.
 #[tactic(auto, unfolding(crate::specs::Cuts::cut))]
 pub fn cut(text: &[u8], mark: u8) -> Option<(&[u8], &[u8])>
     ensures exact { option_map (λ p. (p.0.now, p.1.now)) result ≡ cut mark text.now }
@@ -24,7 +24,7 @@ pub fn cut(text: &[u8], mark: u8) -> Option<(&[u8], &[u8])>
     }
 }
 
-/// What stands behind this front, and `None` exactly where the text doesn't begin with it.
+/// What stands after this front, and `None` exactly where the text doesn't begin with it.
 #[tactic(auto, unfolding(crate::specs::Cuts::behind))]
 pub fn behind<'a>(front: &[u8], text: &'a [u8]) -> Option<&'a [u8]>
     ensures exact { option_map (λ t. t.now) result ≡ behind front.now text.now }

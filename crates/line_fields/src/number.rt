@@ -81,7 +81,7 @@ pub fn natural_in(text: &[u8]) -> Option<u32>
     Some(number as u32)
 }
 
-// The integer behind a minus.
+// The integer after a minus.
 fn negative(number: u64) -> Option<i64>
     requires { number ≤ LAST_INTEGER + 1 }
     ensures { result ≡ negative number }

@@ -43,7 +43,7 @@ use Rattle.linked_starts.proofs.FirstIn.{first_broken_in}
 abbrev pub as_word : Instr → Word
 as_word i = Int (pos (number_of i))
 
--- the entry at 0, behind it the slot's halves are loaded, then the site, `halt`, `fail`, and the seals
+-- the entry at 0, after it the slot's halves are loaded, then the site, `halt`, `fail`, and the seals
 abbrev pub site_at : ℕ
 site_at = ENTRY_WORDS + 3
 
@@ -140,7 +140,7 @@ unfolding next_from at_word at_row past keep begins_entry begins_site declared s
     set_kind instr_at decode_of candidate table all_with number_of entry_code call_code return_code
 walked = (9, refl)
 
--- words of instructions fit, and some behind them
+-- words of instructions fit, and some after them
 abbrev is_small : Instr → Bool
 is_small i = nat_lt (number_of i) (2 ^ 63)
 

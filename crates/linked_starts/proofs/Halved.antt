@@ -41,7 +41,7 @@ module _ {X K : Type 0} (f : X → K) (R : K → K → Ordering) (total : IsTota
   abbrev Rise : List X → Type 0
   Rise xs = AllPairs (λ a b. IsTrue (is_lt (R (f a) (f b)))) xs
 
-  -- what is before an item isn't behind the key unless the item is
+  -- what is before an item isn't after the key unless the item is
   earlier : (a b : X) → is_lt (R (f a) (f b)) ≡ true → (R (f b) key ≡ Greater) ⊎ (R (f a) key ≡ Less)
   earlier a b lt = by_answer (R (f b) key) refl
     where

@@ -1,5 +1,5 @@
 -- The memory of a start, and the sites and owners of one of two parts: a trusted one with one site, and an
--- untrusted one whose code stands behind it.
+-- untrusted one whose code stands after it.
 use Rattle.std.proofs.Common.{◌≡◌, ℕ, zero, suc, ◌+◌, ◌<◌, ◌≤◌, inl, inr, Bool, true, false, List, [], ◌∷◌}
 use Rattle.std.proofs.Common.{Option, Some, None, refl, sym, ap, ◌∙◌, arith, subst}
 use Rattle.std.specs.Prelude.{slice_get, nat_le, ◌||◌}

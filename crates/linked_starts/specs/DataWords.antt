@@ -18,7 +18,7 @@ pub record HalvesStand (parts : List PartSeen) (s : State Word) (i : Import) (at
   pub code : cell s.cells at ≡ Some (code_half names)
   pub behind : cell s.cells (at + 1) ≡ Some (data_half names)
 
--- an offset of a part's data that is neither an import's slot nor the word behind one
+-- an offset of a part's data that is neither an import's slot nor the word after one
 abbrev pub IsOwnData : ComponentFields → ℕ → Type 0
 IsOwnData c o = (n : ℕ) (i : Import) → slice_get c.imports n ≡ Some i → (i.slot ≢ o) × (i.slot + 1 ≢ o)
 

@@ -6,7 +6,7 @@ use Rattle.component_check.specs.Verdict.{IsBefore}
 use Rattle.linked_starts.specs.declared.pairs.PartPlace.{PartPlace}
 
 -- how many parts it is tried at, and what it is within each. A rule of all parts together is tried
--- at the number behind the last part.
+-- at the number after the last part.
 pub record PairTest : Type 0 where
   pub parts : ℕ
   pub within : ℕ → Test ℕ
@@ -85,7 +85,7 @@ passes test (Some x) = test x
 abbrev pub at_each : {A : Type 0} → List A → (A → Bool) → Test ℕ
 at_each items broken = plainly (length items) (λ i. passes broken (slice_get items i))
 
--- within a part what is said of its index and of it, and behind the last part what is said of all
+-- within a part what is said of its index and of it, and after the last part what is said of all
 abbrev pub within_or : {A : Type 0} → (ℕ → A → Test ℕ) → Test ℕ → ℕ → Option A → Test ℕ
 within_or test all p None = all
 within_or test all p (Some x) = test p x

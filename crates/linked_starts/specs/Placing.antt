@@ -1,4 +1,4 @@
--- Where parts stand: those that are movable stand behind the others, in their order.
+-- Where parts stand: those that are movable stand after the others, in their order.
 use Rattle.std.specs.Prelude.{ℕ, zero, suc, ◌+◌, ◌-◌, ◌==◌, nat_lt, min, ℤ, pos, ◌+ℤ◌, ◌-ℤ◌, Bool, true}
 use Rattle.std.specs.Prelude.{not, ◌||◌, List, map, length, Option, Some, None, if◌then◌else◌}
 use Rattle.std.specs.List.{list_all}

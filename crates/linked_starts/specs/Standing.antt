@@ -1,4 +1,4 @@
--- Parts as they stand: the movable ones behind the others and the stack, one after another.
+-- Parts as they stand: the movable ones after the others and the stack, one after another.
 use Rattle.std.specs.Prelude.{ℕ, ◌+◌, max, List, [], ◌∷◌, length, Option, Some, None, if◌then◌else◌}
 use Rattle.std.specs.List.{fold}
 use Rattle.lcm_machine.specs.declared.cells.Span.{Span}
@@ -9,7 +9,7 @@ use Rattle.linked_starts.specs.Parts.{PartSeen}
 use Rattle.linked_starts.specs.Placing.{moved_by, lowest_address, lowest_seal}
 use Rattle.linked_starts.specs.Regions.{stack_span}
 
--- behind a component: behind all its regions, with an address between, and behind all its seals
+-- after a component: after all its regions, with an address between, and after all its seals
 abbrev pub behind : ComponentFields → Free
 behind c = record {
   address =
@@ -26,7 +26,7 @@ behind_stack (Some s) = record { address = s.end + 2; seal = 0 }
 abbrev pub furthest : Free → Free → Free
 furthest f g = record { address = max f.address g.address; seal = max f.seal g.seal }
 
--- behind the stack and the parts that stand at their own numbers
+-- after the stack and the parts that stand at their own numbers
 abbrev pub past_fixed : Free → PartSeen → Free
 past_fixed f p = if p.component.movable then f else furthest f (behind p.component)
 
@@ -49,7 +49,7 @@ settled f c = moved_by (move_of f c) c
 abbrev pub placed_part : Free → PartSeen → PartSeen
 placed_part f p = record p { component = settled f p.component }
 
--- what is free behind a movable part; the others have no part in this
+-- what is free after a movable part; the others have no part in this
 abbrev pub past : Free → PartSeen → Free
 past f p = if p.component.movable then behind (settled f p.component) else f
 

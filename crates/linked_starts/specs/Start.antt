@@ -109,7 +109,7 @@ stack_of base size = whole_stack_cap (addresses base size)
 
 -- ---- memory
 
--- what an import puts at an offset of its part's data: the code half at its slot, the data half behind it
+-- what an import puts at an offset of its part's data: the code half at its slot, the data half after it
 abbrev pub slot_word : List PartSeen → ℕ → Import → Option Word
 slot_word parts o i =
     if i.slot == o then option_map code_half (imported parts i)

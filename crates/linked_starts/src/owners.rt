@@ -54,6 +54,6 @@ pub struct CalledEntry {
     pub part: Items<u8>,
     /// The entry's name there.
     pub name: Items<u8>,
-    /// The address of the slot: that of the code half, behind which the data half stands.
+    /// The address of the slot: that of the code half, after which the data half stands.
     pub at: u32,
 }

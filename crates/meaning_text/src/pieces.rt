@@ -1,4 +1,4 @@
-//! The pieces of a line: words, fields behind a blank, the newline.
+//! The pieces of a line: words, fields after a blank, the newline.
 ghost use Rattle.std.specs.Prelude.{◌≡◌, ◌++◌, decimal, OnOk};
 ghost use Rattle.std.specs.Fmt.{signed_decimal};
 ghost use Rattle.cap_words.specs.Text.{field_text, newline};

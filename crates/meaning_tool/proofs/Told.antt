@@ -25,11 +25,11 @@ as_bind P p f old mid new x (Err stop) c h = follows_bind p f old mid new x (Err
 
 -- what was made is told, or memory is refused
 as_made : {A C : Type 0} (P : A → C → Type 0) (x : A) (seen : FilesSeen) (r : Result C Stop)
-    → IfOk r (P x) → IfErr r (λ s. s ≡ NoMemory) → FollowsAs P (Made x) seen r seen
+    → IfOk r (P x) → IfErr r (λ s. s ≡ NoMemory) → (let p : Plan A = Made x in FollowsAs P p seen r seen)
 as_made P x seen (Ok y) h n = (x, (refl, refl), h)
 as_made P x seen (Err s) h n = rw n refl
 
--- ---- behind the modules: their rules, and the feed
+-- ---- after the modules: their rules, and the feed
 
 module _ (fuel count size : ℕ) (feed : List ℕ) (modules : List ModuleFields) where
   abbrev subject_by : List Item → Subject
@@ -77,7 +77,7 @@ module _ (fuel count size : ℕ) (feed : List ℕ) (modules : List ModuleFields)
       (subst (λ b. Comes (feed_at feed count b) old (Ok items) new) is c)
       (as_made (IsMeant fuel) (subject_by items) new r h n))
 
--- ---- the modules of words, and what is behind them
+-- ---- the modules of words, and what is after them
 
 module _ (fuel size : ℕ) (words : List PartWord) (feed : List ℕ) where
   abbrev IsToldOf : FilesSeen → Result Meaning Stop → FilesSeen → Type 0

@@ -17,7 +17,7 @@ use Rattle.std.proofs.lemmas.Bool.{false_from_ne_true, false≢true}
 use Rattle.std.proofs.lemmas.Cmp.{eq_by_cmp_equiv}
 use Rattle.std.proofs.lemmas.Map.Text.{btree_map_updates_text, is_eq-slice_cmp}
 use Rattle.std.proofs.lemmas.Slice.Eq.{bytes_eq-Decides}
-use Rattle.outside_io.specs.FileCounts.{FileCounts, with_given, seen_with}
+use Rattle.outside_io.specs.FileCounts.{FileCounts, with_given, with_put, seen_with}
 use Rattle.outside_io.specs.FilesSeen.{GivesPart, Puts}
 use Rattle.outside_io.specs.Memory.{FilesByName, files_of, HeldFiles, CallNumbers, NextFails, file_named}
 use Rattle.outside_io.specs.Memory.{seen_of_files}
@@ -102,7 +102,7 @@ get-insert_other files name bytes q other =
 
 -- a put that went, as the trait says it
 pub Puts-insert : (old new : HeldFiles) (name bytes : List ℕ) → new.files ≡ finite.insert old.files name bytes
-    → new.counts ≡ old.counts → Puts (seen_of_files old) (seen_of_files new) name bytes
+    → new.counts ≡ with_put old.counts → Puts (seen_of_files old) (seen_of_files new) name bytes
 Puts-insert old new name bytes files counts = record {
   told = ap (λ (f : FilesByName). finite.get f name) files ∙ get-insert_same old.files name bytes;
   others = λ q other. ap (λ (f : FilesByName). finite.get f q) files

@@ -1,4 +1,4 @@
--- Files that lie one behind the other: what their lengths and their bytes say of them.
+-- Files that lie one after the other: what their lengths and their bytes say of them.
 use Rattle.std.proofs.Common.{◌≡◌, ℕ, suc, ◌+◌, ◌-◌, ◌<◌, ◌≤◌, Bool, List, [], ◌∷◌, ◌++◌, length, get_or}
 use Rattle.std.proofs.Common.{take, drop, Some, None, refl, sym, ap, subst, ◌∙◌, arith}
 use Rattle.std.proofs.Common.{append_assoc, length-append, drop-cons}
@@ -90,7 +90,7 @@ are_laid fs lens bytes they =
     let same = files_of fs lens bytes they in
     record { lengths = ap lens_of same ∙ sym they.lengths; texts = ap laid same ∙ sym they.texts }
 
--- one more file behind the others
+-- one more file after the others
 pub lie-push : (fs : List NamedFile) (lens new : List FileLen) (bytes mid end : List ℕ) (f : NamedFile)
     → Lie fs lens bytes → new ≡ lens ++ len_of f ∷ [] → mid ≡ bytes ++ f.0 → end ≡ mid ++ f.1
     → Lie (fs ++ f ∷ []) new end
@@ -109,7 +109,7 @@ laid_around before f after = flat_map-append text_of before (f ∷ after)
 
 -- ---- the file at an index
 
--- the file at an index, between those before it and those behind it
+-- the file at an index, between those before it and those after it
 pub record Middle (fs : List NamedFile) (bytes : List ℕ) (i start : ℕ) (len : FileLen) : Type 0 where
   pub file : NamedFile
   pub are : fs ≡ take i fs ++ file ∷ drop (suc i) fs

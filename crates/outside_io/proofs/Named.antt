@@ -71,7 +71,7 @@ pub without-none : (name : List ℕ) (xs : List NamedFile) → found name xs ≡
 without-none name xs none =
     ap (without name) (sym (append-nil xs)) ∙ without-behind name xs [] none ∙ append-nil xs
 
--- without the file at a place there are those before it and those behind it
+-- without the file at a place there are those before it and those after it
 pub without-there : (name : List ℕ) (fs : List NamedFile) (place : Place) → (there : LiesAt name fs place)
     → there.before ++ there.after ≡ without name fs
 without-there name fs place there =

@@ -2,6 +2,6 @@
 
 -- a sink of a fixed room
 pub use Rattle.outside_io.proofs.Filling.{failed_text_fills}
--- texts written one behind the other
+-- texts written one after the other
 pub use Rattle.outside_io.proofs.Writing.{fail_more, failed_writes, fails_upto, one_write, pieces_fail}
 pub use Rattle.outside_io.proofs.Writing.{pieces_none, pieces_then, text_failed, writes_behind}

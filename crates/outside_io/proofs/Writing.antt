@@ -1,4 +1,4 @@
--- Texts written one behind the other: that all was written, and that a front stands, compose; and so with
+-- Texts written one after the other: that all was written, and that a front stands, compose; and so with
 -- texts in pieces.
 use Rattle.std.proofs.Common.{◌≡◌, ℕ, zero, suc, ◌+◌, ◌≤◌, inl, inr, List, [], ◌∷◌, ◌++◌, length, take}
 use Rattle.std.proofs.Common.{Option, Some, None, Result, Ok, Err, refl, sym, ap, ◌∙◌, arith, subst}
@@ -121,7 +121,7 @@ fails_upto T x grows a c i (suc n) le f = elim (cases_lt n i) as (λ _. FailsAtP
       (fail_more a c (T n) (x n) (fails_upto T x grows a c i n below f))
 ]
 
--- a text in pieces written behind another, whether it came or not
+-- a text in pieces written after another, whether it came or not
 pub writes_behind : {A : Type 0} → (a b c : SinkSeen) (xs ys : List (List ℕ)) (r : Result A Failed)
     → AddsPieces a xs b → Writes b ys r c → Writes a (xs ++ ys) r c
 writes_behind a b c xs ys (Ok v) e w = pieces_then a b c xs ys e w

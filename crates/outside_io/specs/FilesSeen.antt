@@ -5,12 +5,14 @@ use Rattle.outside_io.specs.Counts.{raised, Rose}
 use Rattle.outside_io.specs.declared.outside.TheConstants.{LONGEST_NAME}
 
 -- `contents` is, by name, the bytes of the file where there is one, and None where the object doesn't tell
--- them; `reads` is how many reads were called, those that failed too, and `given` how many bytes they gave
+-- them; `reads` and `puts` are how many reads and puts were called, those that failed too, and `given` is how
+-- many bytes reads gave
 pub record FilesSeen : Type 0 where
   pub contents : Option (List ℕ → Option (List ℕ))
   pub reads : ℕ
   pub failed_reads : ℕ
   pub last_failed_read : List ℕ
+  pub puts : ℕ
   pub failed_puts : ℕ
   pub last_failed_put : List ℕ
   pub given : ℕ
@@ -49,18 +51,21 @@ KeepsOthers old new name =
     MatchOption old.contents (IsNone new.contents) (λ bytes_of.
     IsSomeAnd new.contents (λ now. (q : List ℕ) → q ≢ name → now q ≡ bytes_of q))
 
--- a put went: the file of that name holds these bytes, where the contents are told, and nothing else changed
+-- one put went: the file of that name holds these bytes, where the contents are told, and nothing else
+-- changed but `puts`
 pub record Puts (old new : FilesSeen) (name bytes : List ℕ) : Type 0 where
   pub told : IfSome new.contents (λ now. now name ≡ Some bytes)
   pub others : KeepsOthers old new name
-  pub stays : new ≡ record old { contents = new.contents }
+  pub stays : new ≡ record old { contents = new.contents; puts = raised old.puts 1 }
 
--- a put failed: nothing is said of the file of that name, and all but it and the failed puts stays
+-- one put failed: nothing is said of the file of that name, and all but it, the puts and the failed puts
+-- stays
 pub record FailsToPut (old new : FilesSeen) (name : List ℕ) : Type 0 where
   pub rose : Rose old.failed_puts new.failed_puts
   pub others : KeepsOthers old new name
   pub stays : new ≡ record old {
     contents = new.contents;
+    puts = raised old.puts 1;
     failed_puts = new.failed_puts;
     last_failed_put = name;
   }

@@ -6,7 +6,7 @@ use Rattle.std.specs.Cmp.Lexicographic.{slice_cmp}
 use Rattle.std.specs.FinMap as finite
 use Rattle.outside_io.specs.Counts.{raised}
 use Rattle.outside_io.specs.FileCounts.{FileCounts, no_counts, seen_with}
-use Rattle.outside_io.specs.FileCounts.{with_given, with_failed_read, with_failed_put}
+use Rattle.outside_io.specs.FileCounts.{with_given, with_failed_read, with_put, with_failed_put}
 use Rattle.outside_io.specs.FilesSeen.{FilesSeen}
 use Rattle.outside_io.specs.SinkSeen.{SinkSeen}
 use Rattle.std.specs.declared.alloc.Global.{Global}
@@ -71,7 +71,8 @@ after_failed_read held name =
 
 -- after a put of these bytes under this name
 abbrev pub after_put : HeldFiles → List ℕ → List ℕ → HeldFiles
-after_put held name bytes = record (with_file held name bytes) { calls = with_call held.calls }
+after_put held name bytes =
+    record (with_file held name bytes) { calls = with_call held.calls; counts = with_put held.counts }
 
 -- after a put under this name that failed
 abbrev pub after_failed_put : HeldFiles → List ℕ → HeldFiles

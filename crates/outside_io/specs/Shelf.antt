@@ -1,4 +1,4 @@
--- Files that lie one behind the other in reserved memory, and their lengths beside them.
+-- Files that lie one after the other in reserved memory, and their lengths beside them.
 use Rattle.std.specs.Prelude.{◌≡◌, ℕ, ◌+◌, ◌≤◌, List, [], ◌∷◌, ◌++◌, length, take, drop, map}
 use Rattle.std.specs.Prelude.{Bool, Option, None, if◌then◌else◌}
 use Rattle.std.specs.List.{flat_map}
@@ -21,7 +21,7 @@ pub record Shelved : Type 0 where
 
 -- ---- how they lie
 
--- a name, and its content behind it
+-- a name, and its content after it
 abbrev pub text_of : NamedFile → List ℕ
 text_of f = f.0 ++ f.1
 
@@ -67,7 +67,7 @@ abbrev pub without : List ℕ → List NamedFile → List NamedFile
 without name [] = []
 without name (f ∷ fs) = if same_names name f.0 then fs else f ∷ without name fs
 
--- the files with one of this name and this content behind the others, in place of the first one of the name
+-- the files with one of this name and this content after the others, in place of the first one of the name
 abbrev pub replaced : List ℕ → List ℕ → List NamedFile → List NamedFile
 replaced name content files = without name files ++ (name, content) ∷ []
 

@@ -5,13 +5,13 @@ use Rattle.outside_io.specs.Counts.{raised}
 use Rattle.outside_io.specs.SinkSeen.{SinkSeen, Adds, FailsToWrite, IsOneWrite}
 use Rattle.outside_io.specs.declared.outside.Failed.{Failed}
 
--- all pieces were written, one behind the other, each by one write
+-- all pieces were written, one after the other, each by one write
 pub record AddsPieces (old : SinkSeen) (pieces : List (List ℕ)) (new : SinkSeen) : Type 0 where
   pub text : Adds old (concat pieces) new
   pub counted : new.writes ≡ raised old.writes (length pieces)
 
 -- the write of one of the pieces failed, and a front of it stands: those before it were written, and those
--- behind it were not begun
+-- after it were not begun
 pub record FailsAtPiece (old : SinkSeen) (pieces : List (List ℕ)) (new : SinkSeen) : Type 0 where
   pub before : List (List ℕ)
   pub piece : List ℕ

@@ -1,19 +1,21 @@
 //! What every object of files counts.
 ghost use Rattle.std.specs.Prelude.{◌≡◌, ◌≤◌, length};
 ghost use Rattle.outside_io.specs.Counts.{Rose};
-ghost use Rattle.outside_io.specs.FileCounts.{no_counts, with_given, with_failed_read, with_failed_put};
+ghost use Rattle.outside_io.specs.FileCounts.{no_counts, with_given, with_failed_read, with_put};
+ghost use Rattle.outside_io.specs.FileCounts.{with_failed_put};
 
 use crate::outside::LONGEST_NAME;
 use arrayvec::ArrayString;
 use std::marker::Model;
 
-/// How many reads there were, how many reads and puts failed, the names that the last of them had,
+/// How many reads and puts there were, how many of them failed, the names that the last of these had,
 /// and how many bytes reads gave. Each count stands still at the greatest `u64`.
 #[derive(Drop)]
 pub struct Counts {
     reads: u64,
     failed_reads: u64,
     last_failed_read: ArrayString<LONGEST_NAME>,
+    puts: u64,
     failed_puts: u64,
     last_failed_put: ArrayString<LONGEST_NAME>,
     given: u64,
@@ -28,6 +30,7 @@ impl Model for Counts {
       reads = c.reads;
       failed_reads = c.failed_reads;
       last_failed_read = c.last_failed_read.bytes;
+      puts = c.puts;
       failed_puts = c.failed_puts;
       last_failed_put = c.last_failed_put.bytes;
       given = c.given;
@@ -35,7 +38,7 @@ impl Model for Counts {
 }
 
 impl Counts {
-    /// Nothing was read, nothing failed and nothing was given.
+    /// Nothing was read or put, nothing failed and nothing was given.
     pub(crate) fn new() -> Self
         ensures { result ≡ no_counts }
     {
@@ -43,6 +46,7 @@ impl Counts {
             reads: 0,
             failed_reads: 0,
             last_failed_read: ArrayString::new(),
+            puts: 0,
             failed_puts: 0,
             last_failed_put: ArrayString::new(),
             given: 0,
@@ -68,6 +72,13 @@ impl Counts {
         ensures { result.now ≡ self.now.last_failed_read }
     {
         self.last_failed_read.as_str()
+    }
+
+    /// How many puts there were, those that failed too.
+    pub fn puts(&self) -> u64
+        ensures { result ≡ self.now.puts }
+    {
+        self.puts
     }
 
     /// How many puts failed.
@@ -110,12 +121,20 @@ impl Counts {
         keep(&mut self.last_failed_read, name);
     }
 
+    /// Counts a put that went.
+    pub(crate) fn was_put(&mut self)
+        ensures { self.new ≡ with_put self.old }
+    {
+        self.puts = self.puts.saturating_add(1);
+    }
+
     /// Counts a failed put of this name.
     pub(crate) fn put_failed(&mut self, name: &str)
         requires { length name.now ≤ LONGEST_NAME }
         ensures is { self.new ≡ with_failed_put self.old name.now }
         ensures rose { Rose self.old.failed_puts self.new.failed_puts }
     {
+        self.puts = self.puts.saturating_add(1);
         self.failed_puts = self.failed_puts.saturating_add(1);
         keep(&mut self.last_failed_put, name);
     }

@@ -2,7 +2,8 @@
 ghost use Rattle.std.specs.Prelude.{◌≡◌, ◌<◌, ◌≤◌, length, None, IfOk, OnOk, OnErr, MatchResult};
 ghost use Rattle.outside_io.specs.FilesSeen.{IsFileName, GivesPart, FailsToRead, Puts, FailsToPut};
 ghost use Rattle.outside_io.specs.SinkSeen.{Adds, FailsToWrite, IsOneWrite};
-ghost use Rattle.outside_io.specs.FileCounts.{no_counts, with_given, with_failed_read, with_failed_put};
+ghost use Rattle.outside_io.specs.FileCounts.{no_counts, with_given, with_failed_read, with_put};
+ghost use Rattle.outside_io.specs.FileCounts.{with_failed_put};
 ghost use Rattle.outside_io.specs.Host.{seen_of_host_files, no_writes, seen_of_host_sink};
 ghost use Rattle.outside_io.specs.Host.{with_write, with_failed_write};
 
@@ -39,7 +40,7 @@ impl<R: rt::Files> HostFiles<R> {
         }
     }
 
-    /// How many reads there were, what they gave, and what failed.
+    /// How many reads and puts there were, what they gave, and what failed.
     pub fn counts(&self) -> &Counts
         ensures { result.now ≡ self.now }
     {
@@ -89,11 +90,14 @@ impl<R: rt::Files> Files for HostFiles<R> {
             (Puts (seen_of_host_files self.old) (seen_of_host_files self.new) name.now bytes.now) }
         ensures err { OnErr result
             (FailsToPut (seen_of_host_files self.old) (seen_of_host_files self.new) name.now) }
-        ensures after { MatchResult result (λ _. self.new ≡ self.old)
+        ensures after { MatchResult result (λ _. self.new ≡ with_put self.old)
             (λ _. self.new ≡ with_failed_put self.old name.now) }
     {
         match fs::write(&self.rt, name, bytes) {
-            Ok(()) => Ok(()),
+            Ok(()) => {
+                self.counts.was_put();
+                Ok(())
+            }
             Err(_) => {
                 self.counts.put_failed(name);
                 Err(Failed)

@@ -73,7 +73,7 @@ impl MemFiles {
         self.calls.fail_at(call);
     }
 
-    /// How many reads there were, what they gave, and what failed.
+    /// How many reads and puts there were, what they gave, and what failed.
     pub fn counts(&self) -> &Counts
         ensures { result.now ≡ self.now.counts }
     {
@@ -142,6 +142,7 @@ impl Files for MemFiles {
             self.counts.put_failed(name);
             return Err(Failed);
         }
+        self.counts.was_put();
         Ok(())
     }
 }

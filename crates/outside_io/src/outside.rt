@@ -28,9 +28,9 @@ pub const LONGEST_NAME: usize = 255;
 
 /// Files by name. A name is text of 1 to [`LONGEST_NAME`] bytes.
 pub trait Files {
-    /// What the object tells of its files: their contents or nothing of them, how many reads there
-    /// were and how many bytes they gave, how many reads and puts failed, and the names that the
-    /// last of them had.
+    /// What the object tells of its files: their contents or nothing of them, how many reads and puts
+    /// there were, how many bytes reads gave, how many reads and puts failed, and the names that the
+    /// last of these had.
     /// Each count stands still at the greatest number of 64 bits.
     ghost seen: { Self → FilesSeen };
 
@@ -46,7 +46,8 @@ pub trait Files {
         ensures err { OnErr result (FailsToRead (seen self.old) (seen self.new) name.now) };
 
     /// Makes these bytes the whole content of the file of this name, which need not be there yet.
-    /// An error counts as a failed put of this name, and says nothing of what the file holds then.
+    /// Each put is counted, and an error also as a failed put of this name; an error says nothing of what
+    /// the file holds then.
     fn put(&mut self, name: &str, bytes: &[u8]) -> Result<(), Failed>
         requires { IsFileName name.now }
         ensures ok { OnOk result (Puts (seen self.old) (seen self.new) name.now bytes.now) }
@@ -60,7 +61,7 @@ pub trait Sink {
     /// greatest number of 64 bits.
     ghost seen: { Self → SinkSeen };
 
-    /// Writes the whole piece behind what was written. Each write is counted, and an error also as
+    /// Writes the whole piece after what was written. Each write is counted, and an error also as
     /// a failed one; it may leave some front of the piece written.
     fn write(&mut self, piece: &[u8]) -> Result<(), Failed>
         requires { 0 < length piece.now }

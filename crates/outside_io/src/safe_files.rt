@@ -3,7 +3,7 @@ ghost use Rattle.std.specs.Prelude.{◌≡◌, ◌↔◌, ◌-◌, ◌<◌, ◌�
 ghost use Rattle.std.specs.Prelude.{IfOk, IsOk, IsErr, OnOk, OnErr, IsNone, IsSomeAnd, MatchResult};
 ghost use Rattle.std.specs.FinMap as finite;
 ghost use Rattle.outside_io.specs.FilesSeen.{IsFileName, GivesPart, FailsToRead, Puts, FailsToPut};
-ghost use Rattle.outside_io.specs.FileCounts.{with_given, with_failed_read, with_failed_put};
+ghost use Rattle.outside_io.specs.FileCounts.{with_given, with_failed_read, with_put, with_failed_put};
 ghost use Rattle.outside_io.specs.SafeFiles.{none_held, held_of, KeepsNumbers, holding, seen_of_safe_files};
 
 use crate::counts::Counts;
@@ -69,7 +69,7 @@ impl SafeFiles {
         true
     }
 
-    /// How many reads there were, what they gave, and what failed.
+    /// How many reads and puts there were, what they gave, and what failed.
     pub fn counts(&self) -> &Counts
         ensures { result.now ≡ self.now.held.counts }
     {
@@ -119,7 +119,10 @@ impl Files for SafeFiles {
         ensures err { OnErr result
             (FailsToPut (seen_of_safe_files self.old) (seen_of_safe_files self.new) name.now) }
         ensures fits { IsOk result ↔ KeepsNumbers (holding self.old.held name.now bytes.now) }
-        ensures after { MatchResult result (λ _. self.new.held ≡ holding self.old.held name.now bytes.now)
+        ensures after { MatchResult result
+            (λ _. self.new.held ≡ record (holding self.old.held name.now bytes.now) {
+              counts = with_put self.old.held.counts;
+            })
             (λ _. self.new.held ≡ record self.old.held {
               counts = with_failed_put self.old.held.counts name.now;
             }) }
@@ -128,6 +131,7 @@ impl Files for SafeFiles {
             self.counts.put_failed(name);
             return Err(Failed);
         }
+        self.counts.was_put();
         Ok(())
     }
 }

@@ -1,4 +1,4 @@
-//! Files that lie one behind the other in memory that was reserved before.
+//! Files that lie one after the other in memory that was reserved before.
 ghost use Rattle.std.specs.Prelude.{◌≡◌, ◌+◌, ◌<◌, ◌≤◌, ◌↔◌, [], ◌∷◌, ◌++◌, length, IsTrue};
 ghost use Rattle.std.specs.Prelude.{IfOk, MatchOption, None};
 ghost use Rattle.std.specs.Option.{option_copied};
@@ -124,7 +124,7 @@ impl Shelf {
         }
     }
 
-    // Lays a file behind the others.
+    // Lays a file after the others.
     fn push(&mut self, name: &[u8], content: &[u8])
         requires place { length self.old.files < self.old.names }
         requires room { length (laid self.old.files) + (length name.now + length content.now)
@@ -140,7 +140,7 @@ impl Shelf {
         append(&mut self.bytes, name);
         append(&mut self.bytes, content);
     }
-    // Lays the file behind the others, in place of the first one of this name.
+    // Lays the file after the others, in place of the first one of this name.
     pub(crate) fn put(&mut self, name: &[u8], content: &[u8])
         requires { FitIn self.old (replaced name.now content.now self.old.files) }
         ensures { self.new ≡ record self.old {

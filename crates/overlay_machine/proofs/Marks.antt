@@ -71,7 +71,7 @@ pub record StaysPrivate (l : Layout) (q : OState) (u : State Word) (x : FrameTol
       → Depth ms 0 e → case_of l r.maps ≡ Back r1 r2 → x.base ≤ a → a ≤ x.end
       → Untouched (λ w. w) (λ w. w) a (j + 1) u
 
--- so it is of each frame that a step opens, from the plain state behind the step on
+-- so it is of each frame that a step opens, from the plain state after the step on
 abbrev pub OpenedArePrivate : Layout → OState → State Word → Type 0
 OpenedArePrivate l o t =
     (q : OState) (u : State Word) (x : FrameTold) → overlay_step l o ≡ goes q

@@ -17,7 +17,7 @@ pub use Rattle.overlay_machine.proofs.OwnStack.{own_from, own_is, same_lin_true,
 pub use Rattle.overlay_machine.proofs.CallAgrees.{dat_normal, its_site, owns, plain_row, t15}
 -- where a call stands, and that no frame has a word there
 pub use Rattle.overlay_machine.proofs.WholeCall.{lowest, outside}
--- a return: the words of its pair opened, and the state behind its `xjmp`
+-- a return: the words of its pair opened, and the state after its `xjmp`
 pub use Rattle.overlay_machine.proofs.ReturnAgrees.{code_is, code_none, code_second, code_some, data_is}
 pub use Rattle.overlay_machine.proofs.ReturnAgrees.{data_none, jumps, plain_second, refuses, s1, stk_kept}
 pub use Rattle.overlay_machine.proofs.ReturnAgrees.{stk_plain}

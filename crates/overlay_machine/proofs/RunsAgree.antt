@@ -171,7 +171,7 @@ up_failed : (t : State Word) (n k : ℕ) (c : FailCause) (at : ℤ) → n ≤ k 
     → plain_run k t ≡ failed c at
 up_failed t n k c at h e = let m : n + (k - n) ≡ k = omega arith in rw (← m) (stays_failed n (k - n) t c at e)
 
--- the instruction behind those that went
+-- the instruction after those that went
 next_is : (t u : State Word) (n : ℕ) (r : Outcome Word) → plain_run n t ≡ went u → step_of id id u ≡ r
     → plain_run (n + 1) t ≡ r
 next_is t u n r e f = run_then id id n 1 t u r e (run_one id id u ∙ f)

@@ -15,7 +15,7 @@ use Rattle.overlay_machine.specs.declared.words.OWord.{OWord}
 use Rattle.overlay_machine.specs.declared.words.OWord.TheVariants.{Plain, RetCode, RetData}
 use Rattle.overlay_machine.specs.State.{OpenFrame, OState, framed, frame_of}
 
--- under the seal of a site, its part's code at the word behind the call's
+-- under the seal of a site, its part's code at the word after the call's
 abbrev pub flat_code : Option SiteCode → Word
 flat_code None = Int (pos 0)
 flat_code (Some s) = Sealed s.seal (Mem (code_cap s.base s.end (s.at + CALL_WORDS)))

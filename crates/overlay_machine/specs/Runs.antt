@@ -44,7 +44,7 @@ pub record RunsAgree (l : Layout) (o : OState) (t : State Word) : Type 0 where
   pub plain_fails : (n : ℕ) → FailsBehind n t
       → (j : ℕ) × (p : OState) × Reached l o j p × (j ≤ n) × (n < j + weight_of l p)
       × (overlay_step l p ≡ fails)
-  -- a plain run that goes stands at a matched point, or less than the next weight behind it
+  -- a plain run that goes stands at a matched point, or less than the next weight after it
   pub plain_goes : (n : ℕ) (u : State Word) → plain_run n t ≡ went u
       → (j : ℕ) × (p : OState) × Reached l o j p × (j ≤ n) × (n < j + weight_of l p)
 

@@ -121,7 +121,7 @@ call_step l i o =
 
 -- ---- an entry
 
--- stk's address becomes its end, and pc stands behind the sequence
+-- stk's address becomes its end, and pc stands after the sequence
 unfoldable pub entry_step : Layout → ℕ → OState → Ending
 entry_step l a o =
     need (memory_in (faces look o.maps Pc)) (λ p.
@@ -148,7 +148,7 @@ rest_words [] = []
 rest_words (w ∷ ws) = ws
 
 -- The newest frame's cells come back, the first one as 0; data is the frame's first word, stk is the stack up
--- to the frame's end, and pc stands behind the site.
+-- to the frame's end, and pc stands after the site.
 abbrev pub state_resumed : SiteCode → CapFields → OpenFrame → List OpenFrame → State OWord → OState → OState
 state_resumed s c f fs m o = record o {
   maps = record m {

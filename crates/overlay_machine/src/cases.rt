@@ -63,7 +63,7 @@ pub(crate) fn next_case(maps: &State<OWord>, layout: &Layout) -> Case
 }
 
 /// How many plain instructions a step stands for: those of its sequence, with the `xjmp` that
-/// reaches it. A call by a pair always fails; the plain machine may fail at the word behind it.
+/// reaches it. A call by a pair always fails; the plain machine may fail at the word after it.
 pub(crate) fn weight(maps: &State<OWord>, case: Case) -> u32
     ensures is { result ≡ weight_by maps.now case }
     ensures some { 1 ≤ result }

@@ -15,7 +15,7 @@ use cap_words::{Cap, Lin, Perm, Sealable, Word};
 use frame_region::Region;
 use trusted_border::{Layout, SiteCode};
 
-// Under the seal of a site, its part's code at the word behind the call.
+// Under the seal of a site, its part's code at the word after the call.
 fn code_half(code: SiteCode) -> Word
     requires { IsRange code.base code.end }
     ensures { result ≡ flat_code (Some code) }

@@ -51,7 +51,7 @@ fn set_word(maps: &mut State<OWord>, r: Reg, word: Word)
     let _ = maps.swap(Place::R(r), OWord::Plain(word));
 }
 
-// pc over a site's code, so many words behind the call's first.
+// pc over a site's code, so many words after the call's first.
 fn pc_behind(code: SiteCode, words: u32) -> Word
     requires { IsRange code.base code.end }
     ensures { result ≡ Word.Mem (code_cap code.base code.end (code.at + words)) }

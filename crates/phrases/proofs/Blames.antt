@@ -1,4 +1,4 @@
--- Where the faults of a reader stand: behind tokens with which a text can begin, or at such a token.
+-- Where the faults of a reader stand: after tokens with which a text can begin, or at such a token.
 use Rattle.std.proofs.Common.{◌≡◌, Bool, true, false, ℕ, zero, suc, ◌+◌, ◌≤◌, inl, inr, ◌⊎◌, List, []}
 use Rattle.std.proofs.Common.{◌∷◌, ◌++◌, length, Option, Some, Result, Ok, Err, refl, sym, ap, subst}
 use Rattle.std.proofs.Common.{◌∙◌, append_assoc, arith, length-append, append-nil}
@@ -9,10 +9,9 @@ use Rattle.phrases.specs.Phrase as phrases
 use Rattle.phrases.specs.Phrase.{Meaning, Phrase, then, only, where_true, ◌or◌}
 use Rattle.phrases.specs.Reading.{Input, Tells, Reader}
 use Rattle.phrases.specs.Reading.{next_means, place, case_next, expected, one, is_there, many}
-use Rattle.phrases.proofs.Readers.{at_end, goes_on_ok, goes_on_err, ok_value, cases_next, case_some}
-use Rattle.phrases.proofs.Readers.{case_none}
+use Rattle.phrases.proofs.Readers.{at_end, goes_on_ok, goes_on_err, ok_value, cases_next, joined, one_read}
 use Rattle.phrases.proofs.Repeats.{Begins, Ends, ok_not_err, err_not_ok, many_stop, many_out}
-use Rattle.phrases.proofs.Repeats.{many_go, more_behind, many_less, many_worse}
+use Rattle.phrases.proofs.Repeats.{many_go, many_round, more_behind, many_worse}
 
 -- the place is that of a token, up to which the tokens begin what the phrase spells
 pub record Within {L F A : Type 0} (tells : Tells L F) (P' : Phrase L A) (i : Input L) (at : ℕ) : Type 0 where
@@ -54,70 +53,66 @@ shorter l s k fuel e le =
     let same : length l ≡ length s + length k = ap length e ∙ length-append s k in
     omega (arith, le, same)
 
-module _ {L F : Type 0} {tells : Tells L F} (limit : F → Option ℕ) where
-  blamed_first : {A B : Type 0} {K : ℕ → Type 0} {P' : Phrase L A} {Q' : A → Phrase L B} (more : (a : A)
-      → (tokens : List L) × (y : B) × Q' a tokens y) (i : Input L) (e : F) → Blamed tells limit K P' i e
-      → Blamed tells limit K (then P' Q') i e
-  blamed_first more i e = elim [
-    | inl h ↦ inl h
-    | inr (at, is, where_) ↦ inr (
-      at,
-      is,
-      (elim where_ [
-        | inl known ↦ inl known
-        | inr w ↦
-            let v = w.viable in
-            let u = more v.1 in
-            inr (record {
-              tokens = w.tokens;
-              token = w.token;
-              rest = w.rest;
-              parts = w.parts;
-              there = w.there;
-              viable = (
-                v.0 ++ u.0,
-                u.1,
-                (
-                  v.1,
-                  w.tokens ++ w.token ∷ v.0,
-                  u.0,
-                  sym (append_assoc w.tokens (w.token ∷ v.0) u.0),
-                  v.2,
-                  u.2,
-                ),
-              );
-            })
-      ]),
-    )
-  ]
-
 module _ {L F : Type 0} {tells : Tells L F} where
-  -- behind tokens that were taken
-  within_behind : {A B : Type 0} {P' : Phrase L A} {Q' : A → Phrase L B} (i : Input L) (x : A) (j : Input L)
-      (at : ℕ) → Taken P' i x j → Within tells (Q' x) j at → Within tells (then P' Q') i at
-  within_behind i x j at a w =
+  -- after tokens with which what one phrase spells is what another spells
+  within_behind : {A B : Type 0} {P' : Phrase L A} {Q' : Phrase L B} (s : List L) (i j : Input L) (at : ℕ)
+      → i.rest ≡ s ++ j.rest → Within tells P' j at
+      → ((l : List L) (x : A) → P' l x → (y : B) × Q' (s ++ l) y) → Within tells Q' i at
+  within_behind {Q' = Q'} s i j at is w into =
       let v = w.viable in
+      let y = into (w.tokens ++ w.token ∷ v.0) v.1 v.2 in
       record {
-        tokens = a.tokens ++ w.tokens;
+        tokens = s ++ w.tokens;
         token = w.token;
         rest = w.rest;
-        parts = a.parts ∙ ap (λ l. a.tokens ++ l) w.parts
-            ∙ sym (append_assoc a.tokens w.tokens (w.token ∷ w.rest));
+        parts = joined s w.tokens (w.token ∷ w.rest) is w.parts;
         there = w.there;
         viable = (
           v.0,
-          v.1,
-          (
-            x,
-            a.tokens,
-            w.tokens ++ w.token ∷ v.0,
-            append_assoc a.tokens w.tokens
-                (w.token ∷ v.0),
-            a.loose,
-            v.2,
-          ),
+          y.0,
+          subst (λ l. Q' l y.0) (sym (append_assoc s w.tokens (w.token ∷ v.0))) y.1,
         );
       }
+
+module _ {L F : Type 0} {tells : Tells L F} (limit : F → Option ℕ) where
+  -- the places that one reader blames are blamed by another
+  blamed_as : {A B : Type 0} {K K' : ℕ → Type 0} {P' : Phrase L A} {Q' : Phrase L B} (i j : Input L) (e : F)
+      → Blamed tells limit K P' j e → ((at : ℕ) → K at → K' at ⊎ Within tells Q' i at)
+      → ((at : ℕ) → Within tells P' j at → Within tells Q' i at) → Blamed tells limit K' Q' i e
+  blamed_as i j e h known within = elim h [
+    | inl g ↦ inl g
+    | inr (at, is, where_) ↦ inr (
+      at,
+      is,
+      (elim where_ [ inl k ↦ known at k | inr w ↦ inr (within at w) ]),
+    )
+  ]
+
+  blamed_first : {A B : Type 0} {K : ℕ → Type 0} {P' : Phrase L A} {Q' : A → Phrase L B} (more : (a : A)
+      → (tokens : List L) × (y : B) × Q' a tokens y) (i : Input L) (e : F) → Blamed tells limit K P' i e
+      → Blamed tells limit K (then P' Q') i e
+  blamed_first more i e h = blamed_as i i e h (λ at k. inl k) (λ at w.
+      let v = w.viable in
+      let u = more v.1 in
+      record {
+        tokens = w.tokens;
+        token = w.token;
+        rest = w.rest;
+        parts = w.parts;
+        there = w.there;
+        viable = (
+          v.0 ++ u.0,
+          u.1,
+          (
+            v.1,
+            w.tokens ++ w.token ∷ v.0,
+            u.0,
+            sym (append_assoc w.tokens (w.token ∷ v.0) u.0),
+            v.2,
+            u.2,
+          ),
+        );
+      })
 
 module _ {L : Type 0} where
   none_left : {B : Type 0} (m : Meaning L B) (l : List L) → Begins m l → length l ≤ 0 → ⊥
@@ -133,7 +128,7 @@ module _ {L : Type 0} where
       (y : B) (k : Input L) → Taken P' i x j → Taken (Q' x) j y k → Taken (then P' Q') i y k
   taken_then i x j y k a b = record {
     tokens = a.tokens ++ b.tokens;
-    parts = a.parts ∙ ap (λ l. a.tokens ++ l) b.parts ∙ sym (append_assoc a.tokens b.tokens k.rest);
+    parts = joined a.tokens b.tokens k.rest a.parts b.parts;
     loose = (x, a.tokens, b.tokens, refl, a.loose, b.loose);
   }
 
@@ -145,17 +140,9 @@ module _ {L F : Type 0} (tells : Tells L F) where
   -- a token of this meaning is one token
   pub is_token : {A : Type 0} (m : Meaning L A) (placed : A → ℕ) → ((t : L) (a : A) → m t ≡ Some a → placed a
       ≡ tells.at t) → IsToken tells (phrases.one m) (one tells m) placed
-  unfolding one
-  is_token m placed places i x j e = elim (cases_next m i) [
-    | inl (u, b, k, is, means) ↦
-        let here : case_next m done (expected tells) i ≡ Ok (b, at_end k i.end) =
-        ap (λ l. case_next m done (expected tells) (at_end l i.end)) is
-        ∙ case_some m done (expected tells) u b k i.end means in
-        let both = ok_value b x (at_end k i.end) j (sym here ∙ e) in
-        let same = means ∙ ap (λ z. Some z) both.0 in
-        (u, is ∙ ap (λ (o : Input L). u ∷ o.rest) both.1, (u, refl, same), places u x same)
-    | inr none ↦ absurd (err_not_ok (x, j) _ (sym (case_none m done (expected tells) i none) ∙ e))
-  ]
+  is_token m placed places i x j e =
+      let (t, is, ends, means) = one_read tells m i x j e in
+      (t, is, (t, refl, means), places t x means)
 
   tested : {A : Type 0} (b : Bool) (fault : F) (x y : A) (i j : Input L) → (let r : Reader L F A =
       holds b fault >>= λ _. done x in r i) ≡ Ok (y, j) → (x ≡ y) × (i ≡ j)
@@ -185,11 +172,14 @@ module _ {L F : Type 0} (tells : Tells L F) where
       )
 
 module _ {L F : Type 0} {tells : Tells L F} {limit : F → Option ℕ} {fuel : ℕ} where
-  pub blames_then : {A B : Type 0} {K : ℕ → Type 0} {P' : Phrase L A} {Q' : A
-      → Phrase L B} {r : Reader L F A} {f : A → Reader L F B}
-      → Blames tells limit fuel K P' r → ((a : A) → Blames tells limit fuel K (Q' a) (f a))
+  -- what is after may blame places that are known there alone, if they are places of what was read
+  blames_behind : {A B : Type 0} {K : ℕ → Type 0} {P' : Phrase L A} {Q' : A → Phrase L B} {r : Reader L F A}
+      {f : A → Reader L F B} (Known : A → ℕ → Type 0)
+      → ((i : Input L) (x : A) (j : Input L) → r i ≡ Ok (x, j) → (at : ℕ) → Known x at
+      → K at ⊎ Within tells (then P' Q') i at)
+      → Blames tells limit fuel K P' r → ((a : A) → Blames tells limit fuel (Known a) (Q' a) (f a))
       → Blames tells limit fuel K (then P' Q') (r >>= f)
-  blames_then {r = r} {f = f} one two = record {
+  blames_behind {r = r} {f = f} Known known one two = record {
     some =
         let v = one.some in
         let w = (two v.1).some in
@@ -201,51 +191,30 @@ module _ {L F : Type 0} {tells : Tells L F} {limit : F → Option ℕ} {fuel : �
       | inl g ↦ blamed_first limit (λ a. (two a).some) i e (one.blames i e len g)
       | inr x ↦
           let a = one.takes i x.0.0 x.0.1 x.1 in
-          elim ((two x.0.0).blames x.0.1 e (shorter i.rest a.tokens x.0.1.rest fuel a.parts len) x.2) [
-            | inl g ↦ inl g
-            | inr (at, is, where_) ↦ inr (
-              at,
-              is,
-              (elim where_ [ inl known ↦ inl known | inr w ↦ inr (within_behind i x.0.0 x.0.1 at a w) ]),
-            )
-          ]
+          let short = shorter i.rest a.tokens x.0.1.rest fuel a.parts len in
+          blamed_as limit i x.0.1 e ((two x.0.0).blames x.0.1 e short x.2) (known i x.0.0 x.0.1 x.1)
+          (λ at w. within_behind a.tokens i x.0.1 at a.parts w (λ l y q.
+          (y, (x.0.0, a.tokens, l, refl, a.loose, q))))
     ];
   }
 
-  -- what is behind a token may blame that token
+  pub blames_then : {A B : Type 0} {K : ℕ → Type 0} {P' : Phrase L A} {Q' : A
+      → Phrase L B} {r : Reader L F A} {f : A → Reader L F B}
+      → Blames tells limit fuel K P' r → ((a : A) → Blames tells limit fuel K (Q' a) (f a))
+      → Blames tells limit fuel K (then P' Q') (r >>= f)
+  blames_then {K = K} one two = blames_behind (λ a. K) (λ i x j e at k. inl k) one two
+
+  -- what is after a token may blame that token
   pub blames_token : {A B : Type 0} {K : ℕ → Type 0} {P' : Phrase L A} {Q' : A
       → Phrase L B} {r : Reader L F A} {f : A → Reader L F B} (placed : A → ℕ)
       → IsToken tells P' r placed → Blames tells limit fuel K P' r
       → ((a : A) → Blames tells limit fuel (λ n. K n ⊎ (n ≡ placed a)) (Q' a) (f a))
       → Blames tells limit fuel K (then P' Q') (r >>= f)
-  blames_token {K = K} {P' = P'} {Q' = Q'} {r = r} {f = f} placed token one two = record {
-    some =
-        let v = one.some in
-        let w = (two v.1).some in
-        (v.0 ++ w.0, w.1, (v.1, v.0, w.0, refl, v.2, w.2));
-    takes = λ i y j e.
-        let x = goes_on_ok (r i) f (y, j) e in
-        taken_then i x.0.0 x.0.1 y j (one.takes i x.0.0 x.0.1 x.1) ((two x.0.0).takes x.0.1 y j x.2);
-    blames = λ i e len h. elim (goes_on_err (r i) f e h) [
-      | inl g ↦ blamed_first limit (λ a. (two a).some) i e (one.blames i e len g)
-      | inr x ↦
-          let a = one.takes i x.0.0 x.0.1 x.1 in
-          elim ((two x.0.0).blames x.0.1 e (shorter i.rest a.tokens x.0.1.rest fuel a.parts len) x.2) [
-            | inl g ↦ inl g
-            | inr (at, is, where_) ↦ inr (
-              at,
-              is,
-              (elim where_ [
-                | inl known ↦ elim known [
-                  | inl k ↦ inl k
-                  | inr here ↦ inr (at_token i x.0.0 x.0.1 at (token i x.0.0 x.0.1 x.1) here)
-                ]
-                | inr w ↦ inr (within_behind i x.0.0 x.0.1 at a w)
-              ]),
-            )
-          ]
-    ];
-  }
+  blames_token {K = K} {P' = P'} {Q' = Q'} placed token one two =
+      blames_behind (λ a n. K n ⊎ (n ≡ placed a)) (λ i x j e at. elim [
+        | inl k ↦ inl k
+        | inr here ↦ inr (at_token i x j at (token i x j e) here)
+      ]) one two
     where
       at_token : (i : Input L) (x : _) (j : Input L) (at : ℕ) → (t : L) × (i.rest ≡ t ∷ j.rest)
           × P' (t ∷ []) x × (placed x ≡ tells.at t) → at ≡ placed x → Within tells (then P' Q') i at
@@ -288,10 +257,7 @@ module _ {L F : Type 0} {tells : Tells L F} {limit : F → Option ℕ} {fuel : �
   blames_known more h = record {
     some = h.some;
     takes = λ i x j e. h.takes i x j e;
-    blames = λ i e len g. elim (h.blames i e len g) [
-      | inl a ↦ inl a
-      | inr (at, is, where_) ↦ inr (at, is, (elim where_ [ inl known ↦ inl (more at known) | inr w ↦ inr w ]))
-    ];
+    blames = λ i e len g. blamed_as limit i i e (h.blames i e len g) (λ at k. inl (more at k)) (λ at w. w);
   }
 
   pub blames_as : {A : Type 0} {K : ℕ → Type 0} {P' Q' : Phrase L A} {r : Reader L F A}
@@ -302,27 +268,8 @@ module _ {L F : Type 0} {tells : Tells L F} {limit : F → Option ℕ} {fuel : �
     takes = λ i x j e.
         let a = h.takes i x j e in
         record { tokens = a.tokens; parts = a.parts; loose = into a.tokens x a.loose };
-    blames = λ i e len g. elim (h.blames i e len g) [
-      | inl a ↦ inl a
-      | inr (at, is, where_) ↦ inr (
-        at,
-        is,
-        (elim where_ [
-          | inl known ↦ inl known
-          | inr w ↦
-              let v = w.viable in
-              inr (record {
-                tokens = w.tokens;
-                token = w.token;
-                rest = w.rest;
-                parts = w.parts;
-                there =
-                    w.there;
-                viable = (v.0, v.1, into (w.tokens ++ w.token ∷ v.0) v.1 v.2);
-              })
-        ]),
-      )
-    ];
+    blames = λ i e len g. blamed_as limit i i e (h.blames i e len g) (λ at k. inl k) (λ at w.
+        within_behind [] i i at refl w (λ l x p. (x, into l x p)));
   }
 
   -- the same with its value seen by f
@@ -343,33 +290,8 @@ module _ {L F : Type 0} {tells : Tells L F} {limit : F → Option ℕ} {fuel : �
         let same : fault ≡ e = cc in
         inr (at, ap limit (sym same) ∙ is, inl known);
   }
-  blames_holds {Q' = Q'} f true b' fault at is known up more = record {
-    some = let v = more.some in (v.0, v.1, (tt, [], v.0, refl, (refl, up), v.2));
-    takes = λ i y j e.
-        let a = more.takes i y j e in
-        record { tokens = a.tokens; parts = a.parts; loose = (tt, [], a.tokens, refl, (refl, up), a.loose) };
-    blames = λ i e len h. elim (more.blames i e len h) [
-      | inl a ↦ inl a
-      | inr (n, is_, where_) ↦ inr (
-        n,
-        is_,
-        (elim where_ [
-          | inl k ↦ inl k
-          | inr w ↦
-              let v = w.viable in
-              inr (record {
-                tokens = w.tokens;
-                token = w.token;
-                rest = w.rest;
-                parts = w.parts;
-                there =
-                    w.there;
-                viable = (v.0, v.1, (tt, [], w.tokens ++ w.token ∷ v.0, refl, (refl, up), v.2));
-              })
-        ]),
-      )
-    ];
-  }
+  blames_holds f true b' fault at is known up more =
+      blames_as (λ l y q. (tt, [], l, refl, (refl, up), q)) more
 
   -- a token, of which there is one
   pub blames_one : {A : Type 0} {K : ℕ → Type 0} (m : Meaning L A) (t : L) (a : A) → m t ≡ Some a
@@ -377,35 +299,16 @@ module _ {L F : Type 0} {tells : Tells L F} {limit : F → Option ℕ} {fuel : �
   unfolding one
   blames_one m t a example = record {
     some = (t ∷ [], a, (t, refl, example));
-    takes = λ i x j e. elim (cases_next m i) [
-      | inl (u, b, k, is, means) ↦
-          let here : case_next m done (expected tells) i ≡ Ok (b, at_end k i.end) =
-          ap (λ l. case_next m done (expected tells) (at_end l i.end)) is
-          ∙ case_some m done (expected tells) u b k i.end means in
-          let both = ok_value b x (at_end k i.end) j (sym here ∙ e) in
-          record {
-            tokens = u ∷ [];
-            parts = is ∙ ap (λ (o : Input L). u ∷ o.rest) both.1;
-            loose =
-                (u, refl, means ∙ ap (λ z. Some z) both.0);
-          }
-      | inr none ↦ absurd (err_not_ok (x, j) _ (sym (case_none m done (expected tells) i none) ∙ e))
-    ];
-    blames = λ i e len h. elim (cases_next m i) [
-      | inl (u, b, k, is, means) ↦
-          let here : case_next m done (expected tells) i ≡ Ok (b, at_end k i.end) =
-          ap (λ l. case_next m done (expected tells) (at_end l i.end)) is
-          ∙ case_some m done (expected tells) u b k i.end means in
-          absurd (ok_not_err (b, at_end k i.end) e (sym here ∙ h))
-      | inr none ↦ inl (
-        place tells i,
-        at_place tells i e (sym (case_none m done (expected tells) i none)
-            ∙ h),
-      )
+    takes = λ i x j e.
+        let (u, is, ends, means) = one_read tells m i x j e in
+        record { tokens = u ∷ []; parts = is; loose = (u, refl, means) };
+    blames = λ i e len h. elim (cases_next m done (expected tells) i) [
+      | inl (u, b, k, is, means, here) ↦ absurd (ok_not_err (b, at_end k i.end) e (sym here ∙ h))
+      | inr (none, here) ↦ inl (place tells i, at_place tells i e (sym here ∙ h))
     ];
   }
 
-  -- a choice by the next token, which what is behind it may blame
+  -- a choice by the next token, which what is after it may blame
   blames_choice : {A B : Type 0} {K : ℕ → Type 0} {m : Meaning L A} {Q' : A → Phrase L B} {R' : Phrase L B}
       {f : A → Reader L F B} {r : Reader L F B} (Here : A → ℕ → Type 0)
       → ((t : L) (a : A) → m t ≡ Some a → (n : ℕ) → Here a n → n ≡ tells.at t)
@@ -414,91 +317,38 @@ module _ {L F : Type 0} {tells : Tells L F} {limit : F → Option ℕ} {fuel : �
       → Blames tells limit fuel K (then (phrases.one m) Q' or R') (case_next m f r)
   blames_choice {K = K} {m = m} {Q' = Q'} {R' = R'} {f = f} {r = r} Here places two other = record {
     some = let v = other.some in (v.0, v.1, inr v.2);
-    takes = λ i y j e. elim (cases_next m i) [
-      | inl (t, a, k, is, means) ↦
-          let here : case_next m f r i ≡ f a (at_end k i.end) = ap (λ l. case_next m f r (at_end l i.end)) is
-          ∙ case_some m f r t a k i.end means in
+    takes = λ i y j e. elim (cases_next m f r i) [
+      | inl (t, a, k, is, means, here) ↦
           let b = (two a).takes (at_end k i.end) y j (sym here ∙ e) in
           record {
             tokens = t ∷ b.tokens;
             parts = is ∙ ap (λ l. t ∷ l) b.parts;
-            loose =
-                inl (a, t ∷ [], b.tokens, refl, (t, refl, means), b.loose);
+            loose = inl (a, t ∷ [], b.tokens, refl, (t, refl, means), b.loose);
           }
-      | inr none ↦
-          let b = other.takes i y j (sym (case_none m f r i none) ∙ e) in
+      | inr (none, here) ↦
+          let b = other.takes i y j (sym here ∙ e) in
           record { tokens = b.tokens; parts = b.parts; loose = inr b.loose }
     ];
-    blames = λ i e len h. elim (cases_next m i) [
-      | inl (t, a, k, is, means) ↦
-          let here : case_next m f r i ≡ f a (at_end k i.end) = ap (λ l. case_next m f r (at_end l i.end)) is
-          ∙ case_some m f r t a k i.end means in
-          elim ((two a).blames (at_end k i.end) e (shorter i.rest (t ∷ []) k fuel is len) (sym here ∙ h)) [
-            | inl g ↦ inl g
-            | inr (at, limited, where_) ↦ inr (
-              at,
-              limited,
-              (elim where_ [
-                | inl known ↦ elim known [
-                  | inl n ↦ inl n
-                  | inr n ↦
-                      let w = (two a).some in
-                      inr (record {
-                        tokens = [];
-                        token = t;
-                        rest = k;
-                        parts = is;
-                        there =
-                            places t a means at n;
-                        viable =
-                            (w.0, w.1, inl (a, t ∷ [], w.0, refl, (t, refl, means), w.2));
-                      })
-                ]
-                | inr w ↦
-                    let v = w.viable in
-                    inr (record {
-                      tokens = t ∷ w.tokens;
-                      token = w.token;
-                      rest = w.rest;
-                      parts = is ∙ ap (λ l. t ∷ l) w.parts;
-                      there = w.there;
-                      viable = (
-                        v.0,
-                        v.1,
-                        inl (
-                          a,
-                          t ∷ [],
-                          w.tokens ++ w.token ∷ v.0,
-                          refl,
-                          (t, refl, means),
-                          v.2,
-                        ),
-                      );
-                    })
-              ]),
-            )
-          ]
-      | inr none ↦ elim (other.blames i e len (sym (case_none m f r i none) ∙ h)) [
-        | inl g ↦ inl g
-        | inr (at, limited, where_) ↦ inr (
-          at,
-          limited,
-          (elim where_ [
-            | inl known ↦ inl known
-            | inr w ↦
-                let v = w.viable in
+    blames = λ i e len h. elim (cases_next m f r i) [
+      | inl (t, a, k, is, means, here) ↦
+          let short = shorter i.rest (t ∷ []) k fuel is len in
+          let other = (two a).blames (at_end k i.end) e short (sym here ∙ h) in
+          blamed_as limit i (at_end k i.end) e other (λ at. elim [
+            | inl n ↦ inl n
+            | inr n ↦
+                let w = (two a).some in
                 inr (record {
-                  tokens = w.tokens;
-                  token = w.token;
-                  rest = w.rest;
-                  parts = w.parts;
-                  there =
-                      w.there;
-                  viable = (v.0, v.1, inr v.2);
+                  tokens = [];
+                  token = t;
+                  rest = k;
+                  parts = is;
+                  there = places t a means at n;
+                  viable = (w.0, w.1, inl (a, t ∷ [], w.0, refl, (t, refl, means), w.2));
                 })
-          ]),
-        )
-      ]
+          ]) (λ at w. within_behind (t ∷ []) i (at_end k i.end) at is w (λ l y q.
+          (y, inl (a, t ∷ [], l, refl, (t, refl, means), q))))
+      | inr (none, here) ↦ blamed_as limit i i e (other.blames i e len (sym here ∙ h)) (λ at k. inl k)
+          (λ at w. within_behind [] i i at refl w (λ l x p. (x, inr p)))
     ];
   }
 
@@ -535,6 +385,14 @@ module _ {L F : Type 0} {tells : Tells L F} {limit : F → Option ℕ} {fuel : �
           loose = subst (λ ys. phrases.many next p' s [] ys) both.0 refl;
         }
 
+    taken_more : (s : S) (i : Input L) (x : A) (j : Input L) (xs : List A) (k : Input L) → Taken (p' s) i x j
+        → Taken (phrases.many next p' (next s x)) j xs k → Taken (phrases.many next p' s) i (x ∷ xs) k
+    taken_more s i x j xs k a b = record {
+      tokens = a.tokens ++ b.tokens;
+      parts = joined a.tokens b.tokens k.rest a.parts b.parts;
+      loose = (a.tokens, b.tokens, refl, a.loose, b.loose);
+    }
+
     many_takes : (n : ℕ) (s : S) (i : Input L) (xs : List A) (j : Input L) → many tells n begins next r s i
         ≡ Ok (xs, j) → Taken (phrases.many next p' s) i xs j
     many_takes zero s i xs j e = elim (cases_Bool (is_there (next_means begins i))) [
@@ -543,22 +401,9 @@ module _ {L F : Type 0} {tells : Tells L F} {limit : F → Option ℕ} {fuel : �
     ]
     many_takes (suc n) s i xs j e = elim (cases_Bool (is_there (next_means begins i))) [
       | inl there ↦
-          let x = goes_on_ok (r s i) (more_behind tells begins next r n s) (xs, j)
-          (sym (many_go tells begins next r n s i there) ∙ e) in
-          let a = (items s).takes i x.0.0 x.0.1 x.1 in
-          let y = many_less tells begins next r n s x.0.0 xs x.0.1 j x.2 in
-          let b = many_takes n (next s x.0.0) x.0.1 y.0 j y.1 in
-          record {
-            tokens = a.tokens ++ b.tokens;
-            parts = a.parts ∙ ap (λ l. a.tokens ++ l) b.parts ∙ sym (append_assoc a.tokens b.tokens j.rest);
-            loose = subst (λ ys. phrases.many next p' s (a.tokens ++ b.tokens) ys) y.2 (
-              a.tokens,
-              b.tokens,
-              refl,
-              a.loose,
-              b.loose,
-            );
-          }
+          let (x, l, ys, one, others, whole) = many_round tells begins next r n s i xs j there e in
+          subst (λ zs. Taken (phrases.many next p' s) i zs j) whole
+          (taken_more s i x l ys j ((items s).takes i x l one) (many_takes n (next s x) l ys j others))
       | inr none ↦ at_stop (suc n) s i xs j none e
     ]
 
@@ -571,65 +416,19 @@ module _ {L F : Type 0} {tells : Tells L F} {limit : F → Option ℕ} {fuel : �
     many_blames (suc n) s i e len fits h = elim (cases_Bool (is_there (next_means begins i))) [
       | inl there ↦ elim (goes_on_err (r s i) (more_behind tells begins next r n s) e
           (sym (many_go tells begins next r n s i there) ∙ h)) [
-            | inl g ↦ elim ((items s).blames i e len g) [
-              | inl a ↦ inl a
-              | inr (at, limited, where_) ↦ inr (
-                at,
-                limited,
-                (elim where_ [
-                  | inl known ↦ inl known
-                  | inr w ↦
-                      let v = w.viable in
-                      let whole = w.tokens ++ w.token ∷ v.0 in
-                      inr (record {
-                        tokens = w.tokens;
-                        token = w.token;
-                        rest = w.rest;
-                        parts = w.parts;
-                        there =
-                            w.there;
-                        viable = (v.0, v.1 ∷ [], (whole, [], sym (append-nil whole), v.2, refl));
-                      })
-                ]),
-              )
-            ]
+            | inl g ↦ blamed_as limit i i e ((items s).blames i e len g) (λ at k. inl k)
+                (λ at w. within_behind [] i i at refl w (λ l x q.
+                (x ∷ [], (l, [], sym (append-nil l), q, refl))))
             | inr x ↦
                 let a = (items s).takes i x.0.0 x.0.1 x.1 in
                 let some = full s a.tokens x.0.0 a.loose in
-                elim (many_blames n (next s x.0.0) x.0.1 e
+                let others = many_blames n (next s x.0.0) x.0.1 e
                 (shorter i.rest a.tokens x.0.1.rest fuel a.parts len)
                 (fewer i.rest a.tokens x.0.1.rest n a.parts some fits)
-                (many_worse tells begins next r n s x.0.0 x.0.1 e x.2)) [
-                  | inl b ↦ inl b
-                  | inr (at, limited, where_) ↦ inr (
-                    at,
-                    limited,
-                    (elim where_ [
-                      | inl known ↦ inl known
-                      | inr w ↦
-                          let v = w.viable in
-                          inr (record {
-                            tokens = a.tokens ++ w.tokens;
-                            token = w.token;
-                            rest = w.rest;
-                            parts = a.parts ∙ ap (λ l. a.tokens ++ l) w.parts
-                                ∙ sym (append_assoc a.tokens w.tokens (w.token ∷ w.rest));
-                            there = w.there;
-                            viable = (
-                              v.0,
-                              x.0.0 ∷ v.1,
-                              (
-                                a.tokens,
-                                w.tokens ++ w.token ∷ v.0,
-                                append_assoc a.tokens w.tokens (w.token ∷ v.0),
-                                a.loose,
-                                v.2,
-                              ),
-                            );
-                          })
-                    ]),
-                  )
-                ]
+                (many_worse tells begins next r n s x.0.0 x.0.1 e x.2) in
+                blamed_as limit i x.0.1 e others (λ at k. inl k)
+                (λ at w. within_behind a.tokens i x.0.1 at a.parts w (λ l xs q.
+                (x.0.0 ∷ xs, (a.tokens, l, refl, a.loose, q))))
           ]
       | inr none ↦ absurd (ok_not_err _ _ (sym (many_stop tells begins next r (suc n) s i none) ∙ h))
     ]

@@ -136,7 +136,7 @@ module _ {L : Type 0} where
       subst S whole (h s x (o ++ k) p (fits (o ++ k) (head_more o k (heads x o y q))))
 
 module _ {L F : Type 0} {tells : Tells L F} where
-  -- the first reader looks at the token behind it, with which the second phrase begins
+  -- the first reader looks at the token after it, with which the second phrase begins
   pub reads_up_to : {A B : Type 0} {fuel : ℕ} {C : L → Type 0} {P P' : Phrase L A} {Q Q' : A
       → Phrase L B} {S T : List L → Type 0} {r : Reader L F A} {f : A → Reader L F B}
       → Reads tells fuel P P' S r → ((a : A) → Reads tells fuel (Q a) (Q' a) T (f a))

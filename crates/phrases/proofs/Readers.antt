@@ -20,7 +20,7 @@ at_end rest end = record { rest = rest; end = end }
 abbrev pub Any : {L : Type 0} → List L → Type 0
 Any k = Unit {0}
 
--- tokens were taken from the front, and would be where another token list begins alike behind them
+-- tokens were taken from the front, and would be where another token list begins alike after them
 pub record Took {L F A : Type 0} (P P' : Phrase L A) (r : Reader L F A) (i : Input L) (x : A)
     (j : Input L) : Type 0 where
   pub tokens : List L
@@ -31,7 +31,7 @@ pub record Took {L F A : Type 0} (P P' : Phrase L A) (r : Reader L F A) (i : Inp
   pub same : (k : List L) (end : ℕ) → first j.rest ≡ first k → r (at_end (tokens ++ k) end)
       ≡ Ok (x, at_end k end)
 
--- behind these tokens, with which a text can begin, the next one was not expected, whatever is behind it
+-- after these tokens, with which a text can begin, the next one was not expected, whatever is after it
 pub record Failed {L F A : Type 0} (tells : Tells L F) (P' : Phrase L A) (r : Reader L F A) (i : Input L)
     (at : ℕ) : Type 0 where
   pub tokens : List L
@@ -52,6 +52,10 @@ pub record Reads {L F A : Type 0} (tells : Tells L F) (fuel : ℕ) (P P' : Phras
   pub some : (tokens : List L) × (x : A) × P' tokens x
 
 module _ {L : Type 0} where
+  -- tokens, and others after them, taken from the front
+  pub joined : {l j : List L} (s t k : List L) → l ≡ s ++ j → j ≡ t ++ k → l ≡ (s ++ t) ++ k
+  joined s t k e f = e ∙ ap (λ j. s ++ j) f ∙ sym (append_assoc s t k)
+
   pub first_behind : (s j k : List L) → first j ≡ first k → first (s ++ j) ≡ first (s ++ k)
   first_behind [] j k e = e
   first_behind (t ∷ s) j k e = refl
@@ -66,10 +70,6 @@ module _ {L : Type 0} where
       × (rest ≡ t ∷ k) × (m t ≡ Some a)) ⊎ (meant_in m rest ≡ None)
   by_tokens m [] = inr refl
   by_tokens m (t ∷ k) = by_option m t k (m t) refl
-
-  pub cases_next : {A : Type 0} (m : Meaning L A) (i : Input L) → ((t : L) × (a : A) × (k : List L)
-      × (i.rest ≡ t ∷ k) × (m t ≡ Some a)) ⊎ (next_means m i ≡ None)
-  cases_next m i = by_tokens m i.rest
 
   option_meaning : {A : Type 0} → Meaning L A → Option L → Option A
   option_meaning m None = None
@@ -112,6 +112,40 @@ module _ {L F : Type 0} where
   unfolding case_next
   case_none m f r i e = ap (λ o. going o f r i) e
 
+  pub cases_next : {A B : Type 0} (m : Meaning L A) (f : A → Reader L F B) (r : Reader L F B) (i : Input L)
+      → ((t : L) × (a : A) × (k : List L) × (i.rest ≡ t ∷ k) × (m t ≡ Some a)
+      × (case_next m f r i ≡ f a (at_end k i.end))) ⊎ ((next_means m i ≡ None) × (case_next m f r i ≡ r i))
+  cases_next m f r i = elim (by_tokens m i.rest) [
+    | inl (t, a, k, is, means) ↦ inl (
+      t,
+      a,
+      k,
+      is,
+      means,
+      ap (λ l. case_next m f r (at_end l i.end)) is ∙ case_some m f r t a k i.end means,
+    )
+    | inr none ↦ inr (none, case_none m f r i none)
+  ]
+
+module _ {L F : Type 0} (tells : Tells L F) where
+  not_ok : {A : Type 0} (i : Input L) (x : A) (j : Input L) → expected tells i ≡ Ok (x, j) → ⊥
+  not_ok i x j e = absurd cc
+
+  -- the token that is read
+  pub one_read : {A : Type 0} (m : Meaning L A) (i : Input L) (x : A) (j : Input L)
+      → one tells m i ≡ Ok (x, j) → (t : L) × (i.rest ≡ t ∷ j.rest) × (i.end ≡ j.end) × (m t ≡ Some x)
+  unfolding one
+  one_read m i x j e = elim (cases_next m done (expected tells) i) [
+    | inl (t, a, k, is, means, here) ↦
+        let both = ok_value a x (at_end k i.end) j (sym here ∙ e) in (
+          t,
+          is ∙ ap (λ (o : Input L). t ∷ o.rest) both.1,
+          ap (λ (o : Input L). o.end) both.1,
+          means ∙ ap (λ z. Some z) both.0,
+        )
+    | inr (none, here) ↦ absurd (not_ok i x j (sym here ∙ e))
+  ]
+
 not_true : IsTrue false → ⊥
 not_true h = absurd cc
 
@@ -138,7 +172,7 @@ module _ {L F : Type 0} {tells : Tells L F} where
         let b = (two x.0.0).takes x.0.1 y j x.2 in
         record {
           tokens = a.tokens ++ b.tokens;
-          parts = a.parts ∙ ap (λ l. a.tokens ++ l) b.parts ∙ sym (append_assoc a.tokens b.tokens j.rest);
+          parts = joined a.tokens b.tokens j.rest a.parts b.parts;
           ends = a.ends ∙ b.ends;
           spelled = (x.0.0, a.tokens, b.tokens, refl, a.spelled, b.spelled);
           loose = (x.0.0, a.tokens, b.tokens, refl, a.loose, b.loose);
@@ -178,7 +212,7 @@ module _ {L F : Type 0} {tells : Tells L F} where
           record {
             tokens = a.tokens ++ b.tokens;
             rest = b.rest;
-            parts = a.parts ∙ ap (λ l. a.tokens ++ l) b.parts ∙ sym (append_assoc a.tokens b.tokens b.rest);
+            parts = joined a.tokens b.tokens b.rest a.parts b.parts;
             there = b.there ∙ ap (λ n. place_in tells b.rest n) (sym a.ends);
             viable = (
               v.0,
@@ -243,10 +277,8 @@ module _ {L F : Type 0} {tells : Tells L F} where
           case_none m f r (at_end (tokens ++ k) end) (apart tokens y k x stop)
           ∙ other.again tokens y k end len x stop
     ];
-    takes = λ i y j e. elim (cases_next m i) [
-      | inl (t, a, k, is, means) ↦
-          let here : case_next m f r i ≡ f a (at_end k i.end) = ap (λ l. case_next m f r (at_end l i.end)) is
-          ∙ case_some m f r t a k i.end means in
+    takes = λ i y j e. elim (cases_next m f r i) [
+      | inl (t, a, k, is, means, here) ↦
           let b = (two a).takes (at_end k i.end) y j (sym here ∙ e) in
           record {
             tokens = t ∷ b.tokens;
@@ -256,8 +288,8 @@ module _ {L F : Type 0} {tells : Tells L F} where
             loose = inl (a, t ∷ [], b.tokens, refl, (t, refl, means), b.loose);
             same = λ l end h. case_some m f r t a (b.tokens ++ l) end means ∙ b.same l end h;
           }
-      | inr none ↦
-          let b = other.takes i y j (sym (case_none m f r i none) ∙ e) in
+      | inr (none, here) ↦
+          let b = other.takes i y j (sym here ∙ e) in
           record {
             tokens = b.tokens;
             parts = b.parts;
@@ -270,10 +302,8 @@ module _ {L F : Type 0} {tells : Tells L F} where
                 (sym (meant_alike m i.rest (b.tokens ++ l) alike) ∙ none) ∙ b.same l end h;
           }
     ];
-    fails = λ i at e. elim (cases_next m i) [
-      | inl (t, a, k, is, means) ↦
-          let here : case_next m f r i ≡ f a (at_end k i.end) = ap (λ l. case_next m f r (at_end l i.end)) is
-          ∙ case_some m f r t a k i.end means in
+    fails = λ i at e. elim (cases_next m f r i) [
+      | inl (t, a, k, is, means, here) ↦
           let b = (two a).fails (at_end k i.end) at (sym here ∙ e) in
           let v = b.viable in
           record {
@@ -284,8 +314,8 @@ module _ {L F : Type 0} {tells : Tells L F} where
             viable = (v.0, v.1, inl (a, t ∷ [], b.tokens ++ v.0, refl, (t, refl, means), v.2));
             same = λ l end h. case_some m f r t a (b.tokens ++ l) end means ∙ b.same l end h;
           }
-      | inr none ↦
-          let b = other.fails i at (sym (case_none m f r i none) ∙ e) in
+      | inr (none, here) ↦
+          let b = other.fails i at (sym here ∙ e) in
           let v = b.viable in
           record {
             tokens = b.tokens;
@@ -300,48 +330,6 @@ module _ {L F : Type 0} {tells : Tells L F} where
           }
     ];
   }
-
-  -- a test before what follows; where limits are passed over it holds
-  pub reads_holds : {B : Type 0} {fuel : ℕ} {Q Q' : Unit {0} → Phrase L B} {S : List L → Type 0}
-      (f : Unit {0} → Reader L F B) (b b' : Bool) (fault : F)
-      → ((at : ℕ) → fault ≡ tells.expected at → ⊥) → IsTrue b'
-      → Reads tells fuel (Q tt) (Q' tt) S (f tt)
-      → Reads tells fuel (then (where_true b) Q) (then (where_true b') Q') S (holds b fault >>= f)
-  reads_holds f false b' fault never up more = record {
-    some = let v = more.some in (v.0, v.1, (tt, [], v.0, refl, (refl, up), v.2));
-    again = λ tokens y k end len (a, s, t, e, p, q) stop. absurd (not_true p.1);
-    takes = λ i y j e. absurd cc;
-    fails = λ i at e. absurd (never at (let same : fault ≡ tells.expected at = cc in same));
-  }
-  reads_holds {Q = Q} f true b' fault never up more =
-      let h = more in
-      record {
-        some = let v = h.some in (v.0, v.1, (tt, [], v.0, refl, (refl, up), v.2));
-        again = λ tokens y k end len (a, s, t, e, p, q) stop.
-            let same : tokens ≡ t = e ∙ ap (λ l. l ++ t) p.0 in
-            h.again tokens y k end len (subst (λ l. Q tt l y) (sym same) q) stop;
-        takes = λ i y j e.
-            let b = h.takes i y j e in
-            record {
-              tokens = b.tokens;
-              parts = b.parts;
-              ends = b.ends;
-              spelled = (tt, [], b.tokens, refl, (refl, refl), b.spelled);
-              loose = (tt, [], b.tokens, refl, (refl, up), b.loose);
-              same = b.same;
-            };
-        fails = λ i at e.
-            let b = h.fails i at e in
-            let v = b.viable in
-            record {
-              tokens = b.tokens;
-              rest = b.rest;
-              parts = b.parts;
-              there = b.there;
-              viable = (v.0, v.1, (tt, [], b.tokens ++ v.0, refl, (refl, up), v.2));
-              same = b.same;
-            };
-      }
 
   -- the same in other words
   pub reads_as : {A : Type 0} {fuel : ℕ} {P P' Q Q' : Phrase L A} {S T : List L → Type 0} {r : Reader L F A}
@@ -374,6 +362,24 @@ module _ {L F : Type 0} {tells : Tells L F} where
         };
   }
 
+  -- a test before what follows; where limits are passed over it holds
+  pub reads_holds : {B : Type 0} {fuel : ℕ} {Q Q' : Unit {0} → Phrase L B} {S : List L → Type 0}
+      (f : Unit {0} → Reader L F B) (b b' : Bool) (fault : F)
+      → ((at : ℕ) → fault ≡ tells.expected at → ⊥) → IsTrue b'
+      → Reads tells fuel (Q tt) (Q' tt) S (f tt)
+      → Reads tells fuel (then (where_true b) Q) (then (where_true b') Q') S (holds b fault >>= f)
+  reads_holds f false b' fault never up more = record {
+    some = let v = more.some in (v.0, v.1, (tt, [], v.0, refl, (refl, up), v.2));
+    again = λ tokens y k end len (a, s, t, e, p, q) stop. absurd (not_true p.1);
+    takes = λ i y j e. absurd cc;
+    fails = λ i at e. absurd (never at (let same : fault ≡ tells.expected at = cc in same));
+  }
+  reads_holds {Q = Q} f true b' fault never up more =
+      reads_as more
+      (λ l y (a, s, k, e, p, q). let same : l ≡ k = e ∙ ap (λ o. o ++ k) p.0 in
+      subst (λ o. Q tt o y) (sym same) q) (λ l y q. (tt, [], l, refl, (refl, refl), q))
+      (λ l y q. (tt, [], l, refl, (refl, up), q)) (λ k s. s)
+
   -- the same before fewer tokens
   pub reads_before : {A : Type 0} {fuel : ℕ} {P P' : Phrase L A} {S T : List L → Type 0} {r : Reader L F A}
       → Reads tells fuel P P' S r → ((k : List L) → T k → S k) → Reads tells fuel P P' T r
@@ -383,9 +389,6 @@ module _ {L F : Type 0} {tells : Tells L F} (distinct : Distinct tells) where
   not_err : {A : Type 0} (x : A) (j : Input L) (at : ℕ) → (let r : Result (A × Input L) F = Ok (x, j) in r)
       ≡ Err (tells.expected at) → ⊥
   not_err x j at e = absurd cc
-
-  not_ok : {A : Type 0} (i : Input L) (x : A) (j : Input L) → expected tells i ≡ Ok (x, j) → ⊥
-  not_ok i x j e = absurd cc
 
   same_place : {A : Type 0} (i : Input L) (at : ℕ) → (let r : Result (A × Input L) F =
       Err (tells.expected (place tells i)) in r) ≡ Err (tells.expected at) → place tells i ≡ at
@@ -402,35 +405,24 @@ module _ {L F : Type 0} {tells : Tells L F} (distinct : Distinct tells) where
     again = λ tokens x k end len (u, is, means) stop.
         ap (λ l. case_next m done (expected tells) (at_end (l ++ k) end)) is
         ∙ case_some m done (expected tells) u x k end means;
-    takes = λ i x j e. elim (cases_next m i) [
-      | inl (u, b, k, is, means) ↦
-          let here : case_next m done (expected tells) i ≡ Ok (b, at_end k i.end) =
-          ap (λ l. case_next m done (expected tells) (at_end l i.end)) is
-          ∙ case_some m done (expected tells) u b k i.end means in
-          let both = ok_value b x (at_end k i.end) j (sym here ∙ e) in
-          let same : m u ≡ Some x = means ∙ ap (λ z. Some z) both.0 in
-          record {
-            tokens = u ∷ [];
-            parts = is ∙ ap (λ (o : Input L). u ∷ o.rest) both.1;
-            ends = ap (λ (o : Input L). o.end) both.1;
-            spelled = (u, refl, same);
-            loose = (u, refl, same);
-            same = λ l end h. case_some m done (expected tells) u x l end same;
-          }
-      | inr none ↦ absurd (not_ok i x j (sym (case_none m done (expected tells) i none) ∙ e))
-    ];
-    fails = λ i at e. elim (cases_next m i) [
-      | inl (u, b, k, is, means) ↦
-          let here : case_next m done (expected tells) i ≡ Ok (b, at_end k i.end) =
-          ap (λ l. case_next m done (expected tells) (at_end l i.end)) is
-          ∙ case_some m done (expected tells) u b k i.end means in
-          absurd (not_err b (at_end k i.end) at (sym here ∙ e))
-      | inr none ↦
+    takes = λ i x j e.
+        let (u, is, ends, means) = one_read tells m i x j e in
+        record {
+          tokens = u ∷ [];
+          parts = is;
+          ends = ends;
+          spelled = (u, refl, means);
+          loose = (u, refl, means);
+          same = λ l end h. case_some m done (expected tells) u x l end means;
+        };
+    fails = λ i at e. elim (cases_next m done (expected tells) i) [
+      | inl (u, b, k, is, means, here) ↦ absurd (not_err b (at_end k i.end) at (sym here ∙ e))
+      | inr (none, here) ↦
           record {
             tokens = [];
             rest = i.rest;
             parts = refl;
-            there = sym (same_place i at (sym (case_none m done (expected tells) i none) ∙ e));
+            there = sym (same_place i at (sym here ∙ e));
             viable = (t ∷ [], a, (t, refl, example));
             same = λ l end h. case_none m done (expected tells) (at_end l end)
                 (sym (meant_alike m i.rest l h) ∙ none);
@@ -444,7 +436,7 @@ module _ {L F : Type 0} {tells : Tells L F} (distinct : Distinct tells) where
   reads_none some = record {
     some = some;
     again = λ tokens x k end len p stop. absurd p;
-    takes = λ i x j e. absurd (not_ok i x j e);
+    takes = λ i x j e. absurd (not_ok tells i x j e);
     fails = λ i at e. record {
       tokens = [];
       rest = i.rest;

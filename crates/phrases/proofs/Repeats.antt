@@ -9,7 +9,7 @@ use Rattle.phrases.specs.Phrase.{Meaning, Phrase}
 use Rattle.phrases.specs.Reading.{Input, Tells, place_in, Reader, first, meant_in, next_means, place}
 use Rattle.phrases.specs.Reading.{is_there, many}
 use Rattle.phrases.proofs.Readers.{Distinct, at_end, Took, Failed, Reads, goes_on_ok, goes_on_err, ok_value}
-use Rattle.phrases.proofs.Readers.{first_behind, meant_alike}
+use Rattle.phrases.proofs.Readers.{first_behind, joined, meant_alike}
 
 module _ {L : Type 0} where
   -- the next token begins an item
@@ -64,13 +64,23 @@ module _ {L F : Type 0} (tells : Tells L F) {S A B : Type 0} (begins : Meaning L
   unfolding more_behind
   many_more n s x xs i j e = ap (λ q. goes_on q (λ ys. done (x ∷ ys))) e
 
-  pub many_less : (n : ℕ) (s : S) (x : A) (ys : List A) (i j : Input L) → more_behind n s x i ≡ Ok (ys, j)
+  many_less : (n : ℕ) (s : S) (x : A) (ys : List A) (i j : Input L) → more_behind n s x i ≡ Ok (ys, j)
       → (xs : List A) × (many tells n begins next r (next s x) i ≡ Ok (xs, j)) × (x ∷ xs ≡ ys)
   unfolding more_behind
   many_less n s x ys i j e =
       let y = goes_on_ok (many tells n begins next r (next s x) i) (λ xs. done (x ∷ xs)) (ys, j) e in
       let v = ok_value (x ∷ y.0.0) ys y.0.1 j y.2 in
       (y.0.0, y.1 ∙ ap (λ k. Ok (y.0.0, k)) v.1, v.0)
+
+  -- an item was read, and others after it
+  pub many_round : (n : ℕ) (s : S) (i : Input L) (xs : List A) (j : Input L) → Begins begins i.rest
+      → many tells (suc n) begins next r s i ≡ Ok (xs, j)
+      → (x : A) × (k : Input L) × (ys : List A) × (r s i ≡ Ok (x, k))
+      × (many tells n begins next r (next s x) k ≡ Ok (ys, j)) × (x ∷ ys ≡ xs)
+  many_round n s i xs j there e =
+      let x = goes_on_ok (r s i) (more_behind n s) (xs, j) (sym (many_go n s i there) ∙ e) in
+      let y = many_less n s x.0.0 xs x.0.1 j x.2 in
+      (x.0.0, x.0.1, y.0, x.1, y.1, y.2)
 
   pub many_worse : (n : ℕ) (s : S) (x : A) (i : Input L) (e : F) → more_behind n s x i ≡ Err e
       → many tells n begins next r (next s x) i ≡ Err e
@@ -157,23 +167,21 @@ module _ {L F : Type 0} {tells : Tells L F} (distinct : Distinct tells) where
     ]
     many_takes (suc n) s i xs j e = elim (cases_Bool (is_there (next_means begins i))) [
       | inl there ↦
-          let x = goes_on_ok (r s i) (more_behind tells begins next r n s) (xs, j)
-          (sym (many_go tells begins next r n s i there) ∙ e) in
-          let a = (items s).takes i x.0.0 x.0.1 x.1 in
-          let y = many_less tells begins next r n s x.0.0 xs x.0.1 j x.2 in
-          let b = many_takes n (next s x.0.0) x.0.1 y.0 j y.1 in
+          let (x, l, ys, one, others, whole) = many_round tells begins next r n s i xs j there e in
+          let a = (items s).takes i x l one in
+          let b = many_takes n (next s x) l ys j others in
           record {
             tokens = a.tokens ++ b.tokens;
-            parts = a.parts ∙ ap (λ l. a.tokens ++ l) b.parts ∙ sym (append_assoc a.tokens b.tokens j.rest);
+            parts = joined a.tokens b.tokens j.rest a.parts b.parts;
             ends = a.ends ∙ b.ends;
-            spelled = subst (λ ys. phrases.many next p s (a.tokens ++ b.tokens) ys) y.2 (
+            spelled = subst (λ zs. phrases.many next p s (a.tokens ++ b.tokens) zs) whole (
               a.tokens,
               b.tokens,
               refl,
               a.spelled,
               b.spelled,
             );
-            loose = subst (λ ys. phrases.many next p' s (a.tokens ++ b.tokens) ys) y.2 (
+            loose = subst (λ zs. phrases.many next p' s (a.tokens ++ b.tokens) zs) whole (
               a.tokens,
               b.tokens,
               refl,
@@ -184,11 +192,11 @@ module _ {L F : Type 0} {tells : Tells L F} (distinct : Distinct tells) where
                 let alike = ap first b.parts ∙ first_behind b.tokens j.rest k h in
                 ap (λ l. many tells (suc n) begins next r s (at_end l end)) (append_assoc a.tokens b.tokens k)
                 ∙ many_go tells begins next r n s (at_end (a.tokens ++ (b.tokens ++ k)) end)
-                (starts s a.tokens x.0.0 (b.tokens ++ k) a.spelled)
+                (starts s a.tokens x (b.tokens ++ k) a.spelled)
                 ∙ ap (λ z. goes_on z (more_behind tells begins next r n s)) (a.same (b.tokens ++ k) end alike)
-                ∙ many_more tells begins next r n s x.0.0 y.0 (at_end (b.tokens ++ k) end) (at_end k end)
+                ∙ many_more tells begins next r n s x ys (at_end (b.tokens ++ k) end) (at_end k end)
                 (b.same k end h)
-                ∙ ap (λ ys. Ok (ys, at_end k end)) y.2;
+                ∙ ap (λ zs. Ok (zs, at_end k end)) whole;
           }
       | inr none ↦ none_taken (suc n) s i xs j none e
     ]
@@ -239,8 +247,7 @@ module _ {L F : Type 0} {tells : Tells L F} (distinct : Distinct tells) where
                 record {
                   tokens = a.tokens ++ b.tokens;
                   rest = b.rest;
-                  parts = a.parts ∙ ap (λ l. a.tokens ++ l) b.parts
-                      ∙ sym (append_assoc a.tokens b.tokens b.rest);
+                  parts = joined a.tokens b.tokens b.rest a.parts b.parts;
                   there = b.there ∙ ap (λ m. place_in tells b.rest m) (sym a.ends);
                   viable = (
                     v.0,

@@ -39,7 +39,7 @@ next_means meaning i = meant_in meaning i.rest
 abbrev pub behind : {L : Type 0} → Input L → Input L
 behind i = record { rest = behind_in i.rest; end = i.end }
 
--- how it goes on behind the next token where that means something, else how it goes on at it
+-- how it goes on after the next token where that means something, else how it goes on at it
 abbrev pub going : {L F A B : Type 0} → Option A → (A → Reader L F B) → Reader L F B → Reader L F B
 going (Some x) f r i = f x (behind i)
 going None f r i = r i

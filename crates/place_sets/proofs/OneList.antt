@@ -10,7 +10,7 @@ module _ {X L : Type 0} (base end : X → ℕ) (label : X → L) where
   said [] a = None
   said (x ∷ xs) a = if nat_le (base x) a && nat_le a (end x) then Some (label x) else said xs a
 
-  -- the next span is behind this one, with another label where they meet
+  -- the next span is after this one, with another label where they meet
   abbrev pub Next : X → List X → Type 0
   Next x [] = Unit {0}
   Next x (y ∷ ys) = (end x < base y) × (end x + 1 ≡ base y → label x ≡ label y → ⊥)

@@ -35,7 +35,7 @@ impl Model for PlaceSet {
     ghost invariant = { λ s. IsSet s.next.items };
 }
 
-// The places from base to last lead behind last.
+// The places from base to last lead after last.
 fn fill(next: &mut [u32], base: u32, last: u32)
     requires some { base ≤ last }
     requires inside { last < length next.old }

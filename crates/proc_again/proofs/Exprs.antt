@@ -94,7 +94,7 @@ var_again at x fit room fits f =
 pub renamed : (x y : Name) → IsNamed x y → unplaced_name y ≡ unplaced_name x
 renamed x y same = ap (λ text. let z : Name = record { text = text; at = 0 } in z) same
 
--- behind its opening bracket
+-- after its opening bracket
 pub index_again : (e : Expr) → ExprAgain e → (room : ℕ) → nesting e + 1 ≤ room
     → Again (index plain_trees true room (inner_expr plain_trees true room))
     (expr_pieces e ++ a_sign (codes "]") ∷ []) (AlikeE e)
@@ -166,7 +166,7 @@ behind_proc f args room used others (Value x) same = absurd same
 behind_proc f args room used others (Proc g) same =
     good (λ xs alike. λ i. proc (renamed f g same i) (alike i)) others
 
--- arguments behind others, which use so many registers
+-- arguments after others, which use so many registers
 more_again : (args : Args) → AllAgain args → ArgsFit args → (room : ℕ) → args_nesting args + 1 ≤ room
     → (used : ℕ) → used + arg_registers args ≤ 4
     → Again (many_args room used) (more_pieces args) (AlikeA args)
@@ -181,7 +181,7 @@ more_again (proc f args) again fits room h used few =
     (λ _ _. proc_again f fits.0 room used (omega arith)))
     (behind_proc f args room used (more_again args again fits.1 room h (used + 2) (omega arith)))
 
--- behind its opening bracket
+-- after its opening bracket
 pub args_again : (args_given : Args) → AllAgain args_given → ArgsFit args_given → (room : ℕ)
     → args_nesting args_given + 1 ≤ room → arg_registers args_given ≤ 4
     → Again (args plain_trees true room (inner_expr plain_trees true room))

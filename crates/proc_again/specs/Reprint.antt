@@ -29,11 +29,11 @@ abbrev pub closes : TokenKind → Bool
 closes (Sign s) = (s == end_round) || (s == end_square) || (s == end_curly)
 closes _ = false
 
--- how many brackets are open behind a token
+-- how many brackets are open after a token
 abbrev pub open_behind : TokenKind → ℕ → ℕ
 open_behind kind n = if opens kind then n + 1 else if closes kind then n - 1 else n
 
--- behind so many open brackets no bracket is opened inside too many
+-- after so many open brackets no bracket is opened inside too many
 abbrev pub IsShallow : ℕ → List Lexeme → Type 0
 IsShallow n [] = Unit {0}
 IsShallow n (t ∷ tokens) = (IsTrue (opens t.kind) → n < MOST_BRACKETS)

@@ -1,17 +1,17 @@
--- A jump that is led elsewhere changes its own word and nothing behind it.
+-- A jump that is led elsewhere changes its own word and nothing after it.
 use Rattle.std.proofs.Common.{◌≡◌, ℕ, ◌+◌, ◌-◌, ℤ, List, [], ◌∷◌, ◌++◌, length, map, refl, sym, ap, ◌∙◌}
 use Rattle.std.proofs.Common.{append_assoc, length-append, arith}
 use Rattle.std.specs.Prelude.{slice_set}
-use Rattle.std.proofs.lemmas.List.{set-append_right}
+use Rattle.std.proofs.lemmas.List.{length-set, set-append_right}
 use Rattle.cap_words.specs.declared.Word.{Word}
 use Rattle.lcm_isa.specs.declared.Reg.TheVariants.{T2}
 use Rattle.lcm_isa.specs.declared.Operand.TheVariants.{Imm}
 use Rattle.lcm_isa.specs.declared.Instr.TheVariants.{Cca, Jmp}
 use Rattle.proc_templates.specs.Items.{Spot, Item, goes, Laid, instrs, leading, word_of, sites_with}
 use Rattle.proc_templates.specs.Items.{entries_with, labels_with, put, lay}
-use Rattle.proc_compiler.specs.Drafts.{Drafted, with_items, with_code, Aimed}
+use Rattle.proc_compiler.specs.Drafts.{Drafted, with_items, with_code, Aims}
 
--- the same words behind others of the same number, and the same beside the code
+-- the same words after others of the same number, and the same beside the code
 record Alike (a b : List Word) (l k : Laid) : Type 0 where
   behind : List Word
   left : l.code ≡ a ++ behind
@@ -62,7 +62,7 @@ jump_words far = map word_of (leading far (Jmp T2))
 aim_word : ℤ → Word
 aim_word far = word_of (Cca T2 (Imm far))
 
--- the second word of a jump behind others
+-- the second word of a jump after others
 second_set : (c w : List Word) (at : ℕ) (before far : ℤ) → length c ≡ at
     → slice_set ((c ++ jump_words before) ++ w) (at + 1) (aim_word far) ≡ (c ++ jump_words far) ++ w
 unfolding jump_words aim_word
@@ -73,9 +73,10 @@ second_set c w at before far n =
     ∙ ap (λ j. c ++ slice_set (jump_words before ++ w) j (aim_word far)) k
     ∙ sym (append_assoc c (jump_words far) w)
 
-pub aimed : (at : ℕ) (far : ℤ) (old new : Drafted)
+aimed : (at : ℕ) (far : ℤ) (old new : Drafted)
     → new ≡ with_code (slice_set old.laid.code (at + 1) (word_of (Cca T2 (Imm far)))) old
-    → Aimed at far old new
+    → (d : Drafted) (before : ℤ) (xs : List Item) → length d.laid.code ≡ at
+    → old ≡ with_items (goes before ∷ xs) d → new ≡ with_items (goes far ∷ xs) d
 unfolding with_items put instrs jump_words aim_word
 aimed at far old new changed d before xs there is =
     let l : Laid = put d.spot d.laid (goes before) in
@@ -98,3 +99,14 @@ aimed at far old new changed d before xs there is =
     changed ∙ ap (λ (o : Drafted). with_code (slice_set o.laid.code (at + 1) (aim_word far)) o) is
     ∙ ap (λ (x : Laid). record { laid = x; spot = d.spot; first = d.first; seals = d.seals })
     (laid_same _ (lay d.spot k xs) code h.sites h.entries h.labels)
+
+pub aims : (at : ℕ) (far : ℤ) (old new : Drafted)
+    → new ≡ with_code (slice_set old.laid.code (at + 1) (word_of (Cca T2 (Imm far)))) old
+    → Aims at far old new
+aims at far old new changed = record {
+  aimed = aimed at far old new changed;
+  grown = ap (λ (d : Drafted). length d.laid.code) changed
+      ∙ length-set old.laid.code (at + 1) (word_of (Cca T2 (Imm far)));
+  sited = ap (λ (d : Drafted). d.laid.sites) changed;
+  kept = ap (λ (d : Drafted). d.seals) changed;
+}

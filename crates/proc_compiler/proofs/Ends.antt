@@ -1,12 +1,18 @@
--- The end of a procedure, piece by piece.
-use Rattle.std.proofs.Common.{◌≡◌, ℕ, ◌-◌, List, [], ◌∷◌, ◌++◌, map, ap, ◌∙◌, append_assoc}
+-- Items that are written word by word, and the end of a procedure.
+use Rattle.std.proofs.Common.{◌≡◌, ℕ, ◌+◌, ◌-◌, ◌*◌, ◌≤◌, ℤ, List, [], ◌∷◌, ◌++◌, length, map, refl, ap, ◌∙◌}
+use Rattle.std.proofs.Common.{append_assoc, arith}
 use Rattle.cap_words.specs.declared.Word.{Word}
-use Rattle.lcm_isa.specs.declared.Reg.TheVariants.{Rcode, Rdata, T1, T2, C1, C2, A1, A2, A3, G0, G1, G2}
-use Rattle.lcm_isa.specs.declared.Instr.TheVariants.{Xjmp}
-use Rattle.proc_templates.specs.Items.{does, leaves, zero_of, word_of, instrs, put}
-use Rattle.proc_templates.specs.Templates.{wipe, take_back, epilogue}
-use Rattle.proc_compiler.specs.Drafts.{Drafted, with_items, with_words}
-use Rattle.proc_compiler.proofs.Written.{then}
+use Rattle.lcm_isa.specs.declared.Reg.{Reg}
+use Rattle.lcm_isa.specs.declared.Reg.TheVariants.{Pc, Rcode, Rdata, T1, T2, C1, C2, A1, A2, A3, G0, G1, G2}
+use Rattle.lcm_isa.specs.declared.Operand.TheVariants.{R, Imm}
+use Rattle.lcm_isa.specs.declared.Instr.TheVariants.{Move, Cca, Xjmp}
+use Rattle.call_sequence.specs.declared.TheConstants.{RETURN_WORDS}
+use Rattle.call_sequence.specs.Sequences.{distance}
+use Rattle.proc_templates.specs.Items.{does, guards, leaves, FAIL_AT, zero_of, word_of, instrs, put}
+use Rattle.proc_templates.specs.Templates.{check_half, wipe, take_back, epilogue}
+use Rattle.proc_compiler.specs.declared.counts.TheConstants.{CALLBACK_WORDS, EPILOGUE_WORDS}
+use Rattle.proc_compiler.specs.Drafts.{Drafted, with_items, with_words, Emits}
+use Rattle.proc_compiler.proofs.Emitted.{then, counted, single}
 
 words_then : (a b : List Word) (d : Drafted) → with_words b (with_words a d) ≡ with_words (a ++ b) d
 words_then a b d = ap (λ ws. record
@@ -17,25 +23,40 @@ words_both : (a b : List Word) (d e f : Drafted) → e ≡ with_words a d → f 
     → f ≡ with_words (a ++ b) d
 words_both a b d e f g h = h ∙ ap (with_words b) g ∙ words_then a b d
 
+pub pair_written : {far : ℤ} {d0 d1 d2 d3 d4 d5 : Drafted} (r q : Reg)
+    → far ≡ distance (length d0.laid.code) FAIL_AT
+    → d1 ≡ with_words (word_of (Move T2 (R Pc)) ∷ []) d0
+    → d2 ≡ with_words (word_of (Cca T2 (Imm far)) ∷ []) d1 → d3 ≡ with_words (map word_of (check_half r)) d2
+    → d4 ≡ with_words (map word_of (check_half q)) d3 → d5 ≡ with_words (word_of (zero_of T2) ∷ []) d4
+    → Emits (guards (check_half r ++ check_half q) ∷ []) CALLBACK_WORDS 0 d0 d5
+unfolding put instrs with_items
+pair_written {far = far} {d0 = d0} {d1 = d1} {d2 = d2} {d3 = d3} {d4 = d4} {d5 = d5} r q is h1 h2 h3 h4 h5 =
+    let x = word_of (zero_of T2) ∷ [] in
+    let b = map word_of (check_half q) ++ x in
+    let a = map word_of (check_half r) ++ b in
+    single (guards (check_half r ++ check_half q)) CALLBACK_WORDS d0 d5 (λ o. omega arith) (λ o. refl)
+    (words_both (word_of (Move T2 (R Pc)) ∷ []) (word_of (Cca T2 (Imm far)) ∷ a) d0 d1 d5 h1
+    (words_both (word_of (Cca T2 (Imm far)) ∷ []) a d1 d2 d5 h2
+    (words_both (map word_of (check_half r)) b d2 d3 d5 h3
+    (words_both (map word_of (check_half q)) x d3 d4 d5 h4 h5)))
+    ∙ ap (λ z. with_words (word_of (Move T2 (R Pc)) ∷ word_of (Cca T2 (Imm z)) ∷ a) d0) is)
+
 pub leave_written : (d0 d1 d2 d3 d4 : Drafted) → d1 ≡ with_words (word_of (zero_of T2) ∷ []) d0
     → d2 ≡ with_words (map word_of (map zero_of (C1 ∷ C2 ∷ A1 ∷ A2 ∷ []))) d1
     → d3 ≡ with_words (map word_of (map zero_of (A3 ∷ G0 ∷ G1 ∷ G2 ∷ []))) d2
-    → d4 ≡ with_words (word_of (Xjmp Rcode Rdata) ∷ []) d3 → d4 ≡ with_items (leaves ∷ []) d0
+    → d4 ≡ with_words (word_of (Xjmp Rcode Rdata) ∷ []) d3 → Emits (leaves ∷ []) RETURN_WORDS 0 d0 d4
 unfolding put instrs with_items
 leave_written d0 d1 d2 d3 d4 h1 h2 h3 h4 =
     let x = word_of (Xjmp Rcode Rdata) ∷ [] in
     let b = map word_of (map zero_of (A3 ∷ G0 ∷ G1 ∷ G2 ∷ [])) in
     let a = map word_of (map zero_of (C1 ∷ C2 ∷ A1 ∷ A2 ∷ [])) in
-    words_both (word_of (zero_of T2) ∷ []) (a ++ (b ++ x)) d0 d1 d4 h1
-    (words_both a (b ++ x) d1 d2 d4 h2 (words_both b x d2 d3 d4 h3 h4))
+    single leaves RETURN_WORDS d0 d4 (λ o. refl) (λ o. refl)
+    (words_both (word_of (zero_of T2) ∷ []) (a ++ (b ++ x)) d0 d1 d4 h1
+    (words_both a (b ++ x) d1 d2 d4 h2 (words_both b x d2 d3 d4 h3 h4)))
 
-pub epilogue_written : (w : ℕ) (d0 d1 d2 d3 d4 d5 : Drafted) → d1 ≡ with_items (does (zero_of T1) ∷ []) d0
-    → d2 ≡ with_items (wipe (w - 2)) d1
-    → d3 ≡ with_items (take_back Rdata) d2 → d4 ≡ with_items (take_back Rcode) d3
-    → d5 ≡ with_items (leaves ∷ []) d4 → d5 ≡ with_items (epilogue w) d0
-epilogue_written w d0 d1 d2 d3 d4 d5 h1 h2 h3 h4 h5 =
-    then (does (zero_of T1) ∷ []) (wipe (w - 2) ++ (take_back Rdata ++ (take_back Rcode ++ (leaves ∷ [])))) d0
-    d1 d5 h1
-    (then (wipe (w - 2)) (take_back Rdata ++ (take_back Rcode ++ (leaves ∷ []))) d1 d2 d5 h2
-    (then (take_back Rdata) (take_back Rcode ++ (leaves ∷ [])) d2 d3 d5 h3
-    (then (take_back Rcode) (leaves ∷ []) d3 d4 d5 h4 h5)))
+pub epilogue_written : {d0 d1 d2 d3 d4 d5 : Drafted} (w : ℕ) → 2 ≤ w
+    → Emits (does (zero_of T1) ∷ []) 1 0 d0 d1 → Emits (wipe (w - 2)) (2 * (w - 2)) 0 d1 d2
+    → Emits (take_back Rdata) 3 0 d2 d3 → Emits (take_back Rcode) 3 0 d3 d4
+    → Emits (leaves ∷ []) RETURN_WORDS 0 d4 d5 → Emits (epilogue w) (2 * w + EPILOGUE_WORDS) 0 d0 d5
+epilogue_written w least first slots rdata rcode last =
+    counted (omega (arith, least)) (omega arith) (then first (then slots (then rdata (then rcode last))))

@@ -1,4 +1,5 @@
 pub mod Written
+pub mod Emitted
 pub mod Aimed
 pub mod Ends
 pub mod Branches

@@ -11,19 +11,20 @@ use Rattle.proc_names.specs.NameFaults.{name_faults}
 use Rattle.proc_program.specs.declared.program.Procedure.{Procedure}
 use Rattle.proc_program.specs.declared.program.Program.{Program}
 use Rattle.proc_program.specs.StepView.{block_of}
-use Rattle.proc_program.specs.Calls.{part_calls}
+use Rattle.proc_program.specs.Calls.{part_calls, procedure_calls}
 use Rattle.proc_program.specs.Limits.{scope_of, ProcedureFits, IsPart}
 use Rattle.proc_program.specs.Lower.{part_of}
 use Rattle.proc_program.proofs.Offers.{part_fits, calls_kept}
 use Rattle.proc_templates.specs.declared.FrameShape.{FrameShape}
 use Rattle.proc_templates.specs.Items.{Spot, lay}
-use Rattle.proc_templates.specs.Templates.{before_epilogue, proc_code}
+use Rattle.proc_templates.specs.Templates.{before_epilogue, proc_code, proc_words}
 use Rattle.proc_templates.specs.Compiled.{frame_of, size_of_proc, lay_proc, code_words, data_count}
 use Rattle.proc_templates.specs.Compiled.{component_of}
 use Rattle.proc_templates.specs.Bounds.{BlockBound}
 use Rattle.proc_templates.specs.Kept.{FitsComponent, NamesDiffer, KeepsOwnRules}
 use Rattle.proc_templates.proofs.Offers.{names_differ, block_bound, keeps_flow, keeps_own, limits_kept}
-use Rattle.proc_compiler.specs.Drafts.{Drafted, with_items, at_spot}
+use Rattle.proc_compiler.specs.declared.counts.TheConstants.{EPILOGUE_WORDS}
+use Rattle.proc_compiler.specs.Drafts.{Drafted, with_items, at_spot, Emits, EmitsProc}
 use Rattle.proc_compiler.specs.Fault.{CompilesWith, CausesWith, Compiles, Causes}
 use Rattle.proc_compiler.specs.declared.fault.CompileFault.{CompileFault}
 
@@ -47,7 +48,7 @@ temps_le m p f e fits = let g = fits.frame in subst (λ (h : FrameShape). h.temp
 -- the epilogue stands before the last words
 pub epilogue_at : (m : Program) (p : Procedure) (w : ℕ) → w ≡ p.need
     → before_epilogue (frame_of m p) p.callbacks (block_of p.body)
-    ≡ size_of_proc p - (2 * w + 13)
+    ≡ size_of_proc p - (2 * w + EPILOGUE_WORDS)
 unfolding before_epilogue frame_of
 epilogue_at m p w e = omega (arith, e)
 
@@ -55,23 +56,23 @@ pub proc_written : (m : Program) (p : Procedure) (f : FrameShape) (s : Spot) (d0
     ≡ frame_of m p
     → s.stack_base ≡ m.stack
     → s.epilogue ≡ length d0.laid.code + before_epilogue (frame_of m p) p.callbacks (block_of p.body)
-    → d1 ≡ with_items (proc_code f p.callbacks (block_of p.body)) (at_spot s d0)
-    → d1.laid ≡ lay_proc m d0.laid p
+    → Emits (proc_code f p.callbacks (block_of p.body)) (proc_words f.words p.callbacks (block_of p.body))
+    (procedure_calls p) (at_spot s d0) d1 → EmitsProc m p d0 d1
 unfolding with_items lay_proc
 proc_written m p f s d0 d1 hf hs he h =
     let body = block_of p.body in
     let code = proc_code (frame_of m p) p.callbacks body in
-    ap (λ (d : Drafted). d.laid) h
-    ∙ ap (λ (g : FrameShape). lay s d0.laid (proc_code g p.callbacks body)) hf
-    ∙ ap (λ n. lay (record { stack_base = n; epilogue = s.epilogue }) d0.laid code) hs
-    ∙ ap (λ n. lay (record { stack_base = m.stack; epilogue = n }) d0.laid code) he
-
-pub spot_kept : (m : Program) (p : Procedure) (f : FrameShape) (s : Spot) (d0 d1 : Drafted) → s.stack_base
-    ≡ m.stack
-    → d1 ≡ with_items (proc_code f p.callbacks (block_of p.body)) (at_spot s d0)
-    → d1.spot.stack_base ≡ m.stack
-unfolding with_items
-spot_kept m p f s d0 d1 hs h = ap (λ (d : Drafted). d.spot.stack_base) h ∙ hs
+    record {
+      laid = ap (λ (d : Drafted). d.laid) h.written
+          ∙ ap (λ (g : FrameShape). lay s d0.laid (proc_code g p.callbacks body)) hf
+          ∙ ap (λ n. lay (record { stack_base = n; epilogue = s.epilogue }) d0.laid code) hs
+          ∙ ap (λ n. lay (record { stack_base = m.stack; epilogue = n }) d0.laid code) he;
+      grown = h.grown
+          ∙ ap (λ n. length d0.laid.code + proc_words n p.callbacks body) (frame_words m p f hf);
+      sited = h.sited;
+      kept = h.kept;
+      base = ap (λ (d : Drafted). d.spot.stack_base) h.written ∙ hs;
+    }
 
 -- ---- the component of a program
 

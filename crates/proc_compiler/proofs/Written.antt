@@ -1,18 +1,17 @@
--- Items written one behind another.
-use Rattle.std.proofs.Common.{◌≡◌, ℕ, zero, suc, ◌+◌, ◌-◌, false, List, [], ◌∷◌, ◌++◌, length, map, replicate}
-use Rattle.std.proofs.Common.{refl, sym, ap, ◌∙◌, append_assoc, arith}
+-- Items written one after another.
+use Rattle.std.proofs.Common.{◌≡◌, ℕ, zero, suc, ◌+◌, ◌-◌, ◌≤◌, false, List, [], ◌∷◌, ◌++◌, length}
+use Rattle.std.proofs.Common.{take, replicate, refl, sym, ap, ◌∙◌, arith}
 use Rattle.std.specs.Prelude.{◌==◌, slice_get, pos}
 use Rattle.std.specs.Option.{option_map_or}
-use Rattle.cap_words.specs.declared.Word.{Word}
-use Rattle.cap_words.specs.declared.Word.TheVariants.{Int}
 use Rattle.lcm_isa.specs.declared.Reg.{Reg}
 use Rattle.lcm_isa.specs.declared.Reg.TheVariants.{Stk, T1}
 use Rattle.lcm_isa.specs.declared.Operand.TheVariants.{Imm}
-use Rattle.lcm_isa.specs.declared.Instr.{Instr}
 use Rattle.lcm_isa.specs.declared.Instr.TheVariants.{Store, Cca}
-use Rattle.call_sequence.specs.Sequences.{numbers, distance}
-use Rattle.proc_templates.specs.Items.{Spot, Item, does, guards, is_last, Laid, put, lay, word_of}
-use Rattle.proc_templates.specs.Templates.{argument, check_half, push, wipe}
+use Rattle.call_sequence.specs.Sequences.{distance}
+use Rattle.proc_language.specs.declared.tree.Op.{Op}
+use Rattle.proc_language.specs.declared.tree.Op.TheVariants.{Plus, Minus, Less, Equal}
+use Rattle.proc_templates.specs.Items.{Spot, Item, does, is_last, Laid, put, lay}
+use Rattle.proc_templates.specs.Templates.{arguments, op_code, op_words, push, wipe}
 use Rattle.proc_templates.proofs.Offers.{args-split}
 use Rattle.proc_compiler.specs.Drafts.{Drafted, with_items}
 
@@ -39,11 +38,28 @@ pub ruleset items = (items_append, items_nil, items_cons)
 
 pub ruleset called = (items_append, items_nil, items_cons, args-split)
 
+-- the words of an operation, and those that hand it its values
+pub op_size : (o : Op) → op_words o ≡ length (op_code o) + 7
+op_size Plus = refl
+op_size Minus = refl
+op_size Less = refl
+op_size Equal = refl
+
+pub ruleset operated = (items_append, items_nil, items_cons, op_size)
+
 pub push_both : (a b : List Reg) → push (a ++ b) ≡ push a ++ push b
 push_both [] b = refl
 push_both (r ∷ a) b = ap (λ xs. does (Store Stk r) ∷ does (Cca Stk (Imm (distance 1 0))) ∷ xs) (push_both a b)
 
-pub ruleset pushed = (items_append, items_nil, items_cons, push_both)
+pub some_length : (n : ℕ) → n ≤ length arguments → length (take n arguments) ≡ n
+some_length zero le = refl
+some_length (suc zero) le = refl
+some_length (suc (suc zero)) le = refl
+some_length (suc (suc (suc zero))) le = refl
+some_length (suc (suc (suc (suc n)))) le = let e : n ≡ 0 = omega (arith, le) in
+    ap (λ k. length (take (suc (suc (suc (suc k)))) arguments)) e ∙ ap (λ k. suc (suc (suc (suc k)))) (sym e)
+
+pub ruleset pushed = (items_append, items_nil, items_cons, push_both, some_length)
 
 pub push_more : (n : ℕ) → push (replicate (n + 1) T1) ≡ push (replicate n T1) ++ push (T1 ∷ [])
 push_more zero = refl
@@ -70,39 +86,3 @@ last_of (x ∷ y ∷ ys) o =
     let k : length (y ∷ ys) - 1 ≡ length ys = omega arith in
     last_of (y ∷ ys) o ∙ ap (λ n. option_map_or (λ l. l == o) (slice_get (y ∷ ys) n) false) k
     ∙ sym (ap (λ n. option_map_or (λ l. l == o) (slice_get (x ∷ y ∷ ys) n) false) e)
-
--- one piece, and then another
-pub then : (a b : List Item) (d e f : Drafted) → e ≡ with_items a d → f ≡ with_items b e
-    → f ≡ with_items (a ++ b) d
-then a b d e f g h = h ∙ ap (with_items b) g ∙ sym (items_append a b d)
-
-pub pair_written : (r q : Reg) (i : ℕ) (d0 d1 : Drafted) → r ≡ argument i → q ≡ argument (i + 1)
-    → d1 ≡ with_items (guards (check_half r ++ check_half q) ∷ []) d0
-    → d1 ≡ with_items (guards (check_half (argument i) ++ check_half (argument (i + 1))) ∷ []) d0
-pair_written r q i d0 d1 hr hq h =
-    h ∙ ap (λ x. with_items (guards (check_half x ++ check_half q) ∷ []) d0) hr
-    ∙ ap (λ x. with_items (guards (check_half (argument i) ++ check_half x) ∷ []) d0) hq
-
--- ---- words
-
-numbers_words : (is : List Instr) → map (λ z. Int z) (numbers is) ≡ map word_of is
-numbers_words [] = refl
-numbers_words (i ∷ is) = ap (λ ws. word_of i ∷ ws) (numbers_words is)
-
-words_both : (a b : List Instr) → map word_of (a ++ b) ≡ map word_of a ++ map word_of b
-words_both [] b = refl
-words_both (i ∷ a) b = ap (λ ws. word_of i ∷ ws) (words_both a b)
-
-pub one_code : (w0 w1 : List Word) (a : List Instr) → w1 ≡ w0 ++ map (λ z. Int z) (numbers a)
-    → w1 ≡ w0 ++ map word_of a
-one_code w0 w1 a h = h ∙ ap (λ ws. w0 ++ ws) (numbers_words a)
-
--- two pieces of code, one after the other
-pub two_codes : (w0 w1 w2 : List Word) (a b : List Instr) → w1 ≡ w0 ++ map (λ z. Int z) (numbers a)
-    → w2 ≡ w1 ++ map (λ z. Int z) (numbers b) → w2 ≡ w0 ++ map word_of (a ++ b)
-two_codes w0 w1 w2 a b h g =
-    g ∙ ap (λ ws. ws ++ map (λ z. Int z) (numbers b)) h
-    ∙ append_assoc w0 (map (λ z. Int z) (numbers a)) (map (λ z. Int z) (numbers b))
-    ∙ ap (λ ws. w0 ++ ws)
-    (ap (λ ws. ws ++ map (λ z. Int z) (numbers b)) (numbers_words a)
-    ∙ ap (λ ws. map word_of a ++ ws) (numbers_words b) ∙ sym (words_both a b))

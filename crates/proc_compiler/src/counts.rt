@@ -11,10 +11,21 @@ ghost use Rattle.proc_templates.specs.Templates.{exp_words, args_words, step_wor
 ghost use Rattle.proc_templates.specs.Templates.{checks_words, op_words};
 ghost use Rattle.proc_templates.specs.Compiled.{pair_count, size_of_proc, code_words, data_count};
 
-use call_sequence::SITE_WORDS;
+use call_sequence::{ENTRY_WORDS, SITE_WORDS};
 use component_file::MOST_WORDS;
 use proc_language::Op;
 use proc_program::{ArgExp, Exp, ExpKind, Handle, Procedure, Program, Statement, StatementKind};
+
+/// The words of an instruction at a slot, or at a variable of the data.
+pub(crate) const ACCESS_WORDS: u32 = 3;
+/// The words of an instruction at an element of an array.
+pub(crate) const ELEMENT_WORDS: u32 = 14;
+/// The words of a jump.
+pub(crate) const JUMP_WORDS: u32 = 3;
+/// The words that check a callback.
+pub(crate) const CALLBACK_WORDS: u32 = 13;
+/// The words of an epilogue, but for two for each word of the frame.
+pub(crate) const EPILOGUE_WORDS: u32 = 13;
 
 fn spend(left: u32, words: u32) -> Option<u32>
     ensures some { IfSome result (λ n. n + words ≡ left) }
@@ -65,8 +76,8 @@ fn expr_words(e: &Exp, left: u32) -> Option<u32>
 {
     match &e.kind {
         ExpKind::Number(_) => spend(left, 1),
-        ExpKind::Load(_) => spend(left, 3),
-        ExpKind::Element(_, index) => spend(expr_words(index, left)?, 15),
+        ExpKind::Load(_) => spend(left, ACCESS_WORDS),
+        ExpKind::Element(_, index) => spend(expr_words(index, left)?, ELEMENT_WORDS + 1),
         ExpKind::Call(c) => {
             let args = c.args.as_slice();
             let left = args_words(args, left)?;
@@ -105,22 +116,23 @@ fn step_words(s: &Statement, left: u32) -> Option<u32>
     ensures none { IfNone result (left < step_words s.now) }
 {
     match &s.kind {
-        StatementKind::Set(_, e) => spend(expr_words(e, left)?, 3),
+        StatementKind::Set(_, e) => spend(expr_words(e, left)?, ACCESS_WORDS),
         StatementKind::SetAt(_, index, e) => {
             let left = expr_words(index, left)?;
-            spend(expr_words(e, left)?, 21)
+            let left = expr_words(e, left)?;
+            spend(left, 2 * ACCESS_WORDS + 1 + ELEMENT_WORDS)
         }
         StatementKind::Do(e) => expr_words(e, left),
         StatementKind::If(c, body, other) => {
             let left = expr_words(c, left)?;
             let left = block_words(body.as_slice(), left)?;
-            spend(block_words(other.as_slice(), left)?, 9)
+            spend(block_words(other.as_slice(), left)?, 3 * JUMP_WORDS)
         }
         StatementKind::While(c, body) => {
             let left = expr_words(c, left)?;
-            spend(block_words(body.as_slice(), left)?, 9)
+            spend(block_words(body.as_slice(), left)?, 3 * JUMP_WORDS)
         }
-        StatementKind::Return(e) => spend(expr_words(e, left)?, 4),
+        StatementKind::Return(e) => spend(expr_words(e, left)?, 1 + JUMP_WORDS),
         StatementKind::Halt(e) => spend(expr_words(e, left)?, 2),
     }
 }
@@ -144,7 +156,7 @@ fn checks_words(callbacks: &[bool], left: u32) -> Option<u32>
     match callbacks.split_first() {
         None => Some(left),
         Some((callback, rest)) => {
-            let words = if *callback { 13 } else { 1 };
+            let words = if *callback { CALLBACK_WORDS } else { 1 };
             checks_words(rest, spend(left, words)?)
         }
     }
@@ -169,7 +181,8 @@ fn proc_left(p: &Procedure, left: u32) -> Option<u32>
     ensures none { IfNone result (left < size_of_proc p.now) }
 {
     let left = block_words(p.body.as_slice(), left)?;
-    let left = checks_words(p.callbacks.as_slice(), spend(left, 34)?)?;
+    let left = spend(left, ENTRY_WORDS + 1 + EPILOGUE_WORDS)?;
+    let left = checks_words(p.callbacks.as_slice(), left)?;
     frame_words(p.need, left)
 }
 

@@ -3,20 +3,22 @@ ghost use Rattle.std.specs.Prelude.{◌≡◌, ◌≤◌, ◌<◌, ◌+◌, ◌*
 ghost use Rattle.std.specs.Prelude.{◌++◌, ◌==◌, map, slice_set, ◌-◌};
 ghost use Rattle.cap_words.specs.declared.Word.TheVariants.{Int};
 ghost use Rattle.component_file.specs.declared.TheConstants.{LAST_OFFSET, MOST_SITES};
-ghost use Rattle.call_sequence.specs.declared.TheConstants.{CALL_WORDS, SITE_WORDS, ENTRY_WORDS};
 ghost use Rattle.proc_language.specs.declared.TheConstants.{MOST_SEALS};
 ghost use Rattle.cap_words.specs.declared.TheConstants.{LAST_PLACE};
 ghost use Rattle.component_file.specs.declared.TheConstants.{MOST_WORDS};
 ghost use Rattle.call_sequence.specs.Sequences.{distance, call_code, return_code, entry_code};
 ghost use Rattle.proc_templates.specs.Items.{is_last, does, guards, goes, goes_if, finishes, label, site};
 ghost use Rattle.proc_templates.specs.Items.{entry, leaves, word_of, zero_of};
-ghost use Rattle.proc_templates.specs.Templates.{at_slot, at_glob, op_code, op_words, check_index};
+ghost use Rattle.proc_templates.specs.Templates.{at_slot, at_glob, op_code, check_index};
 ghost use Rattle.proc_templates.specs.Templates.{from_element, at_element, zeros, pair_words, load_linked};
 ghost use Rattle.proc_templates.specs.Templates.{load_pair, check_half, push, wipe, take_back, epilogue};
-ghost use Rattle.proc_compiler.specs.Drafts.{with_items, with_code, with_words, at_spot, Aimed};
+ghost use Rattle.proc_compiler.specs.Drafts.{with_code, with_words, at_spot, Emits, Aims, PutsWords};
 ghost use Rattle.proc_templates.specs.Bounds.{HandleBound};
 
-use call_sequence::{CALL_WORDS, call_words, entry_words, return_words};
+use crate::counts::{ACCESS_WORDS, CALLBACK_WORDS, ELEMENT_WORDS, EPILOGUE_WORDS, JUMP_WORDS};
+use call_sequence::{
+    CALL_WORDS, ENTRY_WORDS, RETURN_WORDS, SITE_WORDS, call_words, entry_words, return_words,
+};
 use cap_words::Word;
 use lcm_isa::{Instr, Operand, Reg, encode};
 use proc_language::Op;
@@ -60,7 +62,7 @@ impl Model for Draft {
 }
 
 impl Draft {
-    /// The `fail` and the word behind it, of a part with these return seals.
+    /// The `fail` and the word after it, of a part with these return seals.
     pub(crate) fn new(
         alloc: Global,
         literal: Word,
@@ -110,87 +112,13 @@ impl Draft {
         (code, sites)
     }
 
-    /// An instruction that neither jumps nor calls.
-    #[tactic(auto, unfolding(proc_templates::specs::Items::put, proc_templates::specs::Items::instrs, crate::specs::Drafts::with_items))]
-    pub(crate) fn put(&mut self, instr: Instr) -> Result<(), AllocError>
-        ensures written { OnOk result (self.new ≡ with_items (does instr ∷ []) self.old) }
-        ensures sited { OnOk result (self.new.laid.sites ≡ self.old.laid.sites) }
-        ensures kept { OnOk result (self.new.seals ≡ self.old.seals) }
-        ensures grown { OnOk result (length self.new.laid.code ≡ length self.old.laid.code + 1) }
+    /// A procedure begins whose epilogue stands at an offset.
+    pub(crate) fn begin(&mut self, epilogue: u32)
+        requires { epilogue ≤ LAST_OFFSET }
+        ensures { self.new ≡ at_spot (record { stack_base = self.old.spot.stack_base; epilogue = epilogue })
+            self.old }
     {
-        self.code.push(Word::Int(encode(&instr)))?;
-        Ok(())
-    }
-
-    /// An instruction at a variable in the data.
-    #[tactic(auto, using(crate::proofs::Written::items))]
-    pub(crate) fn at_glob(&mut self, at: u32, instr: Instr) -> Result<(), AllocError>
-        requires { at ≤ LAST_PLACE }
-        ensures written { OnOk result (self.new ≡ with_items (at_glob at instr) self.old) }
-        ensures sited { OnOk result (self.new.laid.sites ≡ self.old.laid.sites) }
-        ensures kept { OnOk result (self.new.seals ≡ self.old.seals) }
-        ensures grown { OnOk result (length self.new.laid.code ≡ length self.old.laid.code + 3) }
-    {
-        self.put(Instr::Cca(Reg::Dat, Operand::Imm(at as i32)))?;
-        self.put(instr)?;
-        self.put(Instr::Cca(Reg::Dat, Operand::Imm(-(at as i32))))
-    }
-
-    // To a slot of a frame of so many words, from the cursor below the frame.
-    fn to_slot(&mut self, words: u32, slot: u32) -> Result<(), AllocError>
-        requires words_fit { words ≤ LAST_PLACE }
-        requires slot_fits { slot ≤ LAST_PLACE }
-        ensures written { OnOk result (self.new
-            ≡ with_items (does (Instr.Cca Reg.Stk (Operand.Imm (distance slot words))) ∷ []) self.old) }
-        ensures sited { OnOk result (self.new.laid.sites ≡ self.old.laid.sites) }
-        ensures kept { OnOk result (self.new.seals ≡ self.old.seals) }
-        ensures grown { OnOk result (length self.new.laid.code ≡ length self.old.laid.code + 1) }
-    {
-        self.put(Instr::Cca(Reg::Stk, Operand::Imm(words as i32 - slot as i32)))
-    }
-
-    /// An instruction at a slot of a frame.
-    #[tactic(auto, using(crate::proofs::Written::items))]
-    pub(crate) fn at_slot(
-        &mut self,
-        f: FrameShape,
-        slot: u32,
-        instr: Instr,
-    ) -> Result<(), AllocError>
-        requires words_fit { f.words ≤ LAST_PLACE }
-        requires slot_fits { slot ≤ LAST_PLACE }
-        ensures written { OnOk result (self.new ≡ with_items (at_slot f slot instr) self.old) }
-        ensures sited { OnOk result (self.new.laid.sites ≡ self.old.laid.sites) }
-        ensures kept { OnOk result (self.new.seals ≡ self.old.seals) }
-        ensures grown { OnOk result (length self.new.laid.code ≡ length self.old.laid.code + 3) }
-    {
-        self.to_slot(f.words, slot)?;
-        self.put(instr)?;
-        self.to_slot(slot, f.words)
-    }
-
-    /// What a binary operation does with g0 and g1.
-    #[tactic(auto, using(crate::proofs::Written::items))]
-    pub(crate) fn operate(&mut self, op: Op) -> Result<(), AllocError>
-        ensures written { OnOk result (self.new ≡ with_items (op_code op) self.old) }
-        ensures sited { OnOk result (self.new.laid.sites ≡ self.old.laid.sites) }
-        ensures kept { OnOk result (self.new.seals ≡ self.old.seals) }
-        ensures grown { OnOk result (length self.new.laid.code + 7
-            ≡ length self.old.laid.code + op_words op) }
-    {
-        let (g0, g1, g2) = (Reg::G0, Reg::G1, Reg::G2);
-        match op {
-            Op::Plus => self.put(Instr::Plus(g0, g0, Operand::R(g1))),
-            Op::Minus => self.put(Instr::Minus(g0, g0, Operand::R(g1))),
-            Op::Less => self.put(Instr::Lt(g0, g0, Operand::R(g1))),
-            Op::Equal => {
-                self.put(Instr::Lt(g2, g0, Operand::R(g1)))?;
-                self.put(Instr::Lt(g0, g1, Operand::R(g0)))?;
-                self.put(Instr::Plus(g0, g0, Operand::R(g2)))?;
-                self.put(Instr::Move(g1, Operand::Imm(1)))?;
-                self.put(Instr::Minus(g0, g1, Operand::R(g0)))
-            }
-        }
+        self.epilogue = epilogue;
     }
 
     /// The offset of the next word.
@@ -211,60 +139,12 @@ impl Draft {
         }
     }
 
-    /// A place to which jumps lead.
-    #[tactic(auto, unfolding(proc_templates::specs::Items::put, proc_templates::specs::Items::instrs, crate::specs::Drafts::with_items))]
-    pub(crate) fn label(&mut self) -> Result<(), AllocError>
-        requires { length self.old.laid.code ≤ MOST_WORDS }
-        ensures written { OnOk result (self.new ≡ with_items (label ∷ []) self.old) }
-        ensures grown { OnOk result (self.new.laid.code ≡ self.old.laid.code) }
-        ensures sited { OnOk result (self.new.laid.sites ≡ self.old.laid.sites) }
-        ensures kept { OnOk result (self.new.seals ≡ self.old.seals) }
+    // The word of one instruction.
+    fn word(&mut self, instr: Instr) -> Result<(), AllocError>
+        ensures { OnOk result (self.new ≡ with_words (word_of instr ∷ []) self.old) }
     {
-        let at = self.at();
-        if self.is_labelled(at) {
-            return Ok(());
-        }
-        self.labels.push(at)?;
+        self.code.push(Word::Int(encode(&instr)))?;
         Ok(())
-    }
-
-    /// A jump by so many words, counted from its own first.
-    #[tactic(auto, unfolding(proc_templates::specs::Items::put, proc_templates::specs::Items::instrs, crate::specs::Drafts::with_items))]
-    pub(crate) fn jump(&mut self, far: i32) -> Result<(), AllocError>
-        ensures written { OnOk result (self.new ≡ with_items (goes far ∷ []) self.old) }
-        ensures grown { OnOk result (length self.new.laid.code ≡ length self.old.laid.code + 3) }
-        ensures sited { OnOk result (self.new.laid.sites ≡ self.old.laid.sites) }
-        ensures kept { OnOk result (self.new.seals ≡ self.old.seals) }
-    {
-        self.word(Instr::Move(Reg::T2, Operand::R(Reg::Pc)))?;
-        self.word(Instr::Cca(Reg::T2, Operand::Imm(far)))?;
-        self.word(Instr::Jmp(Reg::T2))
-    }
-
-    // The jump at an offset goes on by so many words, counted from its own first.
-    fn aim(&mut self, at: u32, far: i32)
-        requires placed { length self.old.laid.code ≤ MOST_WORDS }
-        requires there { at + 1 < length self.old.laid.code }
-        ensures aimed { Aimed at far self.old self.new }
-        ensures grown { length self.new.laid.code ≡ length self.old.laid.code }
-        ensures sited { self.new.laid.sites ≡ self.old.laid.sites }
-        ensures kept { self.new.seals ≡ self.old.seals }
-    {
-        self.replace(at + 1, Instr::Cca(Reg::T2, Operand::Imm(far)));
-    }
-
-    /// The jump at an offset leads to so many words behind what is written.
-    pub(crate) fn lead(&mut self, at: u32, beyond: u32)
-        requires placed { length self.old.laid.code ≤ MOST_WORDS }
-        requires there { at + 1 < length self.old.laid.code }
-        requires near { beyond ≤ 3 }
-        ensures aimed { Aimed at (pos (length self.old.laid.code + beyond - at)) self.old self.new }
-        ensures grown { length self.new.laid.code ≡ length self.old.laid.code }
-        ensures sited { self.new.laid.sites ≡ self.old.laid.sites }
-        ensures kept { self.new.seals ≡ self.old.seals }
-    {
-        let far = self.at() + beyond - at;
-        self.aim(at, far as i32);
     }
 
     // Another instruction at an offset.
@@ -275,156 +155,24 @@ impl Draft {
         self.code[at as usize] = Word::Int(encode(&instr));
     }
 
-    /// A jump back by so many words.
-    pub(crate) fn jump_back(&mut self, far: u32) -> Result<(), AllocError>
-        requires { far ≤ MOST_WORDS }
-        ensures written { OnOk result (self.new ≡ with_items (goes (distance far 0) ∷ []) self.old) }
-        ensures grown { OnOk result (length self.new.laid.code ≡ length self.old.laid.code + 3) }
-        ensures sited { OnOk result (self.new.laid.sites ≡ self.old.laid.sites) }
-        ensures kept { OnOk result (self.new.seals ≡ self.old.seals) }
-    {
-        self.jump(-(far as i32))
-    }
-
-    /// The same as `jump` where a register isn't 0.
-    #[tactic(auto, unfolding(proc_templates::specs::Items::put, proc_templates::specs::Items::instrs, crate::specs::Drafts::with_items))]
-    pub(crate) fn jump_if(&mut self, far: i32, r: Reg) -> Result<(), AllocError>
-        ensures written { OnOk result (self.new ≡ with_items (goes_if far r ∷ []) self.old) }
-        ensures grown { OnOk result (length self.new.laid.code ≡ length self.old.laid.code + 3) }
-        ensures sited { OnOk result (self.new.laid.sites ≡ self.old.laid.sites) }
-        ensures kept { OnOk result (self.new.seals ≡ self.old.seals) }
-    {
-        self.word(Instr::Move(Reg::T2, Operand::R(Reg::Pc)))?;
-        self.word(Instr::Cca(Reg::T2, Operand::Imm(far)))?;
-        self.word(Instr::Jnz(Reg::T2, r))
-    }
-
-    /// A jump to the epilogue.
-    #[tactic(auto, unfolding(proc_templates::specs::Items::put, proc_templates::specs::Items::instrs, crate::specs::Drafts::with_items))]
-    pub(crate) fn finish(&mut self) -> Result<(), AllocError>
+    // The jump at an offset goes on by so many words, counted from its own first.
+    fn aim(&mut self, at: u32, far: i32)
         requires placed { length self.old.laid.code ≤ MOST_WORDS }
-        ensures written { OnOk result (self.new ≡ with_items (finishes ∷ []) self.old) }
-        ensures grown { OnOk result (length self.new.laid.code ≡ length self.old.laid.code + 3) }
-        ensures sited { OnOk result (self.new.laid.sites ≡ self.old.laid.sites) }
-        ensures kept { OnOk result (self.new.seals ≡ self.old.seals) }
+        requires there { at + 1 < length self.old.laid.code }
+        ensures { Aims at far self.old self.new }
     {
-        let far = self.epilogue as i32 - self.at() as i32;
-        self.word(Instr::Move(Reg::T2, Operand::R(Reg::Pc)))?;
-        self.word(Instr::Cca(Reg::T2, Operand::Imm(far)))?;
-        self.word(Instr::Jmp(Reg::T2))
+        self.replace(at + 1, Instr::Cca(Reg::T2, Operand::Imm(far)));
     }
 
-    // The words of an index check, during which t2 leads to the `fail`.
-    #[tactic(auto, unfolding(proc_templates::specs::Items::put, proc_templates::specs::Items::instrs, crate::specs::Drafts::with_items))]
-    pub(crate) fn check_index(&mut self, len: u32) -> Result<(), AllocError>
+    /// The jump at an offset leads to so many words after what is written.
+    pub(crate) fn lead(&mut self, at: u32, beyond: u32)
         requires placed { length self.old.laid.code ≤ MOST_WORDS }
-        requires fits { len ≤ LAST_PLACE }
-        ensures written { OnOk result (self.new ≡ with_items (check_index len ∷ []) self.old) }
-        ensures sited { OnOk result (self.new.laid.sites ≡ self.old.laid.sites) }
-        ensures kept { OnOk result (self.new.seals ≡ self.old.seals) }
-        ensures grown { OnOk result (length self.new.laid.code ≡ length self.old.laid.code + 8) }
+        requires there { at + 1 < length self.old.laid.code }
+        requires near { beyond ≤ 3 }
+        ensures { Aims at (pos (length self.old.laid.code + beyond - at)) self.old self.new }
     {
-        let (t2, g0, g1) = (Reg::T2, Reg::G0, Reg::G1);
-        let far = -(self.at() as i32);
-        self.word(Instr::Move(t2, Operand::R(Reg::Pc)))?;
-        self.word(Instr::Cca(t2, Operand::Imm(far)))?;
-        self.word(Instr::Lt(g1, g0, Operand::Imm(0)))?;
-        self.word(Instr::Jnz(t2, g1))?;
-        self.word(Instr::Lt(g1, g0, Operand::Imm(len as i32)))?;
-        self.word(Instr::Minus(g1, g1, Operand::Imm(1)))?;
-        self.word(Instr::Jnz(t2, g1))?;
-        self.word(Instr::Move(t2, Operand::Imm(0)))
-    }
-
-    // The word of one instruction.
-    fn word(&mut self, instr: Instr) -> Result<(), AllocError>
-        ensures { OnOk result (self.new ≡ with_words (word_of instr ∷ []) self.old) }
-    {
-        self.code.push(Word::Int(encode(&instr)))?;
-        Ok(())
-    }
-
-    /// A call with its return, which spends a seal of the part's.
-    #[tactic(auto, unfolding(proc_templates::specs::Items::put, proc_templates::specs::Items::instrs, crate::specs::Drafts::with_items))]
-    pub(crate) fn site(&mut self) -> Result<(), AllocError>
-        requires placed { length self.old.laid.code + CALL_WORDS ≤ LAST_OFFSET }
-        requires seals { length self.old.laid.sites < self.old.seals }
-        ensures written { OnOk result (self.new ≡ with_items (site ∷ []) self.old) }
-        ensures grown { OnOk result (length self.new.laid.code ≡ length self.old.laid.code + SITE_WORDS) }
-        ensures sited { OnOk result (length self.new.laid.sites ≡ length self.old.laid.sites + 1) }
-        ensures kept { OnOk result (self.new.seals ≡ self.old.seals) }
-    {
-        let at = self.at();
-        let count = self.sites.len() as u32;
-        self.sites.push(at)?;
-        let number = next_number(&mut self.lot, self.first, count);
-        put_site(&mut self.code, at, number, self.stack_base)
-    }
-
-    /// A procedure's entry.
-    #[tactic(auto, unfolding(proc_templates::specs::Items::put, proc_templates::specs::Items::instrs, crate::specs::Drafts::with_items))]
-    pub(crate) fn entry(&mut self) -> Result<(), AllocError>
-        requires placed { length self.old.laid.code ≤ LAST_OFFSET }
-        ensures written { OnOk result (self.new ≡ with_items (entry ∷ []) self.old) }
-        ensures grown { OnOk result (length self.new.laid.code ≡ length self.old.laid.code + ENTRY_WORDS) }
-        ensures sited { OnOk result (self.new.laid.sites ≡ self.old.laid.sites) }
-        ensures kept { OnOk result (self.new.seals ≡ self.old.seals) }
-    {
-        let at = self.at();
-        self.entries.push(at)?;
-        put_entry(&mut self.code, at, self.stack_base)
-    }
-
-    /// An instruction at the element of an array whose index is in g0.
-    #[tactic(auto, using(crate::proofs::Written::items))]
-    pub(crate) fn at_element(&mut self, at: u32, len: u32, instr: Instr) -> Result<(), AllocError>
-        requires placed { length self.old.laid.code ≤ MOST_WORDS }
-        requires at_fits { at ≤ LAST_PLACE }
-        requires len_fits { len ≤ LAST_PLACE }
-        ensures written { OnOk result (self.new ≡ with_items (at_element at len instr) self.old) }
-        ensures grown { OnOk result (length self.new.laid.code ≡ length self.old.laid.code + 14) }
-        ensures sited { OnOk result (self.new.laid.sites ≡ self.old.laid.sites) }
-        ensures kept { OnOk result (self.new.seals ≡ self.old.seals) }
-    {
-        let g0 = Reg::G0;
-        self.check_index(len)?;
-        self.put(Instr::Plus(g0, g0, Operand::Imm(at as i32)))?;
-        self.put(Instr::Cca(Reg::Dat, Operand::R(g0)))?;
-        self.put(instr)?;
-        self.from_element()
-    }
-
-    // The data's cursor is set back from the element whose offset is in g0.
-    #[tactic(auto, using(crate::proofs::Written::items))]
-    fn from_element(&mut self) -> Result<(), AllocError>
-        ensures written { OnOk result (self.new ≡ with_items from_element self.old) }
-        ensures grown { OnOk result (length self.new.laid.code ≡ length self.old.laid.code + 3) }
-        ensures sited { OnOk result (self.new.laid.sites ≡ self.old.laid.sites) }
-        ensures kept { OnOk result (self.new.seals ≡ self.old.seals) }
-    {
-        let (g0, g2) = (Reg::G0, Reg::G2);
-        self.put(Instr::Move(g2, Operand::Imm(0)))?;
-        self.put(Instr::Minus(g2, g2, Operand::R(g0)))?;
-        self.put(Instr::Cca(Reg::Dat, Operand::R(g2)))
-    }
-
-    /// Registers become 0.
-    #[cycle(zeros)]
-    #[tactic(auto, using(crate::proofs::Written::items))]
-    pub(crate) fn zeros(&mut self, registers: &[Reg]) -> Result<(), AllocError>
-        ensures written { OnOk result (self.new ≡ with_items (zeros registers.now) self.old) }
-        ensures grown { OnOk result (length self.new.laid.code
-            ≡ length self.old.laid.code + length registers.now) }
-        ensures sited { OnOk result (self.new.laid.sites ≡ self.old.laid.sites) }
-        ensures kept { OnOk result (self.new.seals ≡ self.old.seals) }
-    {
-        match registers.split_first() {
-            None => Ok(()),
-            Some((r, rest)) => {
-                self.put(Instr::Move(*r, Operand::Imm(0)))?;
-                self.zeros(rest)
-            }
-        }
+        let far = self.at() + beyond - at;
+        self.aim(at, far as i32);
     }
 
     // The words that check one half of a pair.
@@ -439,15 +187,94 @@ impl Draft {
         self.word(Instr::Jnz(t2, t1))
     }
 
+    // The words that set four registers to 0.
+    fn clear(&mut self, a: Reg, b: Reg, c: Reg, d: Reg) -> Result<(), AllocError>
+        ensures { OnOk result
+            (self.new ≡ with_words (map word_of (map zero_of (a ∷ b ∷ c ∷ d ∷ []))) self.old) }
+    {
+        self.word(Instr::Move(a, Operand::Imm(0)))?;
+        self.word(Instr::Move(b, Operand::Imm(0)))?;
+        self.word(Instr::Move(c, Operand::Imm(0)))?;
+        self.word(Instr::Move(d, Operand::Imm(0)))
+    }
+}
+
+// Single items.
+#[tactic(auto, unfolding(proc_templates::specs::Items::put, proc_templates::specs::Items::instrs, crate::specs::Drafts::with_items))]
+impl Draft {
+    /// An instruction that neither jumps nor calls.
+    pub(crate) fn put(&mut self, instr: Instr) -> Result<(), AllocError>
+        ensures { OnOk result (Emits (does instr ∷ []) 1 0 self.old self.new) }
+    {
+        self.code.push(Word::Int(encode(&instr)))?;
+        Ok(())
+    }
+
+    /// A place to which jumps lead.
+    pub(crate) fn label(&mut self) -> Result<(), AllocError>
+        requires { length self.old.laid.code ≤ MOST_WORDS }
+        ensures { OnOk result (Emits (label ∷ []) 0 0 self.old self.new) }
+    {
+        let at = self.at();
+        if self.is_labelled(at) {
+            return Ok(());
+        }
+        self.labels.push(at)?;
+        Ok(())
+    }
+
+    /// A jump by so many words, counted from its own first.
+    pub(crate) fn jump(&mut self, far: i32) -> Result<(), AllocError>
+        ensures { OnOk result (Emits (goes far ∷ []) JUMP_WORDS 0 self.old self.new) }
+    {
+        self.word(Instr::Move(Reg::T2, Operand::R(Reg::Pc)))?;
+        self.word(Instr::Cca(Reg::T2, Operand::Imm(far)))?;
+        self.word(Instr::Jmp(Reg::T2))
+    }
+
+    /// The same as `jump` where a register isn't 0.
+    pub(crate) fn jump_if(&mut self, far: i32, r: Reg) -> Result<(), AllocError>
+        ensures { OnOk result (Emits (goes_if far r ∷ []) JUMP_WORDS 0 self.old self.new) }
+    {
+        self.word(Instr::Move(Reg::T2, Operand::R(Reg::Pc)))?;
+        self.word(Instr::Cca(Reg::T2, Operand::Imm(far)))?;
+        self.word(Instr::Jnz(Reg::T2, r))
+    }
+
+    /// A jump to the epilogue.
+    pub(crate) fn finish(&mut self) -> Result<(), AllocError>
+        requires placed { length self.old.laid.code ≤ MOST_WORDS }
+        ensures { OnOk result (Emits (finishes ∷ []) JUMP_WORDS 0 self.old self.new) }
+    {
+        let far = self.epilogue as i32 - self.at() as i32;
+        self.word(Instr::Move(Reg::T2, Operand::R(Reg::Pc)))?;
+        self.word(Instr::Cca(Reg::T2, Operand::Imm(far)))?;
+        self.word(Instr::Jmp(Reg::T2))
+    }
+
+    // The words of an index check, during which t2 leads to the `fail`.
+    pub(crate) fn check_index(&mut self, len: u32) -> Result<(), AllocError>
+        requires placed { length self.old.laid.code ≤ MOST_WORDS }
+        requires fits { len ≤ LAST_PLACE }
+        ensures { OnOk result (Emits (check_index len ∷ []) 8 0 self.old self.new) }
+    {
+        let (t2, g0, g1) = (Reg::T2, Reg::G0, Reg::G1);
+        let far = -(self.at() as i32);
+        self.word(Instr::Move(t2, Operand::R(Reg::Pc)))?;
+        self.word(Instr::Cca(t2, Operand::Imm(far)))?;
+        self.word(Instr::Lt(g1, g0, Operand::Imm(0)))?;
+        self.word(Instr::Jnz(t2, g1))?;
+        self.word(Instr::Lt(g1, g0, Operand::Imm(len as i32)))?;
+        self.word(Instr::Minus(g1, g1, Operand::Imm(1)))?;
+        self.word(Instr::Jnz(t2, g1))?;
+        self.word(Instr::Move(t2, Operand::Imm(0)))
+    }
+
     /// A check of both halves of a pair, during which t2 leads to the `fail`.
-    #[tactic(auto, unfolding(proc_templates::specs::Items::put, proc_templates::specs::Items::instrs, crate::specs::Drafts::with_items))]
     pub(crate) fn check_pair(&mut self, r: Reg, q: Reg) -> Result<(), AllocError>
         requires { length self.old.laid.code ≤ MOST_WORDS }
-        ensures written { OnOk result (self.new
-            ≡ with_items (guards (check_half r ++ check_half q) ∷ []) self.old) }
-        ensures grown { OnOk result (length self.new.laid.code ≡ length self.old.laid.code + 13) }
-        ensures sited { OnOk result (self.new.laid.sites ≡ self.old.laid.sites) }
-        ensures kept { OnOk result (self.new.seals ≡ self.old.seals) }
+        ensures { OnOk result
+            (Emits (guards (check_half r ++ check_half q) ∷ []) CALLBACK_WORDS 0 self.old self.new) }
     {
         let far = -(self.at() as i32);
         self.word(Instr::Move(Reg::T2, Operand::R(Reg::Pc)))?;
@@ -457,15 +284,149 @@ impl Draft {
         self.word(Instr::Move(Reg::T2, Operand::Imm(0)))
     }
 
+    /// A call with its return, which spends a seal of the part's.
+    pub(crate) fn site(&mut self) -> Result<(), AllocError>
+        requires placed { length self.old.laid.code + CALL_WORDS ≤ LAST_OFFSET }
+        requires seals { length self.old.laid.sites < self.old.seals }
+        ensures { OnOk result (Emits (site ∷ []) SITE_WORDS 1 self.old self.new) }
+    {
+        let at = self.at();
+        let count = self.sites.len() as u32;
+        self.sites.push(at)?;
+        let number = next_number(&mut self.lot, self.first, count);
+        put_site(&mut self.code, at, number, self.stack_base)
+    }
+
+    /// A procedure's entry.
+    pub(crate) fn entry(&mut self) -> Result<(), AllocError>
+        requires placed { length self.old.laid.code ≤ LAST_OFFSET }
+        ensures { OnOk result (Emits (entry ∷ []) ENTRY_WORDS 0 self.old self.new) }
+    {
+        let at = self.at();
+        self.entries.push(at)?;
+        put_entry(&mut self.code, at, self.stack_base)
+    }
+
+    // The last words of a procedure.
+    fn leave(&mut self) -> Result<(), AllocError>
+        ensures { OnOk result (Emits (leaves ∷ []) RETURN_WORDS 0 self.old self.new) }
+    {
+        self.word(Instr::Move(Reg::T2, Operand::Imm(0)))?;
+        self.clear(Reg::C1, Reg::C2, Reg::A1, Reg::A2)?;
+        self.clear(Reg::A3, Reg::G0, Reg::G1, Reg::G2)?;
+        self.word(Instr::Xjmp(Reg::Rcode, Reg::Rdata))
+    }
+}
+
+// Templates, which are made of items.
+#[tactic(auto, using(crate::proofs::Written::items))]
+impl Draft {
+    /// An instruction at a variable in the data.
+    pub(crate) fn at_glob(&mut self, at: u32, instr: Instr) -> Result<(), AllocError>
+        requires { at ≤ LAST_PLACE }
+        ensures { OnOk result (Emits (at_glob at instr) ACCESS_WORDS 0 self.old self.new) }
+    {
+        self.put(Instr::Cca(Reg::Dat, Operand::Imm(at as i32)))?;
+        self.put(instr)?;
+        self.put(Instr::Cca(Reg::Dat, Operand::Imm(-(at as i32))))
+    }
+
+    // To a slot of a frame of so many words, from the cursor below the frame.
+    fn to_slot(&mut self, words: u32, slot: u32) -> Result<(), AllocError>
+        requires words_fit { words ≤ LAST_PLACE }
+        requires slot_fits { slot ≤ LAST_PLACE }
+        ensures { OnOk result (Emits
+            (does (Instr.Cca Reg.Stk (Operand.Imm (distance slot words))) ∷ []) 1 0 self.old self.new) }
+    {
+        self.put(Instr::Cca(Reg::Stk, Operand::Imm(words as i32 - slot as i32)))
+    }
+
+    /// An instruction at a slot of a frame.
+    pub(crate) fn at_slot(
+        &mut self,
+        f: FrameShape,
+        slot: u32,
+        instr: Instr,
+    ) -> Result<(), AllocError>
+        requires words_fit { f.words ≤ LAST_PLACE }
+        requires slot_fits { slot ≤ LAST_PLACE }
+        ensures { OnOk result (Emits (at_slot f slot instr) ACCESS_WORDS 0 self.old self.new) }
+    {
+        self.to_slot(f.words, slot)?;
+        self.put(instr)?;
+        self.to_slot(slot, f.words)
+    }
+
+    /// What a binary operation does with g0 and g1.
+    pub(crate) fn operate(&mut self, op: Op) -> Result<(), AllocError>
+        ensures { OnOk result (Emits (op_code op) (length (op_code op)) 0 self.old self.new) }
+    {
+        let (g0, g1, g2) = (Reg::G0, Reg::G1, Reg::G2);
+        match op {
+            Op::Plus => self.put(Instr::Plus(g0, g0, Operand::R(g1))),
+            Op::Minus => self.put(Instr::Minus(g0, g0, Operand::R(g1))),
+            Op::Less => self.put(Instr::Lt(g0, g0, Operand::R(g1))),
+            Op::Equal => {
+                self.put(Instr::Lt(g2, g0, Operand::R(g1)))?;
+                self.put(Instr::Lt(g0, g1, Operand::R(g0)))?;
+                self.put(Instr::Plus(g0, g0, Operand::R(g2)))?;
+                self.put(Instr::Move(g1, Operand::Imm(1)))?;
+                self.put(Instr::Minus(g0, g1, Operand::R(g0)))
+            }
+        }
+    }
+
+    /// A jump back by so many words.
+    pub(crate) fn jump_back(&mut self, far: u32) -> Result<(), AllocError>
+        requires { far ≤ MOST_WORDS }
+        ensures { OnOk result (Emits (goes (distance far 0) ∷ []) JUMP_WORDS 0 self.old self.new) }
+    {
+        self.jump(-(far as i32))
+    }
+
+    /// An instruction at the element of an array whose index is in g0.
+    pub(crate) fn at_element(&mut self, at: u32, len: u32, instr: Instr) -> Result<(), AllocError>
+        requires placed { length self.old.laid.code ≤ MOST_WORDS }
+        requires at_fits { at ≤ LAST_PLACE }
+        requires len_fits { len ≤ LAST_PLACE }
+        ensures { OnOk result (Emits (at_element at len instr) ELEMENT_WORDS 0 self.old self.new) }
+    {
+        let g0 = Reg::G0;
+        self.check_index(len)?;
+        self.put(Instr::Plus(g0, g0, Operand::Imm(at as i32)))?;
+        self.put(Instr::Cca(Reg::Dat, Operand::R(g0)))?;
+        self.put(instr)?;
+        self.from_element()
+    }
+
+    // The data's cursor is set back from the element whose offset is in g0.
+    fn from_element(&mut self) -> Result<(), AllocError>
+        ensures { OnOk result (Emits from_element 3 0 self.old self.new) }
+    {
+        let (g0, g2) = (Reg::G0, Reg::G2);
+        self.put(Instr::Move(g2, Operand::Imm(0)))?;
+        self.put(Instr::Minus(g2, g2, Operand::R(g0)))?;
+        self.put(Instr::Cca(Reg::Dat, Operand::R(g2)))
+    }
+
+    /// Registers become 0.
+    #[cycle(zeros)]
+    pub(crate) fn zeros(&mut self, registers: &[Reg]) -> Result<(), AllocError>
+        ensures { OnOk result (Emits (zeros registers.now) (length registers.now) 0 self.old self.new) }
+    {
+        match registers.split_first() {
+            None => Ok(()),
+            Some((r, rest)) => {
+                self.put(Instr::Move(*r, Operand::Imm(0)))?;
+                self.zeros(rest)
+            }
+        }
+    }
+
     /// Registers are pushed.
     #[cycle(push)]
-    #[tactic(auto, using(crate::proofs::Written::items))]
     pub(crate) fn push(&mut self, registers: &[Reg]) -> Result<(), AllocError>
-        ensures written { OnOk result (self.new ≡ with_items (push registers.now) self.old) }
-        ensures grown { OnOk result (length self.new.laid.code
-            ≡ length self.old.laid.code + 2 * length registers.now) }
-        ensures sited { OnOk result (self.new.laid.sites ≡ self.old.laid.sites) }
-        ensures kept { OnOk result (self.new.seals ≡ self.old.seals) }
+        ensures { OnOk result (Emits (push registers.now) (2 * length registers.now) 0 self.old self.new) }
     {
         match registers.split_first() {
             None => Ok(()),
@@ -480,10 +441,7 @@ impl Draft {
     /// So many zeros are pushed.
     #[tactic(auto, using(crate::proofs::Written::more))]
     pub(crate) fn push_zeros(&mut self, count: u32) -> Result<(), AllocError>
-        ensures written { OnOk result (self.new ≡ with_items (push (replicate count Reg.T1)) self.old) }
-        ensures grown { OnOk result (length self.new.laid.code ≡ length self.old.laid.code + 2 * count) }
-        ensures sited { OnOk result (self.new.laid.sites ≡ self.old.laid.sites) }
-        ensures kept { OnOk result (self.new.seals ≡ self.old.seals) }
+        ensures { OnOk result (Emits (push (replicate count Reg.T1)) (2 * count) 0 self.old self.new) }
     {
         for _ in 0..count {
             self.put(Instr::Store(Reg::Stk, Reg::T1))?;
@@ -495,10 +453,7 @@ impl Draft {
     /// So many slots are wiped.
     #[tactic(auto, using(crate::proofs::Written::more))]
     pub(crate) fn wipe(&mut self, count: u32) -> Result<(), AllocError>
-        ensures written { OnOk result (self.new ≡ with_items (wipe count) self.old) }
-        ensures grown { OnOk result (length self.new.laid.code ≡ length self.old.laid.code + 2 * count) }
-        ensures sited { OnOk result (self.new.laid.sites ≡ self.old.laid.sites) }
-        ensures kept { OnOk result (self.new.seals ≡ self.old.seals) }
+        ensures { OnOk result (Emits (wipe count) (2 * count) 0 self.old self.new) }
     {
         for _ in 0..count {
             self.put(Instr::Cca(Reg::Stk, Operand::Imm(1)))?;
@@ -508,51 +463,18 @@ impl Draft {
     }
 
     // A register is taken back from its slot, which is wiped.
-    #[tactic(auto, using(crate::proofs::Written::items))]
     fn take_back(&mut self, r: Reg) -> Result<(), AllocError>
-        ensures written { OnOk result (self.new ≡ with_items (take_back r) self.old) }
-        ensures grown { OnOk result (length self.new.laid.code ≡ length self.old.laid.code + 3) }
-        ensures sited { OnOk result (self.new.laid.sites ≡ self.old.laid.sites) }
-        ensures kept { OnOk result (self.new.seals ≡ self.old.seals) }
+        ensures { OnOk result (Emits (take_back r) 3 0 self.old self.new) }
     {
         self.put(Instr::Cca(Reg::Stk, Operand::Imm(1)))?;
         self.put(Instr::Load(r, Reg::Stk))?;
         self.put(Instr::Store(Reg::Stk, Reg::T1))
     }
 
-    // The words that set four registers to 0.
-    fn clear(&mut self, a: Reg, b: Reg, c: Reg, d: Reg) -> Result<(), AllocError>
-        ensures { OnOk result
-            (self.new ≡ with_words (map word_of (map zero_of (a ∷ b ∷ c ∷ d ∷ []))) self.old) }
-    {
-        self.word(Instr::Move(a, Operand::Imm(0)))?;
-        self.word(Instr::Move(b, Operand::Imm(0)))?;
-        self.word(Instr::Move(c, Operand::Imm(0)))?;
-        self.word(Instr::Move(d, Operand::Imm(0)))
-    }
-
-    // The last words of a procedure.
-    #[tactic(auto, unfolding(proc_templates::specs::Items::put, proc_templates::specs::Items::instrs, crate::specs::Drafts::with_items))]
-    fn leave(&mut self) -> Result<(), AllocError>
-        ensures written { OnOk result (self.new ≡ with_items (leaves ∷ []) self.old) }
-        ensures grown { OnOk result (length self.new.laid.code ≡ length self.old.laid.code + 10) }
-        ensures sited { OnOk result (self.new.laid.sites ≡ self.old.laid.sites) }
-        ensures kept { OnOk result (self.new.seals ≡ self.old.seals) }
-    {
-        self.word(Instr::Move(Reg::T2, Operand::Imm(0)))?;
-        self.clear(Reg::C1, Reg::C2, Reg::A1, Reg::A2)?;
-        self.clear(Reg::A3, Reg::G0, Reg::G1, Reg::G2)?;
-        self.word(Instr::Xjmp(Reg::Rcode, Reg::Rdata))
-    }
-
     /// The end of a procedure whose frame has so many words.
-    #[tactic(auto, using(crate::proofs::Written::items))]
     pub(crate) fn epilogue(&mut self, words: u32) -> Result<(), AllocError>
         requires { 2 ≤ words }
-        ensures written { OnOk result (self.new ≡ with_items (epilogue words) self.old) }
-        ensures grown { OnOk result (length self.new.laid.code ≡ length self.old.laid.code + 2 * words + 13) }
-        ensures sited { OnOk result (self.new.laid.sites ≡ self.old.laid.sites) }
-        ensures kept { OnOk result (self.new.seals ≡ self.old.seals) }
+        ensures { OnOk result (Emits (epilogue words) (2 * words + EPILOGUE_WORDS) 0 self.old self.new) }
     {
         self.put(Instr::Move(Reg::T1, Operand::Imm(0)))?;
         self.wipe(words - 2)?;
@@ -561,17 +483,7 @@ impl Draft {
         self.leave()
     }
 
-    /// A procedure begins whose epilogue stands at an offset.
-    pub(crate) fn begin(&mut self, epilogue: u32)
-        requires { epilogue ≤ LAST_OFFSET }
-        ensures { self.new ≡ at_spot (record { stack_base = self.old.spot.stack_base; epilogue = epilogue })
-            self.old }
-    {
-        self.epilogue = epilogue;
-    }
-
     /// The pair of a handle comes into two registers.
-    #[tactic(auto, using(crate::proofs::Written::items))]
     pub(crate) fn load_pair(
         &mut self,
         f: FrameShape,
@@ -581,11 +493,7 @@ impl Draft {
     ) -> Result<(), AllocError>
         requires words_fit { f.words ≤ LAST_PLACE }
         requires fits { HandleBound f handle }
-        ensures written { OnOk result (self.new ≡ with_items (load_pair f handle r q) self.old) }
-        ensures grown { OnOk result (length self.new.laid.code
-            ≡ length self.old.laid.code + pair_words handle) }
-        ensures sited { OnOk result (self.new.laid.sites ≡ self.old.laid.sites) }
-        ensures kept { OnOk result (self.new.seals ≡ self.old.seals) }
+        ensures { OnOk result (Emits (load_pair f handle r q) (pair_words handle) 0 self.old self.new) }
     {
         match handle {
             Handle::Given(i) => {
@@ -598,13 +506,9 @@ impl Draft {
     }
 
     // The pair in two words of the data comes into two registers.
-    #[tactic(auto, using(crate::proofs::Written::items))]
     fn load_linked(&mut self, at: u32, r: Reg, q: Reg) -> Result<(), AllocError>
         requires { at + 1 ≤ LAST_PLACE }
-        ensures written { OnOk result (self.new ≡ with_items (load_linked at r q) self.old) }
-        ensures grown { OnOk result (length self.new.laid.code ≡ length self.old.laid.code + 5) }
-        ensures sited { OnOk result (self.new.laid.sites ≡ self.old.laid.sites) }
-        ensures kept { OnOk result (self.new.seals ≡ self.old.seals) }
+        ensures { OnOk result (Emits (load_linked at r q) 5 0 self.old self.new) }
     {
         self.put(Instr::Cca(Reg::Dat, Operand::Imm(at as i32)))?;
         self.put(Instr::Load(r, Reg::Dat))?;
@@ -616,11 +520,8 @@ impl Draft {
     // The data's cursor is set back by so many.
     fn back_to_start(&mut self, far: u32) -> Result<(), AllocError>
         requires { far ≤ LAST_PLACE }
-        ensures written { OnOk result (self.new
-            ≡ with_items (does (Instr.Cca Reg.Dat (Operand.Imm (distance far 0))) ∷ []) self.old) }
-        ensures grown { OnOk result (length self.new.laid.code ≡ length self.old.laid.code + 1) }
-        ensures sited { OnOk result (self.new.laid.sites ≡ self.old.laid.sites) }
-        ensures kept { OnOk result (self.new.seals ≡ self.old.seals) }
+        ensures { OnOk result (Emits
+            (does (Instr.Cca Reg.Dat (Operand.Imm (distance far 0))) ∷ []) 1 0 self.old self.new) }
     {
         self.put(Instr::Cca(Reg::Dat, Operand::Imm(-(far as i32))))
     }
@@ -655,9 +556,9 @@ fn put_site(code: &mut Vec<Word>, at: u32, number: u32, stack_base: u32) -> Resu
     requires placed { at + CALL_WORDS ≤ LAST_OFFSET }
     requires few { number < MOST_SITES }
     requires base_fits { stack_base ≤ LAST_PLACE }
-    ensures written { OnOk result (code.new.items ≡ code.old.items
-        ++ map word_of (call_code 1 at number ++ return_code 0 (at + CALL_WORDS) stack_base)) }
-    ensures grown { OnOk result (length code.new.items ≡ length code.old.items + SITE_WORDS) }
+    ensures { OnOk result (PutsWords
+        (map word_of (call_code 1 at number ++ return_code 0 (at + CALL_WORDS) stack_base)) SITE_WORDS
+        code.old.items code.new.items) }
 {
     put_numbers(code, &call_words(1, at, number))?;
     put_numbers(code, &return_words(0, at + CALL_WORDS, stack_base))
@@ -667,17 +568,16 @@ fn put_site(code: &mut Vec<Word>, at: u32, number: u32, stack_base: u32) -> Resu
 fn put_entry(code: &mut Vec<Word>, at: u32, stack_base: u32) -> Result<(), AllocError>
     requires placed { at ≤ LAST_OFFSET }
     requires base_fits { stack_base ≤ LAST_PLACE }
-    ensures written { OnOk result (code.new.items
-        ≡ code.old.items ++ map word_of (entry_code 0 at stack_base)) }
-    ensures grown { OnOk result (length code.new.items ≡ length code.old.items + ENTRY_WORDS) }
+    ensures { OnOk result (PutsWords
+        (map word_of (entry_code 0 at stack_base)) ENTRY_WORDS code.old.items code.new.items) }
 {
     put_numbers(code, &entry_words(0, at, stack_base))
 }
 
 // Numbers, each as a word.
 fn put_numbers(code: &mut Vec<Word>, numbers: &[i64]) -> Result<(), AllocError>
-    ensures written { OnOk result (code.new.items ≡ code.old.items ++ map (λ z. Int z) numbers.now) }
-    ensures grown { OnOk result (length code.new.items ≡ length code.old.items + length numbers.now) }
+    ensures { OnOk result (PutsWords
+        (map (λ z. Int z) numbers.now) (length numbers.now) code.old.items code.new.items) }
 {
     for number in numbers {
         code.push(Word::Int(*number))?;

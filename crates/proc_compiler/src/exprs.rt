@@ -1,17 +1,18 @@
 //! Expressions.
-ghost use Rattle.std.specs.Prelude.{◌≡◌, ◌≤◌, ◌<◌, ◌+◌, ◌++◌, OnOk, length, drop};
+ghost use Rattle.std.specs.Prelude.{◌≡◌, ◌≤◌, ◌<◌, ◌+◌, ◌-◌, ◌++◌, OnOk, length, drop};
 ghost use Rattle.cap_words.specs.declared.TheConstants.{LAST_PLACE};
 ghost use Rattle.component_file.specs.declared.TheConstants.{MOST_WORDS};
 ghost use Rattle.proc_program.specs.Program.{Element, Binary};
 ghost use Rattle.proc_program.specs.View.{args_of};
 ghost use Rattle.proc_program.specs.Calls.{calls, args_calls};
 ghost use Rattle.proc_program.specs.Limits.{arg_registers};
-ghost use Rattle.proc_templates.specs.Templates.{exp_words, load_var, code, args_code, load_args, call_items};
+ghost use Rattle.proc_templates.specs.Templates.{exp_words, load_var, args_code, load_args, call_items};
 ghost use Rattle.proc_templates.specs.Templates.{argument, arguments, zeros};
 ghost use Rattle.proc_templates.specs.Sums.{values_words, loads_words, after_values, call_words};
 ghost use Rattle.proc_templates.specs.Bounds.{PlaceBound, RowBound, HandleBound, ExpBound, ArgsBound};
-ghost use Rattle.proc_compiler.specs.Drafts.{with_items};
+ghost use Rattle.proc_compiler.specs.Drafts.{Emits, EmitsExp};
 
+use crate::counts::ACCESS_WORDS;
 use crate::draft::Draft;
 use lcm_isa::{Instr, Operand, Reg};
 use proc_language::{MOST_REGISTERS, Op};
@@ -24,10 +25,7 @@ use std::alloc::AllocError;
 fn load_var(draft: &mut Draft, f: FrameShape, x: Location) -> Result<(), AllocError>
     requires frame { f.words ≤ MOST_WORDS }
     requires fits { PlaceBound f x }
-    ensures written { OnOk result (draft.new ≡ with_items (load_var f x) draft.old) }
-    ensures grown { OnOk result (length draft.new.laid.code ≡ length draft.old.laid.code + 3) }
-    ensures sited { OnOk result (draft.new.laid.sites ≡ draft.old.laid.sites) }
-    ensures kept { OnOk result (draft.new.seals ≡ draft.old.seals) }
+    ensures { OnOk result (Emits (load_var f x) ACCESS_WORDS 0 draft.old draft.new) }
 {
     match x {
         Location::Local(i) => draft.at_slot(f, i + 2, Instr::Load(Reg::G0, Reg::Stk)),
@@ -44,10 +42,7 @@ pub(crate) fn expr(draft: &mut Draft, f: FrameShape, e: &Exp, slot: u32) -> Resu
     requires room { slot + exp_words e.now ≤ LAST_PLACE }
     requires placed { length draft.old.laid.code + exp_words e.now ≤ MOST_WORDS }
     requires seals { length draft.old.laid.sites + calls e.now ≤ draft.old.seals }
-    ensures written { OnOk result (draft.new ≡ with_items (code f slot e.now) draft.old) }
-    ensures grown { OnOk result (length draft.new.laid.code ≡ length draft.old.laid.code + exp_words e.now) }
-    ensures sited { OnOk result (length draft.new.laid.sites ≡ length draft.old.laid.sites + calls e.now) }
-    ensures kept { OnOk result (draft.new.seals ≡ draft.old.seals) }
+    ensures { OnOk result (EmitsExp f slot e.now draft.old draft.new) }
 {
     match &e.kind {
         ExpKind::Number(n) => draft.put(Instr::Move(Reg::G0, Operand::Imm(*n as i32))),
@@ -60,7 +55,7 @@ pub(crate) fn expr(draft: &mut Draft, f: FrameShape, e: &Exp, slot: u32) -> Resu
 
 // A binary operation: its value comes into g0.
 #[cycle(expr)]
-#[tactic(auto, using(crate::proofs::Written::items))]
+#[tactic(auto, using(crate::proofs::Written::operated))]
 fn operation(
     draft: &mut Draft,
     f: FrameShape,
@@ -74,14 +69,8 @@ fn operation(
     requires right_fits { ExpBound f right.now }
     requires room { slot + exp_words (Binary op left.now right.now) ≤ LAST_PLACE }
     requires placed { length draft.old.laid.code + exp_words (Binary op left.now right.now) ≤ MOST_WORDS }
-    requires seals { length draft.old.laid.sites + (calls left.now + calls right.now) ≤ draft.old.seals }
-    ensures written { OnOk result (draft.new
-        ≡ with_items (code f slot (Binary op left.now right.now)) draft.old) }
-    ensures grown { OnOk result (length draft.new.laid.code
-        ≡ length draft.old.laid.code + exp_words (Binary op left.now right.now)) }
-    ensures sited { OnOk result (length draft.new.laid.sites
-        ≡ length draft.old.laid.sites + (calls left.now + calls right.now)) }
-    ensures kept { OnOk result (draft.new.seals ≡ draft.old.seals) }
+    requires seals { length draft.old.laid.sites + calls (Binary op left.now right.now) ≤ draft.old.seals }
+    ensures { OnOk result (EmitsExp f slot (Binary op left.now right.now) draft.old draft.new) }
 {
     expr(draft, f, left, slot)?;
     draft.at_slot(f, slot, Instr::Store(Reg::Stk, Reg::G0))?;
@@ -104,15 +93,10 @@ fn element(
     requires frame { f.words ≤ MOST_WORDS }
     requires row_fits { RowBound f row }
     requires fits { ExpBound f index.now }
-    requires room { slot + exp_words index.now + 15 ≤ LAST_PLACE }
-    requires placed { length draft.old.laid.code + exp_words index.now + 15 ≤ MOST_WORDS }
+    requires room { slot + exp_words (Element row index.now) ≤ LAST_PLACE }
+    requires placed { length draft.old.laid.code + exp_words (Element row index.now) ≤ MOST_WORDS }
     requires seals { length draft.old.laid.sites + calls index.now ≤ draft.old.seals }
-    ensures written { OnOk result (draft.new ≡ with_items (code f slot (Element row index.now)) draft.old) }
-    ensures grown { OnOk result (length draft.new.laid.code
-        ≡ length draft.old.laid.code + exp_words index.now + 15) }
-    ensures sited { OnOk result (length draft.new.laid.sites
-        ≡ length draft.old.laid.sites + calls index.now) }
-    ensures kept { OnOk result (draft.new.seals ≡ draft.old.seals) }
+    ensures { OnOk result (EmitsExp f slot (Element row index.now) draft.old draft.new) }
 {
     expr(draft, f, index, slot)?;
     draft.at_element(
@@ -140,14 +124,9 @@ fn call(
     requires room { slot + call_words h (args_of args.now) ≤ LAST_PLACE }
     requires placed { length draft.old.laid.code + call_words h (args_of args.now) ≤ MOST_WORDS }
     requires seals { length draft.old.laid.sites + args_calls (args_of args.now) + 1 ≤ draft.old.seals }
-    ensures written { OnOk result (draft.new
-        ≡ with_items (args_code f slot 0 (args_of args.now) ++ call_items f slot h (args_of args.now))
-        draft.old) }
-    ensures grown { OnOk result (length draft.new.laid.code
-        ≡ length draft.old.laid.code + call_words h (args_of args.now)) }
-    ensures sited { OnOk result (length draft.new.laid.sites
-        ≡ length draft.old.laid.sites + args_calls (args_of args.now) + 1) }
-    ensures kept { OnOk result (draft.new.seals ≡ draft.old.seals) }
+    ensures { OnOk result (Emits
+        (args_code f slot 0 (args_of args.now) ++ call_items f slot h (args_of args.now))
+        (call_words h (args_of args.now)) (args_calls (args_of args.now) + 1) draft.old draft.new) }
 {
     values(draft, f, args, slot, 0)?;
     call_with(draft, f, h, args, slot)
@@ -169,13 +148,8 @@ fn values(
     requires room { slot + MOST_REGISTERS + values_words (args_of args.now) ≤ LAST_PLACE }
     requires placed { length draft.old.laid.code + values_words (args_of args.now) ≤ MOST_WORDS }
     requires seals { length draft.old.laid.sites + args_calls (args_of args.now) ≤ draft.old.seals }
-    ensures written { OnOk result (draft.new
-        ≡ with_items (args_code f slot from (args_of args.now)) draft.old) }
-    ensures grown { OnOk result (length draft.new.laid.code
-        ≡ length draft.old.laid.code + values_words (args_of args.now)) }
-    ensures sited { OnOk result (length draft.new.laid.sites
-        ≡ length draft.old.laid.sites + args_calls (args_of args.now)) }
-    ensures kept { OnOk result (draft.new.seals ≡ draft.old.seals) }
+    ensures { OnOk result (Emits (args_code f slot from (args_of args.now))
+        (values_words (args_of args.now)) (args_calls (args_of args.now)) draft.old draft.new) }
 {
     match args.split_first() {
         None => Ok(()),
@@ -225,12 +199,8 @@ fn loads(
     requires fits { ArgsBound f (args_of args.now) }
     requires few { from + arg_registers (args_of args.now) ≤ MOST_REGISTERS }
     requires room { slot + MOST_REGISTERS ≤ LAST_PLACE }
-    ensures written { OnOk result (draft.new
-        ≡ with_items (load_args f slot from (args_of args.now)) draft.old) }
-    ensures grown { OnOk result
-        (length draft.new.laid.code ≡ length draft.old.laid.code + loads_words (args_of args.now)) }
-    ensures sited { OnOk result (draft.new.laid.sites ≡ draft.old.laid.sites) }
-    ensures kept { OnOk result (draft.new.seals ≡ draft.old.seals) }
+    ensures { OnOk result (Emits (load_args f slot from (args_of args.now))
+        (loads_words (args_of args.now)) 0 draft.old draft.new) }
 {
     match args.split_first() {
         None => Ok(()),
@@ -249,10 +219,8 @@ fn loads(
 #[tactic(auto, using(crate::proofs::Written::items))]
 fn unused(draft: &mut Draft, count: u32) -> Result<(), AllocError>
     requires { count ≤ MOST_REGISTERS }
-    ensures written { OnOk result (draft.new ≡ with_items (zeros (drop count arguments)) draft.old) }
-    ensures grown { OnOk result (length draft.new.laid.code + count ≡ length draft.old.laid.code + 4) }
-    ensures sited { OnOk result (draft.new.laid.sites ≡ draft.old.laid.sites) }
-    ensures kept { OnOk result (draft.new.seals ≡ draft.old.seals) }
+    ensures { OnOk result
+        (Emits (zeros (drop count arguments)) (MOST_REGISTERS - count) 0 draft.old draft.new) }
 {
     let all = [Reg::A0, Reg::A1, Reg::A2, Reg::A3];
     draft.zeros(&all[count as usize..])
@@ -274,12 +242,8 @@ fn call_with(
     requires room { slot + MOST_REGISTERS ≤ LAST_PLACE }
     requires placed { length draft.old.laid.code + after_values h (args_of args.now) ≤ MOST_WORDS }
     requires seals { length draft.old.laid.sites < draft.old.seals }
-    ensures written { OnOk result (draft.new
-        ≡ with_items (call_items f slot h (args_of args.now)) draft.old) }
-    ensures grown { OnOk result (length draft.new.laid.code
-        ≡ length draft.old.laid.code + after_values h (args_of args.now)) }
-    ensures sited { OnOk result (length draft.new.laid.sites ≡ length draft.old.laid.sites + 1) }
-    ensures kept { OnOk result (draft.new.seals ≡ draft.old.seals) }
+    ensures { OnOk result (Emits (call_items f slot h (args_of args.now))
+        (after_values h (args_of args.now)) 1 draft.old draft.new) }
 {
     loads(draft, f, args, slot, 0)?;
     unused(draft, arg_registers(args))?;

@@ -19,7 +19,7 @@ pub enum CompileFault {
 }
 
 impl CompileFault {
-    /// Its number, behind those of the faults of a text and of names: 10 for `TooLarge`,
+    /// Its number, after those of the faults of a text and of names: 10 for `TooLarge`,
     /// 11 `SealsShort`, 12 `NoMemory`.
     pub fn number(self) -> u8
         ensures { result ≡ fault_number self }

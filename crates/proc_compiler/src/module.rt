@@ -2,22 +2,20 @@
 ghost use Rattle.std.specs.Prelude.{◌≡◌, ◌≤◌, ◌+◌, ◌*◌, OnOk, IfOk, IfErr, length, sum_by, []};
 ghost use Rattle.component_file.specs.declared.TheConstants.{MOST_WORDS};
 ghost use Rattle.flow_rules.specs.Verdict.{IsKept};
-ghost use Rattle.proc_language.specs.declared.module.ModuleFields.{ModuleFields};
-ghost use Rattle.proc_language.specs.Limits.{Each, IsModule};
+ghost use Rattle.proc_language.specs.Limits.{Each};
 ghost use Rattle.proc_names.specs.NameFaults.{name_faults};
-ghost use Rattle.proc_names.specs.Calls.{module_calls};
 ghost use Rattle.proc_program.specs.Calls.{procedure_calls, part_calls};
 ghost use Rattle.proc_program.specs.Limits.{scope_of, ProcedureFits, IsPart};
-ghost use Rattle.proc_program.specs.Lower.{part_of};
 ghost use Rattle.proc_templates.specs.Compiled.{frame_of, pair_count, size_of_proc, code_words, data_count};
-ghost use Rattle.proc_templates.specs.Compiled.{lay_proc, lay_procs, laid_of, literal_of, literal_at_of};
+ghost use Rattle.proc_templates.specs.Compiled.{lay_procs, laid_of, literal_of, literal_at_of};
 ghost use Rattle.proc_templates.specs.Compiled.{first_data};
 ghost use Rattle.proc_templates.specs.Compiled.{imports_of, exports_of, seal_base, component_of, compiled};
 ghost use Rattle.proc_templates.specs.Kept.{FitsComponent, NamesDiffer, KeepsOwnRules};
+ghost use Rattle.proc_compiler.specs.Drafts.{EmitsProc};
 ghost use Rattle.proc_compiler.specs.Fault.{CompilesWith, CausesWith, Compiles, Causes};
 
 use crate::counts::{
-    code_fits, data_fits, is_without_calls, pair_count, seals_suffice, size_of_proc,
+    EPILOGUE_WORDS, code_fits, data_fits, is_without_calls, pair_count, seals_suffice, size_of_proc,
 };
 use crate::draft::Draft;
 use crate::fault::CompileFault;
@@ -48,7 +46,7 @@ fn frame_of(m: &Program, p: &Procedure) -> FrameShape
     }
 }
 
-// A procedure. Its epilogue stands behind all but the last `2w + 13` of its words.
+// A procedure. Its last words are its epilogue.
 #[tactic(auto, using(crate::proofs::Modules::frame_words, crate::proofs::Modules::body_bound, crate::proofs::Modules::temps_le))]
 fn proc_in(draft: &mut Draft, m: &Program, p: &Procedure) -> Result<(), AllocError>
     requires limits { IsPart m.now }
@@ -57,16 +55,10 @@ fn proc_in(draft: &mut Draft, m: &Program, p: &Procedure) -> Result<(), AllocErr
     requires placed { length draft.old.laid.code + size_of_proc p.now ≤ MOST_WORDS }
     requires seals { length draft.old.laid.sites + procedure_calls p.now ≤ draft.old.seals }
     requires base { draft.old.spot.stack_base ≡ m.now.stack }
-    ensures laid { OnOk result (draft.new.laid ≡ lay_proc m.now draft.old.laid p.now) }
-    ensures grown { OnOk result (length draft.new.laid.code
-        ≡ length draft.old.laid.code + size_of_proc p.now) }
-    ensures sited { OnOk result (length draft.new.laid.sites
-        ≡ length draft.old.laid.sites + procedure_calls p.now) }
-    ensures kept { OnOk result (draft.new.seals ≡ draft.old.seals) }
-    ensures base { OnOk result (draft.new.spot.stack_base ≡ m.now.stack) }
+    ensures { OnOk result (EmitsProc m.now p.now draft.old draft.new) }
 {
     let f = frame_of(m, p);
-    draft.begin(draft.at() + size_of_proc(p) - (2 * f.words + 13));
+    draft.begin(draft.at() + size_of_proc(p) - (2 * f.words + EPILOGUE_WORDS));
     proc_at(draft, f, p)
 }
 
@@ -89,7 +81,7 @@ fn procs_in(draft: &mut Draft, m: &Program, procs: &[Procedure]) -> Result<(), A
     }
 }
 
-// The word behind the `fail`: the seal capability over the return seals, where there are calls.
+// The word after the `fail`: the seal capability over the return seals, where there are calls.
 fn literal_of(m: &Program) -> Word
     requires limits { IsPart m.now }
     requires seals { part_calls m.now ≤ m.now.header.return_count }

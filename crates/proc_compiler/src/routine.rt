@@ -1,17 +1,16 @@
 //! Procedures.
-ghost use Rattle.std.specs.Prelude.{◌≡◌, ◌≤◌, ◌+◌, ◌*◌, [], ◌∷◌, ◌++◌, OnOk, length};
+ghost use Rattle.std.specs.Prelude.{◌≡◌, ◌≤◌, ◌+◌, ◌*◌, true, [], ◌∷◌, OnOk, length};
 ghost use Rattle.cap_words.specs.declared.TheConstants.{LAST_PLACE};
 ghost use Rattle.component_file.specs.declared.TheConstants.{MOST_WORDS};
 ghost use Rattle.proc_program.specs.StepView.{block_of};
-ghost use Rattle.proc_program.specs.Calls.{block_calls};
+ghost use Rattle.proc_program.specs.Calls.{procedure_calls};
 ghost use Rattle.proc_program.specs.Limits.{register_count, registers_of};
-ghost use Rattle.proc_templates.specs.Items.{guards};
-ghost use Rattle.proc_templates.specs.Templates.{argument, block_words, check_half, check_param};
-ghost use Rattle.proc_templates.specs.Templates.{check_params};
-ghost use Rattle.proc_templates.specs.Templates.{check_words, checks_words, pushed, push, proc_code};
+ghost use Rattle.proc_templates.specs.Templates.{block_words, check_param, check_params, check_words};
+ghost use Rattle.proc_templates.specs.Templates.{checks_words, pushed, push, proc_code, proc_words};
 ghost use Rattle.proc_templates.specs.Bounds.{BlockBound};
-ghost use Rattle.proc_compiler.specs.Drafts.{with_items};
+ghost use Rattle.proc_compiler.specs.Drafts.{Emits};
 
+use crate::counts::CALLBACK_WORDS;
 use crate::draft::Draft;
 use crate::exprs::argument;
 use crate::stmts::block;
@@ -43,12 +42,7 @@ pub(crate) fn registers_of(callbacks: &[bool]) -> u32
 fn check_callback(draft: &mut Draft, from: u32) -> Result<(), AllocError>
     requires placed { length draft.old.laid.code ≤ MOST_WORDS }
     requires few { from + 2 ≤ MOST_REGISTERS }
-    ensures written { OnOk result (draft.new
-        ≡ with_items (guards (check_half (argument from) ++ check_half (argument (from + 1))) ∷ [])
-        draft.old) }
-    ensures grown { OnOk result (length draft.new.laid.code ≡ length draft.old.laid.code + 13) }
-    ensures sited { OnOk result (draft.new.laid.sites ≡ draft.old.laid.sites) }
-    ensures kept { OnOk result (draft.new.seals ≡ draft.old.seals) }
+    ensures { OnOk result (Emits (check_param from true ∷ []) CALLBACK_WORDS 0 draft.old draft.new) }
 {
     draft.check_pair(argument(from), argument(from + 1))
 }
@@ -57,11 +51,8 @@ fn check_callback(draft: &mut Draft, from: u32) -> Result<(), AllocError>
 fn check(draft: &mut Draft, callback: bool, from: u32) -> Result<(), AllocError>
     requires placed { length draft.old.laid.code ≤ MOST_WORDS }
     requires few { from + register_count callback ≤ MOST_REGISTERS }
-    ensures written { OnOk result (draft.new ≡ with_items (check_param from callback ∷ []) draft.old) }
-    ensures grown { OnOk result (length draft.new.laid.code
-        ≡ length draft.old.laid.code + check_words callback) }
-    ensures sited { OnOk result (draft.new.laid.sites ≡ draft.old.laid.sites) }
-    ensures kept { OnOk result (draft.new.seals ≡ draft.old.seals) }
+    ensures { OnOk result
+        (Emits (check_param from callback ∷ []) (check_words callback) 0 draft.old draft.new) }
 {
     if callback {
         return check_callback(draft, from);
@@ -75,11 +66,8 @@ fn check(draft: &mut Draft, callback: bool, from: u32) -> Result<(), AllocError>
 fn checks(draft: &mut Draft, callbacks: &[bool], from: u32) -> Result<(), AllocError>
     requires few { from + registers_of callbacks.now ≤ MOST_REGISTERS }
     requires placed { length draft.old.laid.code + checks_words callbacks.now ≤ MOST_WORDS }
-    ensures written { OnOk result (draft.new ≡ with_items (check_params from callbacks.now) draft.old) }
-    ensures grown { OnOk result (length draft.new.laid.code
-        ≡ length draft.old.laid.code + checks_words callbacks.now) }
-    ensures sited { OnOk result (draft.new.laid.sites ≡ draft.old.laid.sites) }
-    ensures kept { OnOk result (draft.new.seals ≡ draft.old.seals) }
+    ensures { OnOk result
+        (Emits (check_params from callbacks.now) (checks_words callbacks.now) 0 draft.old draft.new) }
 {
     match callbacks.split_first() {
         None => Ok(()),
@@ -95,10 +83,7 @@ fn checks(draft: &mut Draft, callbacks: &[bool], from: u32) -> Result<(), AllocE
 fn prologue(draft: &mut Draft, params: u32, words: u32) -> Result<(), AllocError>
     requires few { params ≤ MOST_REGISTERS }
     requires room { 2 + params ≤ words }
-    ensures written { OnOk result (draft.new ≡ with_items (push (pushed params words)) draft.old) }
-    ensures grown { OnOk result (length draft.new.laid.code ≡ length draft.old.laid.code + 2 * words) }
-    ensures sited { OnOk result (draft.new.laid.sites ≡ draft.old.laid.sites) }
-    ensures kept { OnOk result (draft.new.seals ≡ draft.old.seals) }
+    ensures { OnOk result (Emits (push (pushed params words)) (2 * words) 0 draft.old draft.new) }
 {
     let all = [Reg::A0, Reg::A1, Reg::A2, Reg::A3];
     draft.push(&[Reg::Rcode, Reg::Rdata])?;
@@ -115,16 +100,11 @@ pub(crate) fn proc_at(draft: &mut Draft, f: FrameShape, p: &Procedure) -> Result
     requires fits { BlockBound f (block_of p.now.body) }
     requires room { f.temps + block_words (block_of p.now.body) ≤ LAST_PLACE }
     requires placed { length draft.old.laid.code
-        + (34 + checks_words p.now.callbacks + 4 * f.words + block_words (block_of p.now.body)) ≤ MOST_WORDS }
-    requires seals { length draft.old.laid.sites + block_calls (block_of p.now.body) ≤ draft.old.seals }
-    ensures written { OnOk result (draft.new
-        ≡ with_items (proc_code f p.now.callbacks (block_of p.now.body)) draft.old) }
-    ensures grown { OnOk result (length draft.new.laid.code
-        ≡ length draft.old.laid.code
-        + (34 + checks_words p.now.callbacks + 4 * f.words + block_words (block_of p.now.body))) }
-    ensures sited { OnOk result (length draft.new.laid.sites
-        ≡ length draft.old.laid.sites + block_calls (block_of p.now.body)) }
-    ensures kept { OnOk result (draft.new.seals ≡ draft.old.seals) }
+        + proc_words f.words p.now.callbacks (block_of p.now.body) ≤ MOST_WORDS }
+    requires seals { length draft.old.laid.sites + procedure_calls p.now ≤ draft.old.seals }
+    ensures { OnOk result (Emits (proc_code f p.now.callbacks (block_of p.now.body))
+        (proc_words f.words p.now.callbacks (block_of p.now.body)) (procedure_calls p.now)
+        draft.old draft.new) }
 {
     let callbacks = p.callbacks.as_slice();
     draft.entry()?;

@@ -1,15 +1,15 @@
 //! Statements.
-ghost use Rattle.std.specs.Prelude.{◌≡◌, ◌≤◌, ◌+◌, OnOk, length};
+ghost use Rattle.std.specs.Prelude.{◌≤◌, ◌+◌, OnOk, length};
 ghost use Rattle.cap_words.specs.declared.TheConstants.{LAST_PLACE};
 ghost use Rattle.component_file.specs.declared.TheConstants.{MOST_WORDS};
 ghost use Rattle.proc_program.specs.Program.{SetAt, If, While};
 ghost use Rattle.proc_program.specs.StepView.{block_of};
-ghost use Rattle.proc_program.specs.Calls.{calls, step_calls, block_calls};
-ghost use Rattle.proc_templates.specs.Templates.{exp_words, step_words, block_words, store_var, step_code};
-ghost use Rattle.proc_templates.specs.Templates.{block_code};
+ghost use Rattle.proc_program.specs.Calls.{step_calls, block_calls};
+ghost use Rattle.proc_templates.specs.Templates.{step_words, block_words, store_var};
 ghost use Rattle.proc_templates.specs.Bounds.{PlaceBound, RowBound, ExpBound, StepBound, BlockBound};
-ghost use Rattle.proc_compiler.specs.Drafts.{with_items};
+ghost use Rattle.proc_compiler.specs.Drafts.{Emits, EmitsStep, EmitsBlock};
 
+use crate::counts::ACCESS_WORDS;
 use crate::draft::Draft;
 use crate::exprs::expr;
 use lcm_isa::{Instr, Operand, Reg};
@@ -22,10 +22,7 @@ use std::alloc::AllocError;
 fn store_var(draft: &mut Draft, f: FrameShape, x: Location) -> Result<(), AllocError>
     requires frame { f.words ≤ MOST_WORDS }
     requires fits { PlaceBound f x }
-    ensures written { OnOk result (draft.new ≡ with_items (store_var f x) draft.old) }
-    ensures grown { OnOk result (length draft.new.laid.code ≡ length draft.old.laid.code + 3) }
-    ensures sited { OnOk result (draft.new.laid.sites ≡ draft.old.laid.sites) }
-    ensures kept { OnOk result (draft.new.seals ≡ draft.old.seals) }
+    ensures { OnOk result (Emits (store_var f x) ACCESS_WORDS 0 draft.old draft.new) }
 {
     match x {
         Location::Local(i) => draft.at_slot(f, i + 2, Instr::Store(Reg::Stk, Reg::G0)),
@@ -42,11 +39,7 @@ fn step(draft: &mut Draft, f: FrameShape, s: &Statement) -> Result<(), AllocErro
     requires room { f.temps + step_words s.now ≤ LAST_PLACE }
     requires placed { length draft.old.laid.code + step_words s.now ≤ MOST_WORDS }
     requires seals { length draft.old.laid.sites + step_calls s.now ≤ draft.old.seals }
-    ensures written { OnOk result (draft.new ≡ with_items (step_code f s.now) draft.old) }
-    ensures grown { OnOk result (length draft.new.laid.code ≡ length draft.old.laid.code + step_words s.now) }
-    ensures sited { OnOk result (length draft.new.laid.sites
-        ≡ length draft.old.laid.sites + step_calls s.now) }
-    ensures kept { OnOk result (draft.new.seals ≡ draft.old.seals) }
+    ensures { OnOk result (EmitsStep f s.now draft.old draft.new) }
 {
     match &s.kind {
         StatementKind::Set(x, e) => {
@@ -83,16 +76,10 @@ fn sets_at(
     requires row_fits { RowBound f row }
     requires index_fits { ExpBound f index.now }
     requires value_fits { ExpBound f e.now }
-    requires room { f.temps + (exp_words index.now + exp_words e.now + 21) ≤ LAST_PLACE }
-    requires placed { length draft.old.laid.code + (exp_words index.now + exp_words e.now + 21) ≤ MOST_WORDS }
-    requires seals { length draft.old.laid.sites + (calls index.now + calls e.now) ≤ draft.old.seals }
-    ensures written { OnOk result (draft.new
-        ≡ with_items (step_code f (SetAt row index.now e.now)) draft.old) }
-    ensures grown { OnOk result (length draft.new.laid.code
-        ≡ length draft.old.laid.code + (exp_words index.now + exp_words e.now + 21)) }
-    ensures sited { OnOk result (length draft.new.laid.sites
-        ≡ length draft.old.laid.sites + (calls index.now + calls e.now)) }
-    ensures kept { OnOk result (draft.new.seals ≡ draft.old.seals) }
+    requires room { f.temps + step_words (SetAt row index.now e.now) ≤ LAST_PLACE }
+    requires placed { length draft.old.laid.code + step_words (SetAt row index.now e.now) ≤ MOST_WORDS }
+    requires seals { length draft.old.laid.sites + step_calls (SetAt row index.now e.now) ≤ draft.old.seals }
+    ensures { OnOk result (EmitsStep f (SetAt row index.now e.now) draft.old draft.new) }
 {
     expr(draft, f, index, f.temps)?;
     draft.at_slot(f, f.temps, Instr::Store(Reg::Stk, Reg::G0))?;
@@ -123,13 +110,8 @@ fn branch(
         + step_words (If c.now (block_of body.now) (block_of other.now)) ≤ MOST_WORDS }
     requires seals { length draft.old.laid.sites
         + step_calls (If c.now (block_of body.now) (block_of other.now)) ≤ draft.old.seals }
-    ensures written { OnOk result (draft.new
-        ≡ with_items (step_code f (If c.now (block_of body.now) (block_of other.now))) draft.old) }
-    ensures grown { OnOk result (length draft.new.laid.code
-        ≡ length draft.old.laid.code + step_words (If c.now (block_of body.now) (block_of other.now))) }
-    ensures sited { OnOk result (length draft.new.laid.sites
-        ≡ length draft.old.laid.sites + step_calls (If c.now (block_of body.now) (block_of other.now))) }
-    ensures kept { OnOk result (draft.new.seals ≡ draft.old.seals) }
+    ensures { OnOk result
+        (EmitsStep f (If c.now (block_of body.now) (block_of other.now)) draft.old draft.new) }
 {
     expr(draft, f, c, f.temps)?;
     draft.jump_if(6, Reg::G0)?;
@@ -155,13 +137,7 @@ fn repeat(draft: &mut Draft, f: FrameShape, c: &Exp, body: &[Statement]) -> Resu
     requires placed { length draft.old.laid.code + step_words (While c.now (block_of body.now)) ≤ MOST_WORDS }
     requires seals { length draft.old.laid.sites + step_calls (While c.now (block_of body.now))
         ≤ draft.old.seals }
-    ensures written { OnOk result (draft.new
-        ≡ with_items (step_code f (While c.now (block_of body.now))) draft.old) }
-    ensures grown { OnOk result (length draft.new.laid.code
-        ≡ length draft.old.laid.code + step_words (While c.now (block_of body.now))) }
-    ensures sited { OnOk result (length draft.new.laid.sites
-        ≡ length draft.old.laid.sites + step_calls (While c.now (block_of body.now))) }
-    ensures kept { OnOk result (draft.new.seals ≡ draft.old.seals) }
+    ensures { OnOk result (EmitsStep f (While c.now (block_of body.now)) draft.old draft.new) }
 {
     let start = draft.at();
     draft.label()?;
@@ -185,12 +161,7 @@ pub(crate) fn block(draft: &mut Draft, f: FrameShape, steps: &[Statement]) -> Re
     requires room { f.temps + block_words (block_of steps.now) ≤ LAST_PLACE }
     requires placed { length draft.old.laid.code + block_words (block_of steps.now) ≤ MOST_WORDS }
     requires seals { length draft.old.laid.sites + block_calls (block_of steps.now) ≤ draft.old.seals }
-    ensures written { OnOk result (draft.new ≡ with_items (block_code f (block_of steps.now)) draft.old) }
-    ensures grown { OnOk result (length draft.new.laid.code
-        ≡ length draft.old.laid.code + block_words (block_of steps.now)) }
-    ensures sited { OnOk result (length draft.new.laid.sites
-        ≡ length draft.old.laid.sites + block_calls (block_of steps.now)) }
-    ensures kept { OnOk result (draft.new.seals ≡ draft.old.seals) }
+    ensures { OnOk result (EmitsBlock f (block_of steps.now) draft.old draft.new) }
 {
     for s in steps {
         step(draft, f, s)?;

@@ -121,7 +121,7 @@ module _ (fuel : ℕ) {K : ℕ → Type 0} where
   adding_one : Blames fuel K (phrases.one adding) (one adding)
   adding_one = a_token adding (adding_token fuel).some
 
--- a word, a sign, to be blamed behind it
+-- a word, a sign, to be blamed after it
 word_is : (w : List ℕ) → IsToken tells (phrases.one (word w)) (one (word w)) (λ a. a)
 word_is w = is_token tells (word w) (λ a. a) (word_places w)
 
@@ -220,19 +220,7 @@ module _ (words : List (List ℕ)) (limits : Bool) (fuel : ℕ) where
       blames_then (field_blames limits fuel (codes "stack")) (λ stack.
       blames_then (movable_blames limits fuel) (λ movable.
       blames_then (sign_one fuel semicolon refl) (λ _.
-      blames_done (record {
-        at = at;
-        name = x;
-        code = code;
-        data_base = data_base;
-        closure =
-            closure;
-        returns = first_return;
-        return_count = return_count;
-        stack = stack;
-        movable =
-            movable;
-      })))))))))))
+      blames_done _))))))))))
 
   name_is : IsToken tells (grammar.name words false) (reading.next_name words limits) (λ x. x.at)
   unfolding grammar.name reading.next_name

@@ -20,18 +20,18 @@ use Rattle.proc_grammar.specs.Grammar.{IsText, Taken}
 use Rattle.proc_grammar.proofs.Limits.{Limits, Keeps}
 use Rattle.proc_grammar.proofs.Within.{spelled_within}
 
--- arguments behind so many registers
+-- arguments after so many registers
 abbrev ArgsWithin : ℕ → List Arg → Type 0
 ArgsWithin used args = (used + limits.arg_registers (args_of args) ≤ MOST_REGISTERS) × ArgsFit (args_of args)
 
--- parameters behind others
+-- parameters after others
 abbrev registers_behind : ℕ → List Param → ℕ
 registers_behind used params = fold (λ n (p : Param). n + limits.param_registers p.arity) used params
 
 abbrev ParamsWithin : Taken → List Param → Type 0
 ParamsWithin used params = (registers_behind used.slots params ≤ MOST_REGISTERS) × Each ParamFits params
 
--- locals behind others
+-- locals after others
 abbrev LocalsWithin : Taken → List Name → Type 0
 LocalsWithin used locals = (used.slots + length locals ≤ MOST_LOCALS) × Each NameFits locals
 

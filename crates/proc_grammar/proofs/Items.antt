@@ -138,17 +138,6 @@ module _ (words : List (List ℕ)) (limits : Bool) (fuel : ℕ) where
       reads_next (field_reads limits fuel (codes "stack")) (λ stack.
       reads_up_to (movable_reads limits fuel) (λ movable.
       reads_next (sign_token fuel semicolon refl) (λ _.
-      reads_done (record {
-        at = at;
-        name = x;
-        code = code;
-        data_base = data_base;
-        closure =
-            closure;
-        returns = first_return;
-        return_count = return_count;
-        stack = stack;
-        movable = movable;
-      })))
+      reads_done _))
       (λ movable. heads_then _ (heads_one (sign semicolon))) (λ k h. none_there (word (codes "movable")) h
       (λ u (a, e). sign_no_word (codes "movable") semicolon u a e))))))))))

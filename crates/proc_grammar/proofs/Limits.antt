@@ -26,7 +26,7 @@ pub record HeaderFits (h : ModuleHeader) : Type 0 where
 abbrev pub Few : {A : Type 0} → (A → Type 0) → List A → Type 0
 Few Fits xs = (length xs ≤ MOST_ITEMS) × Each Fits xs
 
--- The limits: of arguments, parameters and locals behind others, by what those take.
+-- The limits: of arguments, parameters and locals after others, by what those take.
 pub record Limits (E A S P V R M : Type 0) : Type 1 where
   pub Expr : E → Type 0
   pub Args : ℕ → List A → Type 0

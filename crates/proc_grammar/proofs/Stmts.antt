@@ -283,7 +283,7 @@ module _ {E A S P V R M : Type 0} (T : Makes E A S P V R M) (limits : Bool) (fue
       (λ k h. none_there (word (codes "if")) h (word_other (codes "halt") (codes "if") refl))
       (name_end (codes "if") refl))))
 
-  -- what stands behind the word of a statement of a token
+  -- what stands after the word of a statement of a token
   token_reads : (made : ℕ → ℕ → Name → S) (at : ℕ)
       → Reads fuel (then (grammar.a_word T limits) (λ x. then (phrases.one (sign semicolon))
       (λ end. only (made at end x))))

@@ -22,7 +22,7 @@ use Rattle.proc_grammar.proofs.Whole.{found, expected_is, read_again}
 tail_of : {A : Type 0} (x y : A) (k l : List A) → x ∷ k ≡ y ∷ l → (x ≡ y) × (k ≡ l)
 tail_of x y k l e = (cc, cc)
 
--- a token of a list stands in the front of another cut, or behind it
+-- a token of a list stands in the front of another cut, or after it
 token_cut : (a : List Lexeme) (t : Lexeme) (b before rest : List Lexeme) → a ++ t ∷ b ≡ before ++ rest
     → ((u : List Lexeme) × (before ≡ a ++ t ∷ u))
     ⊎ ((u : List Lexeme) × (a ≡ before ++ u) × (rest ≡ u ++ t ∷ b))
@@ -36,7 +36,7 @@ token_cut (y ∷ a) t b (x ∷ before) rest e =
       | inr (u, is, left) ↦ inr (u, (λ i. same.0 i ∷ is i), left)
     ]
 
--- of two cuts one is behind the other, or they are the same
+-- of two cuts one is after the other, or they are the same
 two_cuts : (a b c d : List Lexeme) → a ++ b ≡ c ++ d
     → ((a ≡ c) × (b ≡ d)) ⊎ (((t : Lexeme) × (u : List Lexeme) × (c ≡ a ++ t ∷ u) × (b ≡ t ∷ (u ++ d)))
     ⊎ ((t : Lexeme) × (u : List Lexeme) × (a ≡ c ++ t ∷ u) × (d ≡ t ∷ (u ++ b))))

@@ -44,7 +44,7 @@ module _ {E A S P V R M : Type 0} (T : Makes E A S P V R M) (L : Limits E A S P 
     abbrev FitsWhere : Bool → E → Type 0
     FitsWhere fits e = (fits ≡ true) × L.Expr e
 
-    -- an argument behind others
+    -- an argument after others
     abbrev ArgFits : ℕ → A → Type 0
     ArgFits used a = (behind_arg T used a ≤ MOST_REGISTERS) × Leads T L used a
 

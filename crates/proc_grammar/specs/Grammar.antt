@@ -72,7 +72,7 @@ abbrev pub none_taken : Taken
 none_taken = record { slots = 0; tokens = 0 }
 
 module _ {E A S P V R M : Type 0} (T : Makes E A S P V R M) where
-  -- what is taken behind a parameter, an argument or a local
+  -- what is taken after a parameter, an argument or a local
   abbrev pub behind_param : Taken → P → Taken
   behind_param used p = record {
     slots = used.slots + T.param_registers p;
@@ -88,7 +88,7 @@ module _ {E A S P V R M : Type 0} (T : Makes E A S P V R M) where
     tokens = used.tokens + T.local_tokens x;
   }
 
-  -- what is taken where the locals begin behind these parameters
+  -- what is taken where the locals begin after these parameters
   abbrev pub behind_params : List P → Taken
   behind_params params = record { slots = 0; tokens = sum_by T.param_tokens params }
 
@@ -313,13 +313,13 @@ module _ {E A S P V R M : Type 0} (T : Makes E A S P V R M) (limits : Bool) wher
       _ ← one (sign end_round)
       only []
 
-    -- behind the opening bracket of a call
+    -- after the opening bracket of a call
     unfoldable pub args : Phrase (List A)
     args = do
       _ ← opened
       no_arg or some_args
 
-    -- behind the opening bracket of an index
+    -- after the opening bracket of an index
     unfoldable pub index : Phrase E
     index = do
       _ ← opened

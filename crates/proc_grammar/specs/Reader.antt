@@ -27,7 +27,7 @@ expected = readers.expected tells
 abbrev pub one : {A : Type 0} → Meaning A → Reader A
 one = readers.one tells
 
--- how it goes on behind this word, which stands only where there are tokens, else how it goes on at it
+-- how it goes on after this word, which stands only where there are tokens, else how it goes on at it
 abbrev pub case_token : {K A : Type 0} → Option K → List ℕ → (K → ℕ → Reader A) → Reader A → Reader A
 case_token None w f r = r
 case_token (Some k) w f r = readers.case_next (word w) (f k) r

@@ -146,7 +146,7 @@ module _ {E A S P V R M : Type 0} (T : Makes E A S P V R M) (limits : Bool) (fue
     _ ← within limits used MOST_REGISTERS x.at
     case_next (sign slash) (λ at. arity_behind x used) (done (T.param x))
 
-  -- behind `token`
+  -- after `token`
   unfoldable pub token_param : ℕ → TokenMakes A S P V → Reader P
   token_param tokens makes = do
     x ← next_word
@@ -182,7 +182,7 @@ module _ {E A S P V R M : Type 0} (T : Makes E A S P V R M) (limits : Bool) (fue
     _ ← one (sign semicolon)
     done (T.local x)
 
-  -- behind `token`
+  -- after `token`
   unfoldable pub token_local : ℕ → TokenMakes A S P V → Reader V
   token_local tokens makes = do
     x ← next_word
@@ -200,7 +200,7 @@ module _ {E A S P V R M : Type 0} (T : Makes E A S P V R M) (limits : Bool) (fue
   -- ---- expressions. `fits` says that the first token stands within the limits of what it is part of;
   -- `inner` reads the expressions inside one more bracket
 
-  -- behind `token`
+  -- after `token`
   unfoldable pub token_arg : TokenMakes A S P V → Reader A
   token_arg makes = do
     x ← next_word
@@ -240,13 +240,13 @@ module _ {E A S P V R M : Type 0} (T : Makes E A S P V R M) (limits : Bool) (fue
       _ ← one (sign end_round)
       done (first ∷ others)
 
-    -- behind the opening bracket of a call
+    -- after the opening bracket of a call
     unfoldable pub next_args : ℕ → Reader (List A)
     next_args at = do
       _ ← opened at
       case_next (sign end_round) (λ end. done []) some_args
 
-    -- behind the opening bracket of an index
+    -- after the opening bracket of an index
     unfoldable pub next_index : ℕ → Reader E
     next_index at = do
       _ ← opened at
@@ -330,7 +330,7 @@ module _ {E A S P V R M : Type 0} (T : Makes E A S P V R M) (limits : Bool) (fue
 
   -- ---- statements. `inner` reads those inside one more bracket
 
-  -- behind the word of a statement of a token
+  -- after the word of a statement of a token
   unfoldable pub token_behind : (ℕ → ℕ → Name → S) → ℕ → Reader S
   token_behind made at = do
     x ← next_word

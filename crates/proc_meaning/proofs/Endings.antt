@@ -1,4 +1,4 @@
--- What stands behind a procedure, whencever it came to be run.
+-- What stands after a procedure, whencever it came to be run.
 use Rattle.std.proofs.Common.{◌≡◌, ℤ, pos, List, ◌∷◌, refl}
 use Rattle.proc_semantics.specs.declared.value.Activation.{Activation}
 use Rattle.proc_semantics.specs.declared.value.Value.{Value}

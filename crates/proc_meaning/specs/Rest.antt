@@ -73,7 +73,7 @@ module _ (world : World) where
     with_value (Halt ∷ ws) f env v st = ends (Halted v)
     with_value _ f env v st = fails
 
-    -- what is done behind a statement
+    -- what is done after a statement
     pub after : List Work → Activation → Next
     after (Rest b ∷ ws) f env st =
         block world (whole world) f (block_of b.now) (back ws f) (after ws f) env st
@@ -104,7 +104,7 @@ module _ (world : World) where
         Some (call_wait world r.frame.home given site (with_value ws r.frame r.env.items))
     waiting _ = None
 
-  -- what goes on behind a procedure
+  -- what goes on after a procedure
   abbrev pub ended : Whence → List Work → Then
   ended Start ws v st = fails
   ended (Caller r) ws v st = with_value ws r.frame r.env.items v st

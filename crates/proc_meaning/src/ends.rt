@@ -15,7 +15,7 @@ use proc_semantics::{Activation, Register, Target, Value};
 use source_events::End;
 use std::alloc::{AllocError, Global};
 
-/// Locals that begin at 0, behind what parameters took.
+/// Locals that begin at 0, after what parameters took.
 fn add_locals(mut env: Vec<Value>, count: u32) -> Result<Vec<Value>, AllocError>
     ensures { IfOk result (λ e. e.items ≡ env.items ++ replicate count (Num (pos 0))) }
 {
@@ -108,7 +108,7 @@ pub(crate) fn end_run<'a>(whence: Whence<'a>, value: i64, run: &mut Run) -> Ahea
     }
 }
 
-/// A procedure returns a value, past what stands behind the statement.
+/// A procedure returns a value, past what stands after the statement.
 fn back_of<'a>(w: Work<'a>, v: i64, run: &mut Run) -> Ahead<'a>
     ensures same { (world : World) (items : List Work) (st : Store) →
         back world (w.entry ∷ reverse items) run.old.frame v st ≡ ahead_of world result items run.new st }

@@ -1,4 +1,4 @@
-//! Statements: what each begins with, what a value does then, and what stands behind.
+//! Statements: what each begins with, what a value does then, and what stands after.
 ghost use Rattle.std.specs.Prelude.{◌≡◌, ◌+◌, ◌*◌, IfOk, length, reverse, ◌∷◌};
 ghost use Rattle.proc_program.specs.StepView.{block_of};
 ghost use Rattle.proc_semantics.specs.Told.{tick};
@@ -191,7 +191,7 @@ pub(crate) fn give<'a>(
     }
 }
 
-/// A statement is done, and this stands behind it.
+/// A statement is done, and this stands after it.
 fn next_of<'a>(
     w: Work<'a>,
     work: &mut Vec<Work<'a>>,

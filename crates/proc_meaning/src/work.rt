@@ -5,7 +5,7 @@ use proc_program::{ArgExp, Array, CallExp, Exp, Location, Statement};
 use proc_semantics::{Register, Target, Value};
 use source_events::{End, FeedBack, Item, OutEvent};
 
-/// What is to be done with a value, behind a statement, or at the end of a procedure.
+/// What is to be done with a value, after a statement, or at the end of a procedure.
 #[derive(Drop)]
 pub(crate) enum Work<'a> {
     /// The value is an index.
@@ -14,7 +14,7 @@ pub(crate) enum Work<'a> {
     Right(Op, &'a Exp),
     /// The value is the right operand.
     Operate(Op, i64),
-    /// The value is an argument of a call, behind these and before those.
+    /// The value is an argument of a call, after these and before those.
     Arg(&'a CallExp, Vec<Value>, &'a [ArgExp]),
     /// A variable is set.
     SetTo(Location),

@@ -1,5 +1,6 @@
 mod NeedLemmas
 pub mod FirstLemmas
+pub mod ItemFaults
 mod TwiceLemmas
 mod CallLemmas
 pub mod Offers

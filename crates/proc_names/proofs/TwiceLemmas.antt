@@ -14,7 +14,7 @@ again-append x (y ∷ ys) zs =
     let here : List NameFault = unless (not (same x y)) (Twice y.at) in
     ap (λ fs. here ++ fs) (again-append x ys zs) ∙ sym (append_assoc here (again x ys) (again x zs))
 
--- a name, and those behind it, which stand in two lists
+-- a name, and those after it, which stand in two lists
 pub twice_step : (found : Option NameFault) (x : Name) (xs ys : List Name)
     → earlier (earlier found (earlier (first (again x xs)) (first (again x ys)))) (first (twice (xs ++ ys)))
     ≡ earlier found (first (twice ((x ∷ xs) ++ ys)))

@@ -121,7 +121,7 @@ module _ (m : ModuleFields) (p : Proc) where
 
 -- ---- names that stand twice
 
--- each place behind where the name stands again
+-- each place after where the name stands again
 abbrev pub again : Name → List Name → List NameFault
 again x [] = []
 again x (y ∷ ys) = unless (not (same x y)) (Twice y.at) ++ again x ys

@@ -20,7 +20,7 @@ pub enum NameFault {
 }
 
 impl NameFault {
-    /// Its number, behind those of the faults of a text: 6 for `Unknown`, 7 `Twice`, 8 `Arity`,
+    /// Its number, after those of the faults of a text: 6 for `Unknown`, 7 `Twice`, 8 `Arity`,
     /// 9 `WrongKind`.
     pub fn number(self) -> u8
         ensures { result ≡ fault_number self }

@@ -45,7 +45,7 @@ pub fn twice<T: Named>(items: &[T]) -> Option<NameFault>
     found
 }
 
-/// Where a name stands that an item before has, in two lists one behind the other: the first such place.
+/// Where a name stands that an item before has, in two lists one after the other: the first such place.
 #[tactic(auto, using(crate::proofs::TwiceLemmas::twices))]
 pub fn twice_in_two<T: Named, U: Named>(items: &[T], others: &[U]) -> Option<NameFault>
     ensures { result ≡ first (twice (map T.name_of items.now ++ map U.name_of others.now)) }

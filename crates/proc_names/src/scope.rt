@@ -175,7 +175,7 @@ fn is_taken(m: &ModuleFields, p: &Proc, f: &Name) -> bool
         || is_there(m.procs.as_slice(), f)
 }
 
-/// What the name behind `proc`, as an argument, leads to in a procedure of a module: its callbacks,
+/// What the name after `proc`, as an argument, leads to in a procedure of a module: its callbacks,
 /// imports, shared procedures, in this order; `Other` where only a parameter, a local, a global or
 /// another procedure has the name.
 #[tactic(auto, unfolding(crate::specs::Names::passed_named))]

@@ -90,7 +90,7 @@ token_word_nowhere (Some k) w i e = absurd cc
 
 -- ---- lists
 
--- what was read behind a front
+-- what was read after a front
 front_ok : {A B : Type 0} (front : List A) (read : Result (List A × Input) ParseFault) (v : List A)
     (j : Input) (g : List A → Reader B) → with_front front read ≡ Ok (v, j)
     → goes_on read (λ xs. g (front ++ xs)) ≡ g v j
@@ -349,7 +349,7 @@ module _ {E A S P V R M : Type 0} (T : Makes E A S P V R M) where
       (ap (next_term T true full room (inner_expr T true full room)
       (nat_lt count MOST_TERMS)) (sym left) ∙ e)) fails
 
-  -- ---- behind a name
+  -- ---- after a name
 
   module _ (room : ℕ) where
     pub name_index : (x : Name) (i k j : Input) (at : ℕ) (e b : E) → next_means (sign square) i ≡ Some at

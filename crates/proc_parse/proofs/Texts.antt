@@ -109,7 +109,7 @@ ascend text low (t ∷ tokens) p h =
     (omega (arith, rest, some))
     (ascend text (t.at + t.len) tokens p.1 (All-tail (IsSpelled text) t tokens h))
 
--- a token stands before what is behind it
+-- a token stands before what is after it
 from_front : (u rest : List Lexeme) (end n : ℕ) → Ascends (u ++ rest) end → n < place_in (u ++ rest) end
     → n < place_in rest end
 from_front [] rest end n h lt = lt

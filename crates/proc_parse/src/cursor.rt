@@ -63,7 +63,7 @@ impl<'a, 'b> TokenCursor<'a, 'b> {
         }
     }
 
-    // The next token, and what is behind it.
+    // The next token, and what is after it.
     fn skip(&mut self)
         requires { 0 < length self.old.rest }
         ensures { self.new ≡ behind self.old }

@@ -94,7 +94,7 @@ fn sum<L: Language>(
     more_terms::<L>(alloc, tokens, room, first)
 }
 
-// The terms behind the first one.
+// The terms after the first one.
 #[cycle(expr)]
 fn more_terms<L: Language>(
     alloc: Global,
@@ -145,7 +145,7 @@ fn term<L: Language>(
     }
 }
 
-// Behind the bracket at this place.
+// After the bracket at this place.
 #[cycle(expr)]
 #[tactic(auto, unfolding(proc_grammar::specs::Reading::bracket_term))]
 fn bracket_term<L: Language>(
@@ -210,7 +210,7 @@ fn behind_name<L: Language>(
     Ok(L::call_of(at, name, args))
 }
 
-/// What stands behind the bracket of an index at this place.
+/// What stands after the bracket of an index at this place.
 #[cycle(expr)]
 #[tactic(auto, unfolding(proc_grammar::specs::Reading::next_index))]
 pub fn index<L: Language>(
@@ -230,7 +230,7 @@ pub fn index<L: Language>(
     Ok(e)
 }
 
-/// What stands behind the bracket of a call at this place.
+/// What stands after the bracket of a call at this place.
 #[cycle(expr)]
 #[tactic(auto, unfolding(proc_grammar::specs::Reading::next_args, phrases::specs::Reading::case_next))]
 pub fn args<L: Language>(
@@ -268,7 +268,7 @@ fn some_args<L: Language>(
     Ok(args)
 }
 
-// The arguments behind the first one, and that.
+// The arguments after the first one, and that.
 #[cycle(expr)]
 fn more_args<L: Language>(
     alloc: Global,
@@ -309,7 +309,7 @@ fn another<L: Language>(
     arg::<L>(alloc, tokens, room, used)
 }
 
-// An argument behind others that take so many registers.
+// An argument after others that take so many registers.
 #[cycle(expr)]
 #[tactic(auto, unfolding(proc_grammar::specs::Reading::next_arg))]
 fn arg<L: Language>(
@@ -330,7 +330,7 @@ fn arg<L: Language>(
     }
 }
 
-// A token as an argument, behind `token`.
+// A token as an argument, after `token`.
 #[tactic(auto, unfolding(proc_grammar::specs::Reading::token_arg))]
 fn token_arg<L: Language>(
     alloc: Global,

@@ -25,7 +25,7 @@ const NONE_TAKEN: Taken = Taken {
     tokens: 0,
 };
 
-// The number of registers behind the `/` of a callback that is a parameter behind so many registers.
+// The number of registers after the `/` of a callback that is a parameter after so many registers.
 #[tactic(auto, unfolding(proc_grammar::specs::Reading::arity_behind))]
 fn callback<L: Language>(
     tokens: &mut TokenCursor<'_, '_>,
@@ -44,7 +44,7 @@ fn callback<L: Language>(
     Ok(L::callback_of(name, arity))
 }
 
-// A parameter that is no token, behind others that take so many registers.
+// A parameter that is no token, after others that take so many registers.
 #[tactic(auto, unfolding(proc_grammar::specs::Reading::plain_param, phrases::specs::Reading::case_next))]
 fn plain_param<L: Language>(
     alloc: Global,
@@ -66,7 +66,7 @@ fn plain_param<L: Language>(
     Ok(L::param_of(name))
 }
 
-// A parameter that is a token, behind `token` and so many other tokens.
+// A parameter that is a token, after `token` and so many other tokens.
 #[tactic(auto, unfolding(proc_grammar::specs::Reading::token_param))]
 fn token_param<L: Language>(
     alloc: Global,
@@ -86,7 +86,7 @@ fn token_param<L: Language>(
     Ok(L::token_param_of(name).unwrap())
 }
 
-// A parameter behind others that take so much.
+// A parameter after others that take so much.
 #[tactic(auto, unfolding(proc_grammar::specs::Reading::next_param))]
 fn param<L: Language>(
     alloc: Global,
@@ -117,7 +117,7 @@ fn another<L: Language>(
     param::<L>(alloc, tokens, used)
 }
 
-// What is taken behind a parameter.
+// What is taken after a parameter.
 fn behind_param<L: Language>(used: Taken, param: &L::Param) -> Taken
     requires { AreFew MOST_REGISTERS (behind_param L.made used param.now) }
     ensures { result ≡ behind_param L.made used param.now }
@@ -135,7 +135,7 @@ struct ParamList<P: Drop> {
     tokens: u32,
 }
 
-// The parameters behind the first one, and that.
+// The parameters after the first one, and that.
 fn more_params<L: Language>(
     alloc: Global,
     tokens: &mut TokenCursor<'_, '_>,
@@ -194,7 +194,7 @@ fn params<L: Language>(
     some_params::<L>(alloc, tokens)
 }
 
-// A local that is no token, behind so many.
+// A local that is no token, after so many.
 #[tactic(auto, unfolding(proc_grammar::specs::Reading::plain_local))]
 fn plain_local<L: Language>(
     alloc: Global,
@@ -214,7 +214,7 @@ fn plain_local<L: Language>(
     Ok(L::local_of(name))
 }
 
-// A local that is a token, behind `token` and so many other tokens.
+// A local that is a token, after `token` and so many other tokens.
 #[tactic(auto, unfolding(proc_grammar::specs::Reading::token_local))]
 fn token_local<L: Language>(
     alloc: Global,
@@ -235,7 +235,7 @@ fn token_local<L: Language>(
     Ok(L::token_local_of(name).unwrap())
 }
 
-// A local behind what takes so much.
+// A local after what takes so much.
 #[tactic(auto, unfolding(proc_grammar::specs::Reading::next_local))]
 fn local<L: Language>(
     alloc: Global,
@@ -252,7 +252,7 @@ fn local<L: Language>(
     }
 }
 
-// What is taken behind a local.
+// What is taken after a local.
 fn behind_local<L: Language>(used: Taken, local: &L::Local) -> Taken
     requires { AreFew MOST_LOCALS (behind_local L.made used local.now) }
     ensures { result ≡ behind_local L.made used local.now }
@@ -263,7 +263,7 @@ fn behind_local<L: Language>(used: Taken, local: &L::Local) -> Taken
     }
 }
 
-// The locals behind parameters that are so many tokens.
+// The locals after parameters that are so many tokens.
 fn locals<L: Language>(
     alloc: Global,
     tokens: &mut TokenCursor<'_, '_>,
@@ -287,7 +287,7 @@ fn locals<L: Language>(
     Ok(locals)
 }
 
-// A procedure behind its `proc`.
+// A procedure after its `proc`.
 #[tactic(auto, unfolding(proc_grammar::specs::Reading::proc_behind, proc_grammar::specs::Reading::next_locals))]
 fn behind_proc<L: Language>(
     alloc: Global,

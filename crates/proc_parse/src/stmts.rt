@@ -64,7 +64,7 @@ fn stmt<L: Language>(
     plain_stmt::<L>(alloc, tokens, room)
 }
 
-// Behind `make`.
+// After `make`.
 #[tactic(auto, unfolding(proc_grammar::specs::Reading::token_behind))]
 fn make_stmt<L: Language>(
     alloc: Global,
@@ -80,7 +80,7 @@ fn make_stmt<L: Language>(
     Ok(L::make_of(at, end, name).unwrap())
 }
 
-// Behind `spend`.
+// After `spend`.
 #[tactic(auto, unfolding(proc_grammar::specs::Reading::token_behind))]
 fn spend_stmt<L: Language>(
     alloc: Global,

@@ -1,4 +1,4 @@
--- Tokens written one behind another.
+-- Tokens written one after another.
 use Rattle.std.proofs.Common.{◌≡◌, ℕ, refl, sym, ◌∙◌, ap, List, [], ◌∷◌, ◌++◌, append_assoc}
 use Rattle.std.proofs.lemmas.List.{append-nil}
 use Rattle.proc_print.specs.Printed.{Piece, bytes_of, behind, spelled, appended}

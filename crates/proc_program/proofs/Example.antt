@@ -48,8 +48,8 @@ source = record {
       } ∷ [];
 }
 
-lowered : Program
-lowered = record {
+unfoldable pub callbacks : Program
+callbacks = record {
   name = codes "cb";
   stack = 65536;
   header = record {
@@ -82,6 +82,6 @@ lowered = record {
       } ∷ [];
 }
 
-as_lowered : part_of source ≡ lowered
-unfolding source lowered variable_named callee_named
+as_lowered : part_of source ≡ callbacks
+unfolding source callbacks variable_named callee_named
 as_lowered = refl

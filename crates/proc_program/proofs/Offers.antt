@@ -4,3 +4,5 @@
 pub use Rattle.proc_program.proofs.Kept.{count_same, globals-length, part_fits, procs-length, row_within}
 -- a program has as many calls as its module
 pub use Rattle.proc_program.proofs.Counted.{among, block_kept, calls_kept, exp_calls, stmt_kept}
+-- a program with callbacks
+unfoldable pub use Rattle.proc_program.proofs.Example.{callbacks}

@@ -228,7 +228,7 @@ fn call_of(
     })
 }
 
-// Behind what is lowered already, the arguments that are left.
+// After what is lowered already, the arguments that are left.
 #[cycle(exp_of)]
 #[tactic(auto, using(crate::proofs::Limits::one_more))]
 fn args_of(

@@ -5,7 +5,8 @@ use Rattle.proc_language.specs.declared.tree.Op.TheVariants.{Plus}
 use Rattle.proc_program.specs.declared.program.Handle.TheVariants.{Given, Own, Imported}
 use Rattle.proc_program.specs.declared.program.Location.TheVariants.{Local, Global}
 use Rattle.proc_program.specs.declared.program.Header.{Header}
-use Rattle.proc_program.specs.Program.{Number, Load, Call, Binary, no_args, value, pass, Set}
+use Rattle.proc_program.specs.declared.program.Procedure.{Procedure}
+use Rattle.proc_program.specs.Program.{Number, Load, Call, Binary, no_args, value, pass, Statement, Set}
 use Rattle.proc_program.specs.Program.{Do, Return, Halt}
 use Rattle.source_events.specs.declared.Item.{Item}
 use Rattle.source_events.specs.declared.Item.TheVariants.{Enter, Ret}
@@ -30,6 +31,27 @@ nowhere = record {
   movable = false;
 }
 
+-- a module that imports one procedure, with these globals and procedures
+abbrev module_with : List ℕ → List ℤ → List Procedure → World
+module_with name globals procs = record {
+  name = name;
+  stack = 65536;
+  header = nowhere;
+  imports = record { part = codes "other"; name = codes "go" } ∷ [];
+  globals = globals;
+  procs = procs;
+} ∷ []
+
+abbrev main_of : ℕ → List Statement → Procedure
+main_of need body = record {
+  name = codes "main";
+  shared = true;
+  callbacks = [];
+  locals = 0;
+  need = need;
+  body = body;
+}
+
 abbrev no_pairs : List FeedPair
 no_pairs = fed.Nothing ∷ fed.Nothing ∷ fed.Nothing ∷ []
 
@@ -42,22 +64,15 @@ one n = Int (pos n) ∷ Int (pos 0) ∷ Int (pos 0) ∷ Int (pos 0) ∷ []
 
 -- export proc deposit(n) { balance = balance + n; notify(balance); return balance; }
 bank : World
-bank = record {
-  name = codes "bank";
-  stack = 65536;
-  header = nowhere;
-  imports = record { part = codes "other"; name = codes "go" } ∷ [];
-  globals = pos 100 ∷ [];
-  procs = record {
-    name = codes "deposit";
-    shared = true;
-    callbacks = false ∷ [];
-    locals = 0;
-    need = 4;
-    body = Set (Global 0) (Binary Plus (Load (Global 0)) (Load (Local 0)))
-        ∷ Do (Call 0 (Imported 0) (value (Load (Global 0)) no_args)) ∷ Return (Load (Global 0)) ∷ [];
-  } ∷ [];
-} ∷ []
+bank = module_with (codes "bank") (pos 100 ∷ []) (record {
+  name = codes "deposit";
+  shared = true;
+  callbacks = false ∷ [];
+  locals = 0;
+  need = 4;
+  body = Set (Global 0) (Binary Plus (Load (Global 0)) (Load (Local 0)))
+      ∷ Do (Call 0 (Imported 0) (value (Load (Global 0)) no_args)) ∷ Return (Load (Global 0)) ∷ [];
+} ∷ [])
 
 deposits : List Item
 deposits = Enter (codes "bank") (codes "deposit") (Some 64)
@@ -74,21 +89,8 @@ the_bank = refl
 
 -- export proc main() { go(0); halt 7; }
 older : World
-older = record {
-  name = codes "rec";
-  stack = 65536;
-  header = nowhere;
-  imports = record { part = codes "other"; name = codes "go" } ∷ [];
-  globals = [];
-  procs = record {
-    name = codes "main";
-    shared = true;
-    callbacks = [];
-    locals = 0;
-    need = 3;
-    body = Do (Call 0 (Imported 0) (value (Number 0) no_args)) ∷ Halt (Number 7) ∷ [];
-  } ∷ [];
-} ∷ []
+older = module_with (codes "rec") []
+    (main_of 3 (Do (Call 0 (Imported 0) (value (Number 0) no_args)) ∷ Halt (Number 7) ∷ []) ∷ [])
 
 answer_of_no_number : List Item
 answer_of_no_number = Ret (codes "rec") 0 65596 None ∷ []
@@ -103,28 +105,14 @@ no_number = refl
 
 -- export proc main() { halt go(); }  export proc twice(f/1, x) { return f(f(x)); }
 twice : World
-twice = record {
-  name = codes "cb";
-  stack = 65536;
-  header = nowhere;
-  imports = record { part = codes "other"; name = codes "go" } ∷ [];
-  globals = [];
-  procs = record {
-    name = codes "main";
-    shared = true;
-    callbacks = [];
-    locals = 0;
-    need = 2;
-    body = Halt (Call 0 (Imported 0) no_args) ∷ [];
-  } ∷ record {
-    name = codes "twice";
-    shared = true;
-    callbacks = true ∷ false ∷ [];
-    locals = 0;
-    need = 6;
-    body = Return (Call 2 (Given 0) (value (Call 1 (Given 0) (value (Load (Local 2)) no_args)) no_args)) ∷ [];
-  } ∷ [];
-} ∷ []
+twice = module_with (codes "cb") [] (main_of 2 (Halt (Call 0 (Imported 0) no_args) ∷ []) ∷ record {
+  name = codes "twice";
+  shared = true;
+  callbacks = true ∷ false ∷ [];
+  locals = 0;
+  need = 6;
+  body = Return (Call 2 (Given 0) (value (Call 1 (Given 0) (value (Load (Local 2)) no_args)) no_args)) ∷ [];
+} ∷ [])
 
 called_back : List Item
 called_back = Enter (codes "cb") (codes "twice") (Some 61)
@@ -155,21 +143,7 @@ too_little = refl
 
 -- export proc main() { halt go(proc main); }
 itself : World
-itself = record {
-  name = codes "m";
-  stack = 65536;
-  header = nowhere;
-  imports = record { part = codes "other"; name = codes "go" } ∷ [];
-  globals = [];
-  procs = record {
-    name = codes "main";
-    shared = true;
-    callbacks = [];
-    locals = 0;
-    need = 4;
-    body = Halt (Call 0 (Imported 0) (pass (Own 0) no_args)) ∷ [];
-  } ∷ [];
-} ∷ []
+itself = module_with (codes "m") [] (main_of 4 (Halt (Call 0 (Imported 0) (pass (Own 0) no_args)) ∷ []) ∷ [])
 
 waits_at_8 : meaning itself 64 [] 1000 ≡ record {
   events = CallOut (codes "m") 0 (Half ∷ Half ∷ Int (pos 0) ∷ Int (pos 0) ∷ []) ∷ [];

@@ -7,10 +7,11 @@ use Rattle.source_events.specs.declared.End.TheVariants.{Halt as Halted, Fail, W
 use Rattle.source_events.specs.declared.Told.{Told}
 use Rattle.proc_semantics.specs.Told.{Comp, tick, counted, said, take_item}
 use Rattle.proc_semantics.specs.Values.{World, main_target}
-use Rattle.proc_semantics.specs.Meaning.{meaning}
+use Rattle.proc_semantics.specs.Meaning.{meaning, plain_domain}
 use Rattle.proc_semantics.specs.Fuel.{Later, Within, EndsWith, FuelLaws}
-use Rattle.proc_semantics.proofs.Congruence.{IsKept, levels_kept}
-use Rattle.proc_semantics.proofs.Recursive.{start_kept, enough}
+use Rattle.proc_semantics.proofs.Congruence.{IsKept, kin_by}
+use Rattle.proc_semantics.proofs.Kin.{starts_kept}
+use Rattle.proc_semantics.proofs.Recursive.{enough}
 
 -- ---- more fuel
 
@@ -71,8 +72,8 @@ later : (world : World) (stack : ℕ) (feed : List Item) (f e : ℕ)
 later world stack feed f e =
     let n = f + e + length feed + 1 in
     subst (λ t. Later f t (meaning world stack feed (f + e))) (enough world stack feed f n (omega arith))
-    ((start_kept Fuller fuller_kept world n stack (main_target world) (map (λ u. u.globals) world) _ _
-    (levels_kept Fuller fuller_kept world n n n (omega arith) (omega arith))).is f e feed (omega arith))
+    ((starts_kept plain_domain plain_domain (kin_by Fuller fuller_kept) world n stack n n (main_target world)
+    (map (λ u. u.globals) world) (omega arith) (omega arith)).is f e feed (omega arith))
 
 -- ---- no more ticks than the fuel
 
@@ -119,8 +120,8 @@ fits_kept = record {
 within : (world : World) (stack : ℕ) (feed : List Item) (f : ℕ) → Within f (meaning world stack feed f)
 within world stack feed f =
     let n = f + length feed + 1 in
-    (start_kept Fits fits_kept world n stack (main_target world) (map (λ u. u.globals) world) _ _
-    (levels_kept Fits fits_kept world n n n (omega arith) (omega arith))).is f feed (omega arith)
+    (starts_kept plain_domain plain_domain (kin_by Fits fits_kept) world n stack n n (main_target world)
+    (map (λ u. u.globals) world) (omega arith) (omega arith)).is f feed (omega arith)
 
 -- ---- the end
 

@@ -1,5 +1,5 @@
-pub mod Congruence
 pub mod Kin
+pub mod Congruence
 pub mod Marked
 pub mod Recursive
 pub mod Fuelled

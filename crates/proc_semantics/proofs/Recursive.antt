@@ -11,10 +11,11 @@ use Rattle.proc_semantics.specs.declared.value.Activation.{Activation}
 use Rattle.proc_semantics.specs.Told.{Comp, tick, counted, said, take_item}
 use Rattle.proc_semantics.specs.Values.{World, register_of, Store, main_target, proc_at}
 use Rattle.proc_semantics.specs.Meaning.{Then, Next, Wait, Level, proc_of, turn_at, on_item, level, start}
-use Rattle.proc_semantics.specs.Meaning.{meaning}
+use Rattle.proc_semantics.specs.Meaning.{meaning, plain_domain}
 use Rattle.proc_semantics.specs.Whole.{whole_proc, whole_wait, whole_turn, whole_hop, whole, IsRecursive}
-use Rattle.proc_semantics.proofs.Congruence.{IsKept, RWait, RLevel, levels_kept, proc_kept}
-use Rattle.proc_semantics.proofs.Congruence.{turn_kept, item_kept, then_less, next_less, wait_less}
+use Rattle.proc_semantics.proofs.Congruence.{IsKept, kin_by}
+use Rattle.proc_semantics.proofs.Kin.{Kin, RWait, RLevel, levels_kept, starts_kept, proc_kept, turn_kept}
+use Rattle.proc_semantics.proofs.Kin.{item_kept, then_less, next_less, wait_less}
 
 pub record Same (b : ℕ) (m m' : Comp) : Type 0 where
   is : (f : ℕ) (feed : List Item) → f + length feed < b → m f feed ≡ m' f feed
@@ -34,7 +35,7 @@ same_take b k k' s = record { is = is }
     is f [] lt = refl
     is f (i ∷ feed) lt = (s i).is f feed (omega (arith, lt))
 
-pub same_kept : IsKept Same
+same_kept : IsKept Same
 same_kept = record {
   failing = λ b. record { is = λ f feed lt. refl };
   halting = λ b v. record { is = λ f feed lt. refl };
@@ -45,51 +46,61 @@ same_kept = record {
   none = λ m m'. record { is = λ f feed lt. absurd (omega (arith, lt)) };
 }
 
+abbrev same_kin : Kin plain_domain plain_domain
+same_kin = kin_by Same same_kept
+
 refl_same : (b : ℕ) (m : Comp) → Same b m m
 refl_same b m = record { is = λ f feed lt. refl }
 
-same_wait : (b : ℕ) (c : Option Wait) → RWait Same b c c
+same_wait : (b : ℕ) (c : Option Wait) → RWait plain_domain plain_domain same_kin b c c
 same_wait b None = tt
 same_wait b (Some c) = (refl, refl, refl, refl, λ v st. refl_same b _)
 
 module _ (world : World) where
-  same_whole : (b d : ℕ) → b ≤ d → RLevel Same b (level world d) (whole world)
+  same_levels : (n d : ℕ) → n ≤ d
+      → RLevel plain_domain plain_domain same_kin n (level world d) (level world n)
+  same_levels n d le = levels_kept plain_domain plain_domain same_kin world n d n le (omega arith)
+
+  same_whole : (b d : ℕ) → b ≤ d → RLevel plain_domain plain_domain same_kin b (level world d) (whole world)
   unfolding whole_proc whole_wait whole_turn whole_hop
   same_whole b d le = record {
-    procs = λ t left rs k k' st h. record {
+    procs = λ t left rs rs' k k' st e h. record {
       is = λ f feed lt.
           let n = f + length feed + 1 in
-          ((levels_kept Same same_kept world n d n (omega (arith, lt, le)) (omega arith)).procs t left rs k k'
-          st (then_less Same same_kept n b k k' (omega (arith, lt)) h)).is f feed (omega arith);
+          ((same_levels n d (omega (arith, lt, le))).procs t left rs rs' k k' st e
+          (then_less plain_domain plain_domain same_kin n b k k' (omega (arith, lt)) h)).is f feed
+          (omega arith);
     };
     waits = λ c c' st h. record {
       is = λ f feed lt.
           let n = f + length feed + 1 in
-          ((levels_kept Same same_kept world n d n (omega (arith, lt, le)) (omega arith)).waits c c' st
-          (wait_less Same same_kept n b c c' (omega (arith, lt)) h)).is f feed (omega arith);
+          ((same_levels n d (omega (arith, lt, le))).waits c c' st
+          (wait_less plain_domain plain_domain same_kin n b c c' (omega (arith, lt)) h)).is f feed
+          (omega arith);
     };
-    turns = λ x c b' back back' k k' env st r h. record {
+    turns = λ x y c b' back back' k k' env st e r h. record {
       is = λ f feed lt.
           let n = f + length feed + 1 in
-          ((levels_kept Same same_kept world n d n (omega (arith, lt, le)) (omega arith)).turns x c b' back
-          back' k k' env st (then_less Same same_kept n b back back' (omega (arith, lt)) r)
-          (next_less Same same_kept n b k k' (omega (arith, lt)) h)).is f feed (omega arith);
+          ((same_levels n d (omega (arith, lt, le))).turns x y c b' back back' k k' env st e
+          (then_less plain_domain plain_domain same_kin n b back back' (omega (arith, lt)) r)
+          (next_less plain_domain plain_domain same_kin n b k k' (omega (arith, lt)) h)).is f feed
+          (omega arith);
     };
     hops = λ c c' left t v st h. record {
       is = λ f feed lt.
           let n = f + length feed + 1 in
-          ((levels_kept Same same_kept world n d n (omega (arith, lt, le)) (omega arith)).hops c c' left t v
-          st (wait_less Same same_kept n b c c' (omega (arith, lt)) h)).is f feed (omega arith);
+          ((same_levels n d (omega (arith, lt, le))).hops c c' left t v st
+          (wait_less plain_domain plain_domain same_kin n b c c' (omega (arith, lt)) h)).is f feed
+          (omega arith);
     };
   }
 
--- what a start does at two levels
-pub start_kept : (R : ℕ → Comp → Comp → Type 0) (kept : IsKept R) (world : World) (b stack : ℕ)
-    (t : Option Target) (st : Store) (l l' : Level) → RLevel R b l l'
-    → R b (start world l stack t st) (start world l' stack t st)
-start_kept R kept world b stack None st l l' same = same.waits None None st tt
-start_kept R kept world b stack (Some t) st l l' same =
-    same.procs t (Some stack) [] _ _ st (λ v st1. kept.failing b)
+  same_start : (b stack : ℕ) (t : Option Target) (st : Store) (l l' : Level)
+      → RLevel plain_domain plain_domain same_kin b l l'
+      → Same b (start world l stack t st) (start world l' stack t st)
+  same_start b stack None st l l' same = same.waits None None st tt
+  same_start b stack (Some t) st l l' same =
+      same.procs t (Some stack) [] [] _ _ st refl (λ v st1. refl_same b _)
 
 -- the start at any level that is enough for the fuel and the feed gives the meaning
 pub enough : (world : World) (stack : ℕ) (feed : List Item) (f d : ℕ) → f + length feed < d
@@ -97,8 +108,8 @@ pub enough : (world : World) (stack : ℕ) (feed : List Item) (f d : ℕ) → f 
     ≡ meaning world stack feed f
 enough world stack feed f d lt =
     let n = f + length feed + 1 in
-    (start_kept Same same_kept world n stack (main_target world) (map (λ u. u.globals) world) _ _
-    (levels_kept Same same_kept world n d n (omega (arith, lt)) (omega arith))).is f feed (omega arith)
+    (starts_kept plain_domain plain_domain same_kin world n stack d n (main_target world)
+    (map (λ u. u.globals) world) (omega (arith, lt)) (omega arith)).is f feed (omega arith)
 
 -- the meaning is the start without levels
 pub starts : (world : World) (stack : ℕ) (feed : List Item) (f : ℕ)
@@ -106,7 +117,7 @@ pub starts : (world : World) (stack : ℕ) (feed : List Item) (f : ℕ)
     ≡ meaning world stack feed f
 starts world stack feed f =
     let n = f + length feed + 1 in
-    sym ((start_kept Same same_kept world n stack (main_target world) (map (λ u. u.globals) world) _ _
+    sym ((same_start world n stack (main_target world) (map (λ u. u.globals) world) _ _
     (same_whole world n n (omega arith))).is f feed (omega arith))
 
 module _ (world : World) where
@@ -126,8 +137,8 @@ module _ (world : World) where
       proc_is t left rs k st f feed =
           let n = f + length feed in
           ap (λ d. (level world d).proc t left rs k st f feed) (add-one n)
-          ∙ (proc_kept Same same_kept world n (level world n) (whole world)
-          (same_whole world n n (omega arith)) t.home (proc_at world t) left rs k k st
+          ∙ (proc_kept plain_domain plain_domain same_kin world n (level world n) (whole world)
+          (same_whole world n n (omega arith)) t.home (proc_at world t) left rs rs k k st refl
           (λ v st1. refl_same n _)).is f feed (omega arith)
 
       wait_is : (c : Option Wait) (st : Store) (f : ℕ) (feed : List Item) → whole_wait world c st f feed
@@ -135,8 +146,9 @@ module _ (world : World) where
       wait_is c st f feed =
           let n = f + length feed in
           ap (λ d. (level world d).wait c st f feed) (add-one n)
-          ∙ (same_take n _ _ (λ i. item_kept Same same_kept world n (level world n) (whole world)
-          (same_whole world n n (omega arith)) c c st i (same_wait n c))).is f feed (omega arith)
+          ∙ (same_take n _ _ (λ i. item_kept plain_domain plain_domain same_kin world n (level world n)
+          (whole world) (same_whole world n n (omega arith)) c c st i i refl (same_wait n c))).is f feed
+          (omega arith)
 
       turn_is : (x : Activation) (c : Exp) (b : Block) (back : Then) (k : Next) (env : List Value)
           (st : Store)
@@ -145,8 +157,8 @@ module _ (world : World) where
       turn_is x c b back k env st f feed =
           let n = f + length feed in
           ap (λ d. (level world d).turn x c b back k env st f feed) (add-one n)
-          ∙ (turn_kept Same same_kept world n (level world n) (whole world)
-          (same_whole world n n (omega arith)) x c b back back k k env st (λ v st1. refl_same n _)
+          ∙ (turn_kept plain_domain plain_domain same_kin world n (level world n) (whole world)
+          (same_whole world n n (omega arith)) x x c b back back k k env st refl (λ v st1. refl_same n _)
           (λ e st1. refl_same n _)).is f feed (omega arith)
 
       hop_is : (c : Option Wait) (left : Option ℕ) (t : Target) (v : ℤ) (st : Store) (f : ℕ)
@@ -155,7 +167,8 @@ module _ (world : World) where
       hop_is c left t v st f feed =
           let n = f + length feed in
           ap (λ d. (level world d).hop c left t v st f feed) (add-one n)
-          ∙ (proc_kept Same same_kept world n (level world n) (whole world)
-          (same_whole world n n (omega arith)) t.home (proc_at world t) left (register_of (Num v) ∷ []) _ _ st
+          ∙ (proc_kept plain_domain plain_domain same_kin world n (level world n) (whole world)
+          (same_whole world n n (omega arith)) t.home (proc_at world t) left (register_of (Num v) ∷ [])
+          (register_of (Num v) ∷ []) _ _ st refl
           (λ x st1. (same_whole world n n (omega arith)).hops c c left t x st1 (same_wait n c))).is f feed
           (omega arith)

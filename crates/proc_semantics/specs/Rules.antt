@@ -1,5 +1,5 @@
 -- The rules of meanings, said once over every semantic domain: of what computations tell, and of what goes
--- with frames, registers and items beside what these rules ask. A computation goes on with what stands behind
+-- with frames, registers and items beside what these rules ask. A computation goes on with what stands after
 -- it. Calls, waiting, further turns of a loop and hops go one level down, and each of them takes fuel or an
 -- item.
 use Rattle.std.specs.Prelude.{ℕ, zero, suc, ◌+◌, ◌-◌, ◌==◌, nat_lt, ℤ, pos, negsuc, ◌+ℤ◌, ◌-ℤ◌, int_lt}
@@ -128,7 +128,7 @@ module _ (M : Domain) where
   abbrev pub Then : Type 0
   Then = ℤ → Store → M.Comp
 
-  -- what goes on behind a statement: the parameters and locals, the globals, and then the rest
+  -- what goes on after a statement: the parameters and locals, the globals, and then the rest
   abbrev pub Next : Type 0
   Next = List Value → Store → M.Comp
 
@@ -238,7 +238,7 @@ module _ (M : Domain) where
           M.ticking (args l f env xs
           (λ vs. k (Closure (pair_of world (M.home f) env h) ∷ Other ∷ vs)) st)
 
-    -- ---- statements: `back` is what `return` goes on with, `k` what stands behind
+    -- ---- statements: `back` is what `return` goes on with, `k` what stands after
 
     abbrev mutual
       pub stmt : Level → M.Run → Statement → Then → Next → Next
@@ -267,7 +267,7 @@ module _ (M : Domain) where
 
     -- ---- procedures
 
-    -- the end of a procedure, by `return` or behind its last statement
+    -- the end of a procedure, by `return` or after its last statement
     abbrev pub finish : ℕ → Then → Then
     finish need k v st = ticks (1 + need) (k v st)
 

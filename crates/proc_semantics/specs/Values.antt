@@ -90,7 +90,7 @@ abbrev pub if_there : {A B : Type 0} → Option A → (A → Option B) → Optio
 if_there None f = None
 if_there (Some x) f = f x
 
--- behind what is there, what parameters take from registers in order, where each finds what it needs
+-- after what is there, what parameters take from registers in order, where each finds what it needs
 abbrev pub taken : List Value → List Bool → List Register → Option (List Value)
 taken env [] rs = Some env
 taken env (false ∷ callbacks) rs =

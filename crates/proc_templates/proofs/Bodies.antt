@@ -22,7 +22,7 @@ use Rattle.proc_templates.proofs.Frees.{AllFree, all_both, code_free, store_var_
 
 module _ (c : ComponentFields) (fails : c.fail_at ≡ Some FAIL_AT) (spot : Spot)
     (low : spot.epilogue ≤ LAST_OFFSET) (ends : declared c spot.epilogue ≡ Some label_row) where
-  -- from before items to behind them
+  -- from before items to after them
   abbrev Over : List Item → Type 0
   Over xs = (q : ℕ) → Carries c spot q xs → after q xs ≤ spot.epilogue → Onward c q → Onward c (after q xs)
 

@@ -80,7 +80,7 @@ mutual
   block_inner f no_steps = refl
   block_inner f (step s b) = inner_both (step_code f s) (block_code f b) (stmt_inner f s) (block_inner f b)
 
--- what stands behind an entry
+-- what stands after an entry
 abbrev pub behind_entry : FrameShape → List Bool → Block → List Item
 behind_entry f params body =
     check_params 0 params ++ (push (pushed (registers_of params) f.words)

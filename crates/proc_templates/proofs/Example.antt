@@ -1,14 +1,15 @@
--- The definitions computed on two modules.
+-- The definitions computed on two programs.
 use Rattle.std.proofs.Common.{◌≡◌, ℕ, List, [], ◌∷◌, length, map, Some, None, refl, true, false, pos}
 use Rattle.std.specs.Prelude.{codes}
 use Rattle.proc_language.specs.declared.tree.Name.{Name}
 use Rattle.proc_language.specs.declared.tree.Op.TheVariants as operator
 use Rattle.proc_language.specs.declared.module.ModuleFields.{ModuleFields}
-use Rattle.proc_language.specs.Tree.{var, op, call, no_args, value, set, do_call, return, halt}
+use Rattle.proc_language.specs.Tree.{var, op, no_args, value, set, do_call, return}
 use Rattle.proc_names.specs.Names.{variable_named, callee_named, passed_named}
 use Rattle.call_sequence.specs.Sequences.{call_code, return_code, entry_code}
 use Rattle.proc_program.specs.declared.program.Program.{Program}
 use Rattle.proc_program.specs.Lower.{part_of}
+use Rattle.proc_program.proofs.Offers.{callbacks}
 use Rattle.proc_templates.specs.Items.{put, instrs}
 use Rattle.proc_templates.specs.Templates.{before_epilogue}
 use Rattle.proc_templates.specs.Compiled.{frame_of, laid_of, lay_proc, code_words, data_count, first_data}
@@ -50,43 +51,6 @@ bank_module = record {
 bank : Program
 bank = part_of bank_module
 
--- module cb; import adv.go/0; export proc main() { halt go(); } export proc twice(f/1, x) { return f(f(x)); }
-callback_module : ModuleFields
-unfolding named
-callback_module = record {
-  at = 0;
-  name = named (codes "cb");
-  code = 4096;
-  data_base = 8192;
-  closure = 10;
-  returns = 11;
-  return_count = 3;
-  stack = 65536;
-  movable = false;
-  imports = record { at = 0; part = named (codes "adv"); name = named (codes "go"); arity = 0 } ∷ [];
-  globals = [];
-  procs = record {
-    at = 0;
-    shared = true;
-    name = named (codes "main");
-    params = [];
-    locals = [];
-    body = halt 0 (call 0 (named (codes "go")) no_args) ∷ [];
-  } ∷ record {
-    at = 0;
-    shared = true;
-    name = named (codes "twice");
-    params = record { name = named (codes "f"); arity = Some 1 }
-        ∷ record { name = named (codes "x"); arity = None } ∷ [];
-    locals = [];
-    body = return 0 (call 0 (named (codes "f"))
-        (value (call 0 (named (codes "f")) (value (var 0 (named (codes "x"))) no_args)) no_args)) ∷ [];
-  } ∷ [];
-}
-
-callbacks : Program
-callbacks = part_of callback_module
-
 bank_counts : (code_words bank ≡ 124) × (length (laid_of bank).code ≡ 124) × ((laid_of bank).sites ≡ 68 ∷ [])
     × (length (first_data bank) ≡ 5) × (data_count bank ≡ 5)
 unfolding bank bank_module named code_words data_count frame_of laid_of lay_proc before_epilogue
@@ -96,8 +60,6 @@ bank_counts = (refl, refl, refl, refl, refl)
 callback_counts : (code_words callbacks ≡ 254) × (length (laid_of callbacks).code ≡ 254)
     × ((laid_of callbacks).sites ≡ 38 ∷ 152 ∷ 197 ∷ []) × (length (first_data callbacks) ≡ 6)
     × (map (λ e. e.offset) (exports_of callbacks) ≡ 2 ∷ 85 ∷ [])
-unfolding callbacks callback_module named code_words data_count frame_of laid_of lay_proc
-    before_epilogue put instrs first_data exports_of call_code return_code entry_code variable_named
-    callee_named
-    passed_named
+unfolding callbacks code_words data_count frame_of laid_of lay_proc before_epilogue put instrs
+    first_data exports_of call_code return_code entry_code
 callback_counts = (refl, refl, refl, refl, refl)

@@ -185,7 +185,7 @@ instrs_fit spot o k entry f ho hk he hb = entry_fits o spot.stack_base (omega (a
 instrs_fit spot o k leaves f ho hk he hb = let z = zero_fits in
     (z, (z, (z, (z, (z, (z, (z, (z, (z, (tt, tt))))))))))
 
--- ---- labels ascend, none of them behind an offset
+-- ---- labels ascend, none of them after an offset
 
 abbrev Rising : ℕ → List ℕ → ℕ → Type 0
 Rising low [] top = low ≤ suc top

@@ -327,6 +327,6 @@ module _ (m : Program) (ready : AllReady m m.procs) (most : length (laid_of m).c
   unfolding c
   entries_inside o h = exports_inside o h
 
-  -- no label stands behind the code
+  -- no label stands after the code
   pub labels_end : (x : ℕ) → length (laid_of m).code ≤ x → has (laid_of m).labels x ≡ false
   labels_end x h = there.closed.labels x h

@@ -284,14 +284,8 @@ module _ (c : ComponentFields) where
       clean g.after g.works (ap below_any g.t2 ∙ k)
       (moved _ _ (bare_row o i r s d ∙ ap (after_flow c o r) g.is) (steps _ h))
 
-  shows : (r : Row) → Works r → below_any (kind_of r T2) ≡ true → shows_nothing r ≡ true
-  unfolding shows_nothing
-  shows r w k = rw (
-    low-kind r Rcode w refl,
-    low-kind r Rdata w refl,
-    stk-kind r w,
-    low-kind r T1 w refl,
-    k,
+  passes_works : (r : Row) → Works r → passes r ≡ true
+  passes_works r w = rw (
     low-kind r C1 w refl,
     low-kind r C2 w refl,
     low-kind r A0 w refl,
@@ -302,6 +296,12 @@ module _ (c : ComponentFields) where
     low-kind r G1 w refl,
     low-kind r G2 w refl,
   ) refl
+
+  shows : (r : Row) → Works r → below_any (kind_of r T2) ≡ true → shows_nothing r ≡ true
+  unfolding shows_nothing
+  shows r w k =
+      rw (low-kind r Rcode w refl, low-kind r Rdata w refl, stk-kind r w, low-kind r T1 w refl, k)
+      (passes_works r w)
 
   xjmp_flow : (o : ℕ) (r : Row) → Works r → below_any (kind_of r T2) ≡ true
       → flow (Xjmp Rcode Rdata) o r ≡ flows None None
@@ -319,19 +319,6 @@ module _ (c : ComponentFields) where
 
   clean_works : Works clean_row
   clean_works = record { below = refl }
-
-  passes_works : (r : Row) → Works r → passes r ≡ true
-  passes_works r w = rw (
-    low-kind r C1 w refl,
-    low-kind r C2 w refl,
-    low-kind r A0 w refl,
-    low-kind r A1 w refl,
-    low-kind r A2 w refl,
-    low-kind r A3 w refl,
-    low-kind r G0 w refl,
-    low-kind r G1 w refl,
-    low-kind r G2 w refl,
-  ) refl
 
   ready : (r : Row) → Works r → site_ready r ≡ true
   unfolding site_ready

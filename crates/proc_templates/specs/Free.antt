@@ -1,4 +1,4 @@
--- Which items need nothing of their surroundings, and the offset behind items.
+-- Which items need nothing of their surroundings, and the offset after items.
 use Rattle.std.specs.Prelude.{ℕ, ◌+◌, Bool, true, false, List, [], ◌∷◌, length}
 use Rattle.std.specs.List.{list_all}
 use Rattle.lcm_isa.specs.declared.Reg.TheVariants.{T2}
@@ -25,7 +25,7 @@ is_free site = true
 is_free label = true
 is_free _ = false
 
--- the offset behind an item, and behind items
+-- the offset after an item, and after items
 abbrev pub behind : ℕ → Item → ℕ
 behind o (does i) = o + 1
 behind o (guards is) = o + 3 + length is

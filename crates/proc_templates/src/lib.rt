@@ -18,6 +18,6 @@ pub struct FrameShape {
     /// How many imports the module has. Their pairs come first among the data.
     pub imports: u32,
     /// The words of the data that pairs take up: two for each import and each own procedure. The
-    /// globals stand behind them.
+    /// globals stand after them.
     pub pairs: u32,
 }

@@ -18,7 +18,7 @@ pub record Took {S : Type 0} (Good : List S → Type 0) (i : Ahead S) (text : Li
   pub at : j.at ≡ i.at + length text
   pub good : Good j.rest
 
--- behind a text
+-- after a text
 abbrev pub after : {S : Type 0} → ℕ → List S → List S → Ahead S
 after at text rest = record { at = at + length text; rest = rest }
 
@@ -92,7 +92,7 @@ pub cut_goes_on : {S F A B : Type 0} {short : ℕ → F} {at n : ℕ} {answer : 
     (f : A → Reader (Ahead S) F B) → IsCut short at n answer → IsCut short at n (goes_on answer f)
 cut_goes_on f c = record { inside = c.inside; within = c.within; is = ap (λ q. goes_on q f) c.is }
 
--- two texts one behind the other, where the first may tell what the second is
+-- two texts one after the other, where the first may tell what the second is
 pub cut_then : {S F A B : Type 0} {short : ℕ → F} (r : Reader (Ahead S) F A) (f : A → Reader (Ahead S) F B)
     (a : A) (s t : List S)
     (at n : ℕ) → (n < length s → IsCut short at n (r (record { at = at; rest = take n s })))

@@ -9,7 +9,7 @@ use Rattle.readers.proofs.Faults.{still_fails}
 use Rattle.readers.proofs.Grammar.{Took, took_nothing, took_then, after, before, IsCut, cut_goes_on, Reads}
 use Rattle.readers.proofs.Grammar.{All, goes_on_ok, ok_value, cut_then, again_then}
 
--- ---- the law: of items of which each is right behind those before it, by P, and of the lists of such, by Q
+-- ---- the law: of items of which each is right after those before it, by P, and of the lists of such, by Q
 
 module _ {S F A B : Type 0} {Good : List S → Type 0} {short : ℕ → F} {P : B → A → Type 0} {t : A → List S}
     (next : B → A → B) (item : B → Reader (Ahead S) F A)
@@ -78,7 +78,7 @@ module _ {S F A B : Type 0} {Good : List S → Type 0} {short : ℕ → F} {P : 
 
 -- ---- a loop
 
--- what is read behind items that were read already
+-- what is read after items that were read already
 abbrev pub with_front : {I F A : Type 0} → List A → Result (List A × I) F → Result (List A × I) F
 with_front front r = goes_on r (λ xs. done (front ++ xs))
 

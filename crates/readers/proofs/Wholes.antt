@@ -14,7 +14,7 @@ ended_ok : {F A : Type 0} (b : Bool) (x y : A) (fault : F) → cond b (Ok x) (Er
 ended_ok true x y fault e = (refl, cc)
 ended_ok false x y fault e = absurd cc
 
--- what was read with nothing behind it
+-- what was read with nothing after it
 finished_ok : {S F A : Type 0} (trailing : ℕ → F) (r : Result (A × Ahead S) F) (x : A)
     → finished trailing r ≡ Ok x
     → (j : Ahead S) × (r ≡ Ok (x, j)) × (length j.rest ≡ 0)
@@ -47,7 +47,7 @@ module _ {S F A : Type 0} {Good : List S → Type 0} {short : ℕ → F} {P : A 
       let g = h.cut x 0 n tt fits lt in
       (0 + g.inside, omega (arith, g.within), ap (finished trailing) g.is)
 
-  -- what stands behind it is too much
+  -- what stands after it is too much
   pub past_whole : (x : A) (s : S) (more : List S) → P x
       → read_whole trailing r (t x ++ s ∷ more) ≡ Err (trailing (length (t x)))
   past_whole x s more fits =

@@ -1,4 +1,4 @@
--- Inputs in which one symbol stands behind another, each at its place.
+-- Inputs in which one symbol stands after another, each at its place.
 use Rattle.std.specs.Prelude.{ℕ, ◌==◌, List, length, Result, Ok, Err, if◌then◌else◌}
 use Rattle.readers.specs.Readers.{Reader}
 
@@ -11,7 +11,7 @@ pub record Ahead (S : Type 0) : Type 0 where
 abbrev pub here : {S F : Type 0} → Reader (Ahead S) F ℕ
 here i = Ok (i.at, i)
 
--- nothing may stand behind what was read
+-- nothing may stand after what was read
 abbrev pub finished : {S F A : Type 0} → (ℕ → F) → Result (A × Ahead S) F → Result A F
 finished trailing (Ok x) = if length x.1.rest == 0 then Ok x.0 else Err (trailing x.1.at)
 finished trailing (Err e) = Err e

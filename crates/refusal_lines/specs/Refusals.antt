@@ -33,7 +33,7 @@ file_text part f =
     codes "file " ++ decimal part ++ codes " " ++ decimal (fault_number f) ++ codes " "
     ++ decimal (fault_place f) ++ codes "\n"
 
--- the fault's number, of a fault of the tokens behind an `s`
+-- the fault's number, of a fault of the tokens after an `s`
 abbrev pub asm_number_text : AsmFault → List ℕ
 asm_number_text (Scan f) = codes "s" ++ decimal (scan_number f)
 asm_number_text f = decimal (asm_number f)
@@ -43,7 +43,7 @@ assembly_text part f =
     codes "asm " ++ decimal part ++ codes " " ++ asm_number_text f ++ codes " " ++ decimal (asm_place f)
     ++ codes "\n"
 
--- the fault's number, of a fault of the tokens behind an `s`
+-- the fault's number, of a fault of the tokens after an `s`
 abbrev pub parse_number_text : ParseFault → List ℕ
 parse_number_text (parse.Scan f) = codes "s" ++ decimal (scan_number f)
 parse_number_text f = decimal (parse_number f)

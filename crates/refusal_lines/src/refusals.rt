@@ -29,7 +29,7 @@ fn push_number(line: &mut ArrayString<64>, number: u32)
     line.push_str(digits.format(number));
 }
 
-// Appends the number of a fault of an assembler text, of a fault of its tokens behind an `s`.
+// Appends the number of a fault of an assembler text, of a fault of its tokens after an `s`.
 fn push_asm_number(line: &mut ArrayString<64>, fault: AsmFault)
     requires { array_string_len line.old ≤ 40 }
     ensures bytes { line.new.bytes ≡ line.old.bytes ++ asm_number_text fault }
@@ -70,7 +70,7 @@ fn push_assembly(line: &mut ArrayString<64>, part: u32, fault: AsmFault)
     line.push_str("\n");
 }
 
-// Appends the number of a fault of a source, of a fault of its tokens behind an `s`.
+// Appends the number of a fault of a source, of a fault of its tokens after an `s`.
 fn push_source_number(line: &mut ArrayString<64>, fault: SourceFault)
     requires { array_string_len line.old ≤ 40 }
     ensures bytes { line.new.bytes ≡ line.old.bytes ++ source_number_text fault }

@@ -9,7 +9,7 @@ use Rattle.run_audit.specs.declared.line.Line.{Line}
 use Rattle.run_audit.specs.declared.line.Line.TheVariants.{Call, Ret, Enter, Pass, Leave, End}
 use Rattle.run_audit.specs.Told.{ToldSeen, is_wide, same_told}
 use Rattle.run_audit.specs.Lines.{is_end}
-use Rattle.run_audit.specs.Brackets.{Leads}
+use Rattle.run_audit.specs.Brackets.{IsOther, Leads}
 use Rattle.run_audit.specs.Brackets.Leads.{at_end, passes as goes_by, opens, closes}
 use Rattle.run_audit.specs.Audit.{OpenSeen, below_newest, closed_by, stepped, audit_on, followed}
 use Rattle.run_audit.specs.Traces.{InPlace, AreInPlace, lets_pass, IsWide, HasWidth, HaveWidth, LiesBelow}
@@ -114,46 +114,32 @@ ret_is : (calls : List ToldSeen) (entered : Bool) (n : ℕ) (t : ToldSeen) (w : 
 ret_is calls entered n t false h = ret_width (not_wide t h)
 ret_is calls entered n t true h = ret_by calls entered n t (true_wide t h)
 
+-- a line that is neither a call nor a return leaves the open calls as they are
+goes_past : (calls : List ToldSeen) (entered lets : Bool) (l : Line) → InPlace entered l → HasWidth l
+    → IsOther l → lets ≡ lets_pass l → ((t : ToldSeen) → l ≡ Call t → ⊥)
+    → Goes calls entered l (at calls lets)
+goes_past calls entered lets l place width other is no_call = record {
+  place = place;
+  width = width;
+  leads = goes_by other at_end;
+  entered_is = is;
+  low = λ d t e. absurd (no_call t e);
+  descends = λ d. d;
+}
+
 pass_is : (calls : List ToldSeen) (entered : Bool) (n : ℕ)
     → StepIs calls entered n Pass (if entered then Ok (at calls false) else Err (Form n))
 pass_is calls false n = misplaced refl
-pass_is calls true n =
-    record {
-      place = refl;
-      width = tt;
-      leads = goes_by tt at_end;
-      entered_is = refl;
-      low =
-          λ d u e. absurd (let f = e in cc);
-      descends = λ d. d;
-    }
+pass_is calls true n = goes_past calls true false Pass refl tt tt refl (λ u e. let f = e in cc)
 
 pub step_is : (calls : List ToldSeen) (entered : Bool) (n : ℕ) (l : Line) → is_end l ≡ false
     → StepIs calls entered n l (stepped (at calls entered) n l)
 unfolding stepped
 step_is calls entered n (Call t) h = call_is calls entered n t (is_wide t) (below_newest t calls) refl refl
 step_is calls entered n (Ret t) h = ret_is calls entered n t (is_wide t) refl
-step_is calls entered n Enter h =
-    record {
-      place = tt;
-      width = tt;
-      leads = goes_by tt at_end;
-      entered_is = refl;
-      low =
-          λ d u e. absurd (let f = e in cc);
-      descends = λ d. d;
-    }
+step_is calls entered n Enter h = goes_past calls entered true Enter tt tt tt refl (λ u e. let f = e in cc)
 step_is calls entered n Pass h = pass_is calls entered n
-step_is calls entered n Leave h =
-    record {
-      place = tt;
-      width = tt;
-      leads = goes_by tt at_end;
-      entered_is = refl;
-      low =
-          λ d u e. absurd (let f = e in cc);
-      descends = λ d. d;
-    }
+step_is calls entered n Leave h = goes_past calls entered false Leave tt tt tt refl (λ u e. let f = e in cc)
 step_is calls entered n End h = absurd cc
 
 -- ---- lines that are followed
@@ -178,7 +164,7 @@ first_went (Err e) f u h = absurd cc
 leads_nowhere : {before now : List ToldSeen} → Leads before [] now → now ≡ before
 leads_nowhere at_end = refl
 
--- the calls that are open behind a line
+-- the calls that are open after a line
 after : List ToldSeen → Line → List ToldSeen
 after calls (Call t) = t ∷ calls
 after [] (Ret t) = []

@@ -47,7 +47,7 @@ is_end_is Pass h = absurd cc
 is_end_is Leave h = absurd cc
 is_end_is End h = refl
 
--- lines that were followed so far, and what stands behind them
+-- lines that were followed so far, and what stands after them
 record Reached (text : List ℕ) (front rest : List (List ℕ)) (seen : List Line) (s : OpenSeen)
     (n : ℕ) : Type 0 where
   text_is : lines text ≡ front ++ rest
@@ -203,7 +203,7 @@ along (t ∷ front) rest (l ∷ seen) s n are no_end some =
     (λ v. along front rest seen v (n + 1) are.1 no_end.1 some
     ∙ ap (λ m. audit_on (followed v (n + 1) seen) (λ w. audited_from w m rest)) (omega arith))
 
--- behind lines that spoil nothing
+-- after lines that spoil nothing
 behind : (text : List ℕ) (front rest : List (List ℕ)) (seen : List Line) (now : List ToldSeen)
     → lines text ≡ front ++ rest → AreLines front seen → IsClean seen now → 0 < length rest
     → audited text ≡ audited_from (at now (entered_by false seen)) (1 + length front) rest

@@ -42,7 +42,7 @@ judged_event s n Leave rest f h = refl
 
 -- ---- what is left, taken line by line
 
--- the next line, and those behind it
+-- the next line, and those after it
 some_left : (ts : List (List ℕ)) → is_none_left ts ≡ false → 0 < length ts
 some_left [] h = absurd cc
 some_left (t ∷ ts) h = omega arith
@@ -134,7 +134,7 @@ same_goes : (r : Result OpenSeen AuditFault) (f g : OpenSeen → Result OpenSeen
 same_goes (Ok s) f g h = h s
 same_goes (Err e) f g h = refl
 
--- lines behind others
+-- lines after others
 pub followed_append : (s : OpenSeen) (n : ℕ) (xs ys : List Line)
     → followed s n (xs ++ ys) ≡ audit_on (followed s n xs) (λ t. followed t (n + length xs) ys)
 followed_append s n [] ys = ap (λ k. followed s k ys) (omega arith)

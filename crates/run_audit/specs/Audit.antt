@@ -48,7 +48,7 @@ stepped s n Pass = passes s n
 stepped s n Leave = Ok (record { calls = s.calls; entered = false })
 stepped s n End = Ok (record { calls = s.calls; entered = false })
 
--- nothing stands behind the newline of the end line
+-- nothing stands after the newline of the end line
 abbrev pub is_ended : List (List ℕ) → Bool
 is_ended ([] ∷ []) = true
 is_ended _ = false
@@ -61,14 +61,14 @@ abbrev pub audit_on : {A : Type 0} → Result OpenSeen AuditFault → (OpenSeen 
 audit_on (Ok s) f = f s
 audit_on (Err e) f = Err e
 
--- by what a line is, what stands behind it, and what comes of that
+-- by what a line is, what stands after it, and what comes of that
 abbrev pub judged : OpenSeen → ℕ → Option Line → List (List ℕ)
     → (OpenSeen → Result (Unit {0}) AuditFault) → Result (Unit {0}) AuditFault
 judged s n None rest f = Err (Form n)
 judged s n (Some End) rest f = at_end (n + 1) rest
 judged s n (Some l) rest f = audit_on (stepped s n l) f
 
--- of lines from one of a number on; each line but what stands behind the last newline has ended
+-- of lines from one of a number on; each line but what stands after the last newline has ended
 unfoldable pub audited_from : OpenSeen → ℕ → List (List ℕ) → Result (Unit {0}) AuditFault
 audited_from s n [] = Err (Form n)
 audited_from s n (line ∷ []) = Err (Form n)

@@ -22,12 +22,12 @@ AreLines [] (l ∷ ls) = ⊥
 AreLines (t ∷ ts) [] = ⊥
 AreLines (t ∷ ts) (l ∷ ls) = IsLine t l × AreLines ts ls
 
--- whether a pass line may come behind such a line
+-- whether a pass line may come after such a line
 abbrev pub lets_pass : Line → Bool
 lets_pass Enter = true
 lets_pass _ = false
 
--- no line is an end line, and each pass line stands right behind an enter line
+-- no line is an end line, and each pass line stands right after an enter line
 abbrev pub InPlace : Bool → Line → Type 0
 InPlace entered End = ⊥
 InPlace entered Pass = entered ≡ true
@@ -62,7 +62,7 @@ AreApart before ls =
     → Leads before front now
     → LiesBelow t now
 
--- lines that spoil nothing, and the calls that are open behind them, newest first
+-- lines that spoil nothing, and the calls that are open after them, newest first
 pub record IsClean (ls : List Line) (open_now : List ToldSeen) : Type 0 where
   pub in_place : AreInPlace false ls
   pub bracketed : Leads [] ls open_now
@@ -71,7 +71,7 @@ pub record IsClean (ls : List Line) (open_now : List ToldSeen) : Type 0 where
 
 -- ---- texts
 
--- lines that spoil nothing, each with its newline, an end line with its newline, and nothing behind it
+-- lines that spoil nothing, each with its newline, an end line with its newline, and nothing after it
 pub record IsTrace (text : List ℕ) : Type 0 where
   pub front : List (List ℕ)
   pub last : List ℕ
@@ -98,8 +98,8 @@ pub data Spoils (entered : Bool) (n : ℕ) : List ToldSeen → Line → AuditFau
   differs : {t newest : ToldSeen} {older : List ToldSeen} → IsWide t → newest ≢ t
       → Spoils entered n (newest ∷ older) (Ret t) (Mismatch n)
 
--- what stands behind lines that spoil nothing goes wrong with its first line, by that line's number, or
--- behind it where it is an end line
+-- what stands after lines that spoil nothing goes wrong with its first line, by that line's number, or
+-- after it where it is an end line
 abbrev pub GoesWrong : Bool → ℕ → List ToldSeen → List (List ℕ) → AuditFault → Type 0
 GoesWrong entered n now [] e = ⊥
 GoesWrong entered n now (t ∷ []) e = e ≡ Form n

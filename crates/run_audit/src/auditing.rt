@@ -11,7 +11,7 @@ use crate::open::Open;
 use line_fields::Parts;
 use std::alloc::Global;
 
-// Whether nothing stands behind the newline of the end line.
+// Whether nothing stands after the newline of the end line.
 fn is_ended(behind: &Parts<'_>) -> bool
     ensures { result ≡ is_ended behind.now }
 {
@@ -22,7 +22,7 @@ fn is_ended(behind: &Parts<'_>) -> bool
     }
 }
 
-// Behind the end line, the line of this number.
+// After the end line, the line of this number.
 fn ended(line: u64, behind: &Parts<'_>) -> Result<(), AuditFault>
     ensures { result ≡ at_end line behind.now }
 {
@@ -58,7 +58,7 @@ fn answer(alloc: Global, text: &[u8]) -> Result<(), AuditFault>
 }
 
 /// Whether a text is a trace of a run: lines of the forms that runs write, each with its newline, of which
-/// the last and no other is an end line. A `pass` line stands only right behind an `enter` line, and tells of
+/// the last and no other is an end line. A `pass` line stands only right after an `enter` line, and tells of
 /// some pair. The range of each call and return isn't empty, and it has a word for each of the addresses. A
 /// call lies below all that are open; and a return is that of the newest call that is open, with its part,
 /// site, range and words. The rules are those of docs/AUDIT.md.

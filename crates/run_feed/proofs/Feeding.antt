@@ -11,7 +11,7 @@ use Rattle.run_feed.specs.declared.line.FeedLine.{FeedLine}
 use Rattle.run_feed.specs.Lines.{seen, is_enter}
 use Rattle.run_feed.specs.Feed.{line_item, with_item, fed_line, fed_from, fed}
 
--- behind items that are read already
+-- after items that are read already
 abbrev pub behind_items : List Item → Result (List Item) FeedFault → Result (List Item) FeedFault
 behind_items items (Ok more) = Ok (items ++ more)
 behind_items items (Err e) = Err e

@@ -13,7 +13,7 @@ use Rattle.run_feed.specs.Bad.{KeepsForm, begins_enter, IsBadLine, IsFirstBad}
 use Rattle.run_feed.proofs.Feeding.{one_line, nothing_left}
 use Rattle.run_feed.proofs.FormLemmas.{keeps, there, enter_told}
 
--- ---- one line, and those behind it
+-- ---- one line, and those after it
 
 abbrev Fed : Type 0
 Fed = Result (List Item) FeedFault
@@ -33,7 +33,7 @@ ok_with None r = refl
 ok_with (Some i) (Ok items) = refl
 ok_with (Some i) (Err e) = refl
 
--- the lines behind a line that keeps its form
+-- the lines after a line that keeps its form
 behind_good : (base : ℕ) (entry : Bool) (n : ℕ) (line : List ℕ) (rest : List (List ℕ)) → KeepsForm entry line
     → (o : Option Item)
     × (fed_from base entry n (line ∷ rest) ≡ with_item o (fed_from base (begins_enter line) (n + 1) rest))
@@ -74,7 +74,7 @@ judged entry line = by_seen (is_some (seen entry line)) refl
     by_seen true is = good (keeps entry line is)
     by_seen false is = bad (λ k. let both : true ≡ false = sym (there entry line k) ∙ is in cc)
 
--- ---- the first bad line, of lines the first of which stands right behind an `enter` line or not
+-- ---- the first bad line, of lines the first of which stands right after an `enter` line or not
 
 -- counted from 1
 abbrev First : Bool → List (List ℕ) → ℕ → Type 0

@@ -9,7 +9,7 @@ use Rattle.line_fields.specs.Fields.{fields, lines}
 use Rattle.run_feed.specs.declared.fault.FeedFault.TheVariants.{Line}
 use Rattle.run_feed.specs.Feed.{fed}
 
--- ---- fields behind the words with which a line begins
+-- ---- fields after the words with which a line begins
 
 -- enter PART EXPORT STK A0 A1 A2 A3 BACK: nine fields
 abbrev pub IsEnterForm : List (List ℕ) → Type 0
@@ -31,7 +31,7 @@ IsPassForm _ = ⊥
 
 -- ---- lines
 
--- right behind an `enter` line or not
+-- right after an `enter` line or not
 pub record KeepsForm (entry : Bool) (line : List ℕ) : Type 0 where
   pub enter : (rest : List ℕ) → line ≡ codes "enter " ++ rest → IsEnterForm (fields rest)
   pub ret : (rest : List ℕ) → line ≡ codes "ret out " ++ rest → IsRetForm (fields rest)
@@ -40,7 +40,7 @@ pub record KeepsForm (entry : Bool) (line : List ℕ) : Type 0 where
 abbrev pub begins_enter : List ℕ → Bool
 begins_enter line = is_some (behind (codes "enter ") line)
 
--- a line by its number, where the first has number 1 and stands right behind an `enter` line or not
+-- a line by its number, where the first has number 1 and stands right after an `enter` line or not
 abbrev pub IsBadLine : Bool → List (List ℕ) → ℕ → Type 0
 IsBadLine entry [] n = ⊥
 IsBadLine entry (line ∷ rest) zero = ⊥

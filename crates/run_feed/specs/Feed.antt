@@ -25,7 +25,7 @@ pairs_of (Some (Ret r)) = no_pairs
 pairs_of (Some (Pass p)) = p.p0 ∷ p.p1 ∷ p.p2 ∷ []
 pairs_of (Some Other) = no_pairs
 
--- the pairs of an `enter` line, by the lines behind it
+-- the pairs of an `enter` line, by the lines after it
 abbrev pub pairs_next : List (List ℕ) → List FeedPair
 pairs_next [] = no_pairs
 pairs_next (line ∷ rest) = pairs_of (seen true line)
@@ -42,7 +42,7 @@ entered_item base e pairs =
 abbrev pub answer_item : RetSeen → Item
 answer_item r = item.Ret r.part r.site r.base (integer_in r.a0)
 
--- the item of a line, by the lines behind it
+-- the item of a line, by the lines after it
 abbrev pub line_item : ℕ → FeedLine → List (List ℕ) → Option Item
 line_item base (Enter e) rest = Some (entered_item base e (pairs_next rest))
 line_item base (Ret r) rest = Some (answer_item r)
@@ -61,7 +61,7 @@ abbrev pub fed_line : ℕ → ℕ → List (List ℕ) → Option FeedLine → (B
 fed_line base n rest None more = Err (Line n)
 fed_line base n rest (Some s) more = with_item (line_item base s rest) (more (is_enter s))
 
--- of lines, the first of which has this number and stands right behind an `enter` line or not
+-- of lines, the first of which has this number and stands right after an `enter` line or not
 unfoldable pub fed_from : ℕ → Bool → ℕ → List (List ℕ) → Result (List Item) FeedFault
 fed_from base entry n [] = Ok []
 fed_from base entry n (line ∷ rest) = fed_line base n rest (seen entry line)

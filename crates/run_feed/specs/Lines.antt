@@ -74,7 +74,7 @@ pass_in rest = whole (passed (fields rest))
 
 -- ---- lines by how they begin
 
--- only right behind an `enter` line a `pass` line tells something
+-- only right after an `enter` line a `pass` line tells something
 abbrev pub pass_seen : Bool → Option (List ℕ) → Option FeedLine
 pass_seen true (Some rest) = option_map Pass (pass_in rest)
 pass_seen false (Some rest) = Some Other
@@ -88,7 +88,7 @@ abbrev pub enter_seen : Bool → List ℕ → Option (List ℕ) → Option FeedL
 enter_seen entry line (Some rest) = option_map Enter (enter_in rest)
 enter_seen entry line None = ret_seen entry line (behind (codes "ret out ") line)
 
--- what a line tells, right behind an `enter` line or not; None where it has not the form that it must have
+-- what a line tells, right after an `enter` line or not; None where it has not the form that it must have
 unfoldable pub seen : Bool → List ℕ → Option FeedLine
 seen entry line = enter_seen entry line (behind (codes "enter ") line)
 

@@ -94,7 +94,7 @@ fn pairs_of(alloc: Global, seen: Option<FeedLine<'_>>) -> Result<[FeedPair; 3], 
     }
 }
 
-// The pairs of an `enter` line, by the lines behind it.
+// The pairs of an `enter` line, by the lines after it.
 fn pairs_behind(alloc: Global, lines: &Parts<'_>) -> Result<[FeedPair; 3], AllocError>
     ensures { IfOk result (λ pairs. pairs ≡ pairs_next lines.now) }
 {
@@ -139,7 +139,7 @@ fn answer_item(alloc: Global, r: &Answered<'_>) -> Result<Item, AllocError>
     })
 }
 
-/// The item of a line, by the lines behind it.
+/// The item of a line, by the lines after it.
 pub(crate) fn item_of(
     alloc: Global,
     base: u32,

@@ -71,7 +71,7 @@ fn passed<'a>(fields: &mut Parts<'a>) -> Option<Passed<'a>>
     Some(Passed { p0, p1, p2 })
 }
 
-// What stands behind `enter `.
+// What stands after `enter `.
 #[tactic(auto, unfolding(crate::specs::Lines::enter_in))]
 fn enter_in(rest: &[u8]) -> Option<Entered<'_>>
     ensures { result ≡ enter_in rest.now }
@@ -81,7 +81,7 @@ fn enter_in(rest: &[u8]) -> Option<Entered<'_>>
     if fields.is_over() { Some(found) } else { None }
 }
 
-// What stands behind `ret out `; words may follow.
+// What stands after `ret out `; words may follow.
 #[tactic(auto, unfolding(crate::specs::Lines::ret_in))]
 fn ret_in(rest: &[u8]) -> Option<Answered<'_>>
     ensures { result ≡ ret_in rest.now }
@@ -90,7 +90,7 @@ fn ret_in(rest: &[u8]) -> Option<Answered<'_>>
     answered(&mut fields)
 }
 
-// What stands behind `pass `.
+// What stands after `pass `.
 #[tactic(auto, unfolding(crate::specs::Lines::pass_in))]
 fn pass_in(rest: &[u8]) -> Option<Passed<'_>>
     ensures { result ≡ pass_in rest.now }
@@ -100,7 +100,7 @@ fn pass_in(rest: &[u8]) -> Option<Passed<'_>>
     if fields.is_over() { Some(found) } else { None }
 }
 
-/// What a line tells, right behind an `enter` line or not; `None` exactly where it has not the form that it
+/// What a line tells, right after an `enter` line or not; `None` exactly where it has not the form that it
 /// must have.
 #[tactic(auto, unfolding(crate::specs::Lines::seen))]
 pub(crate) fn seen(entry: bool, line: &[u8]) -> Option<FeedLine<'_>>

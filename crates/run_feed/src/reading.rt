@@ -14,7 +14,7 @@ use std::alloc::Global;
 /// that it must have, counted from 1, or that memory was refused.
 ///
 /// Newlines part the lines. Those that begin with `enter ` or `ret out ` have the form of what a run writes,
-/// but that any bytes do for a word, and a line that begins with `pass ` has it right behind an `enter `
+/// but that any bytes do for a word, and a line that begins with `pass ` has it right after an `enter `
 /// line. All others are passed over. docs/FORMATS.md has the forms.
 #[tactic(auto, unfolding(crate::specs::Feed::fed))]
 pub fn read_feed(alloc: Global, base: u32, text: &[u8]) -> Result<Vec<Item>, FeedFault>

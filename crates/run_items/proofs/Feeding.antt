@@ -24,7 +24,7 @@ use Rattle.run_items.proofs.EndLinesSeen.{IsPassedOver}
 
 -- ---- a line's item
 
--- the pairs that a line tells behind an enter line
+-- the pairs that a line tells after an enter line
 pairs_told : (l : Line) → pairs_of (Some (line_told true l)) ≡ line.pairs_in l
 pairs_told (call inward part site base last args words) = refl
 pairs_told (ret true part site base last a0 words) = refl
@@ -33,7 +33,7 @@ pairs_told (enter part export stk args back) = refl
 pairs_told (pass p0 p1 p2) = refl
 pairs_told (leave part a0) = refl
 
--- the lines of the text behind it have these pairs
+-- the lines of the text after it have these pairs
 abbrev HasPairs : List Line → List (List ℕ) → Type 0
 HasPairs ls rest = pairs_next rest ≡ line.pairs_behind ls
 
@@ -49,7 +49,7 @@ entered_is base part export stk a back ls rest h same =
     let x3 = integer_read a.a3 h.3.3 in
     rw (s, x0, x1, x2, x3, same) refl
 
--- the items of a line, before those of the lines behind it
+-- the items of a line, before those of the lines after it
 told_is : (entry : Bool) (base : ℕ) (l : Line) (ls : List Line) (rest : List (List ℕ)) (items : List Item)
     → LineFits l → HasPairs ls rest
     → with_item (item_seen base (line_told entry l) rest) (Ok items) ≡ Ok (line.item_of base l ls ++ items)

@@ -14,6 +14,7 @@ use Rattle.run_lines.specs.Texts.{line_text}
 use Rattle.run_lines.specs.Fits.{LineFits}
 use Rattle.line_fields.specs.Cuts.{behind}
 use Rattle.line_fields.specs.Fields.{meant, tested, whole}
+use Rattle.run_feed.specs.Seen.{EnterSeen}
 use Rattle.run_feed.specs.Lines.{LineSeen, enter_line as Enter, ret_line as Ret, pass_line as Pass}
 use Rattle.run_feed.specs.Lines.{other_line as Other}
 use Rattle.run_feed.specs.Lines.{begun, entered, answered, passed, enter_in, ret_in, pass_in, seen}
@@ -23,23 +24,25 @@ use Rattle.run_items.proofs.High.{high_line}
 use Rattle.run_items.proofs.Spaced.{spaced, AllHigh, fields_are, spaced_line, words_spaced, words_high}
 use Rattle.run_items.proofs.FieldsRead.{natural_again, back_high, pair_high}
 
--- what a line is seen as, right behind an enter line or not
+abbrev enter_told : List ℕ → List ℕ → Word → Args → FeedBack → EnterSeen
+enter_told part export stk a back = record {
+  part = part;
+  name = export;
+  stk = word_text_of stk;
+  a0 = word_text_of a.a0;
+  a1 = word_text_of a.a1;
+  a2 = word_text_of a.a2;
+  a3 = word_text_of a.a3;
+  back = back;
+}
+
+-- what a line is seen as, right after an enter line or not
 abbrev pub line_told : Bool → Line → LineSeen
 line_told entry (call inward part site base last args words) = Other
 line_told entry (ret true part site base last a0 words) = Other
 line_told entry (ret false part site base last a0 words) =
     Ret (record { part = part; site = site; base = base; a0 = word_text_of a0 })
-line_told entry (enter part export stk a back) =
-    Enter (record {
-      part = part;
-      name = export;
-      stk = word_text_of stk;
-      a0 = word_text_of a.a0;
-      a1 = word_text_of a.a1;
-      a2 = word_text_of a.a2;
-      a3 = word_text_of a.a3;
-      back = back;
-    })
+line_told entry (enter part export stk a back) = Enter (enter_told part export stk a back)
 line_told true (pass p0 p1 p2) = Pass (record { p0 = p0; p1 = p1; p2 = p2 })
 line_told false (pass p0 p1 p2) = Other
 line_told entry (leave part a0) = Other
@@ -226,16 +229,7 @@ enter_at entry rest = refl
 entered_in : (part export : List ℕ) (stk : Word) (a : Args) (back : FeedBack)
     → LineFits (enter part export stk a back)
     → enter_in (part ++ spaced (enter_fields export stk a back))
-    ≡ Some (record {
-      part = part;
-      name = export;
-      stk = word_text_of stk;
-      a0 = word_text_of a.a0;
-      a1 = word_text_of a.a1;
-      a2 = word_text_of a.a2;
-      a3 = word_text_of a.a3;
-      back = back;
-    })
+    ≡ Some (enter_told part export stk a back)
 unfolding enter_in entered meant tested
 entered_in part export stk a back h =
     let all = entered_high part export stk a back h in

@@ -2,7 +2,7 @@
 
 -- no byte of a name, a number or a word is below 40, so none is a blank or a newline
 pub use Rattle.run_items.proofs.High.{IsHigh, decimal_high, name_high, name_is, word_high}
--- fields, each behind a blank, and the lines of a text
+-- fields, each after a blank, and the lines of a text
 pub use Rattle.run_items.proofs.Spaced.{AllHigh, fields_are, spaced, words_high, words_spaced}
 -- what fields of lines are read as
 pub use Rattle.run_items.proofs.FieldsRead.{back_high, natural_again, pair_high, signed_fits}

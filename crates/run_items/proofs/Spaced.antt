@@ -1,4 +1,4 @@
--- Fields, each behind a blank, and the lines of a text.
+-- Fields, each after a blank, and the lines of a text.
 use Rattle.std.proofs.Common.{append-nil, ◌≡◌, ℕ, true, false, List, [], ◌∷◌, ◌++◌, length, None, refl, sym}
 use Rattle.std.proofs.Common.{ap, ◌∙◌, arith}
 use Rattle.std.specs.Prelude.{map, codes, nat_lt, not, ◌==◌}

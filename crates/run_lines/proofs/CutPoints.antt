@@ -66,7 +66,7 @@ module _ (s : StartSeen) (limit : ℕ) where
 
   -- ---- a run passes each point within the limit to which steps lead
 
-  -- from the start on, with n steps at most; behind it m are left
+  -- from the start on, with n steps at most; after it m are left
   record Passes (n m j t : ℕ) (p : OState) : Type 0 where
     enough : limit < j + m
     at : (traced limit n (on (overlay_at s).state 0)).at ≡ (traced limit m (on p j)).at

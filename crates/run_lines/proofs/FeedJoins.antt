@@ -1,4 +1,4 @@
--- What goes out and what comes in, over the lines of steps one behind the other.
+-- What goes out and what comes in, over the lines of steps one after the other.
 use Rattle.std.proofs.Common.{◌≡◌, ℕ, Bool, true, false, List, [], ◌∷◌, ◌++◌, refl, sym, ap, ◌∙◌}
 use Rattle.std.specs.Prelude.{if◌then◌else◌, ◌&&◌}
 use Rattle.std.proofs.lemmas.Bool.{and_parts}

@@ -213,7 +213,7 @@ lift init steps sink new after Went r = r
 lift init steps sink new after Halted r = r
 lift init steps sink new after (Failed cause at) r = r
 
--- the end line was written behind the lines, or not
+-- the end line was written after the lines, or not
 pub ends : (init : StartSeen) (sink : SinkSeen) (n steps : ℕ) (start : StartSeen) (now after : SinkSeen)
     (step : Step) (line : List ℕ) (result : RunEnd)
     → n ≤ steps → start ≡ record init { state = plain n init.state }

@@ -1,4 +1,4 @@
--- The pieces of a line, one behind the other.
+-- The pieces of a line, one after the other.
 use Rattle.std.proofs.Common.{◌≡◌, ℕ, suc, ◌+◌, ◌<◌, List, [], ◌∷◌, ◌++◌, refl, sym, ap, ◌∙◌, arith, add-one}
 use Rattle.std.proofs.Common.{subst, codes, Result}
 use Rattle.std.specs.Prelude.{IsErr}
@@ -123,7 +123,7 @@ lines_joined (l ∷ ls) =
     concat-append (line_pieces l) (lines_pieces ls) ∙ ap (λ t. t ++ concat (lines_pieces ls)) (line_joined l)
     ∙ ap (λ t. line_text l ++ t) (lines_joined ls)
 
--- with a last line behind them
+-- with a last line after them
 pub joined_with : (ls : List Line) (last : List ℕ)
     → concat (lines_pieces ls ++ last ∷ []) ≡ lines_text ls ++ last
 joined_with ls last =

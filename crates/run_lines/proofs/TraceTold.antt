@@ -23,7 +23,7 @@ use Rattle.run_lines.specs.Traces.{weight_with, lines_after, Traced, ended, behi
 use Rattle.run_lines.specs.Traces.{traced, trace_of}
 use Rattle.run_lines.specs.Told.{step_lines, Told, none_yet, and_then, EndsOverlay, StopsAt, TracesSteps}
 
--- one run behind another
+-- one run after another
 told_then : (l : Layout) (o p q : OState) (j k : ℕ) (ls ms : List Line) → Told l o j ls p → Told l p k ms q
     → Told l o (j + k) (ls ++ ms) q
 told_then l o p _ j _ ls _ h none_yet =

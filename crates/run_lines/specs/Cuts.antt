@@ -40,7 +40,7 @@ abbrev pub weighed : Bool → ℕ → ℕ
 weighed true n = n
 weighed false n = 0
 
--- of a step, and the steps behind it
+-- of a step, and the steps after it
 abbrev pub trusted_by : OStep → OverlaySeen → ℕ → ℕ
 trusted_by (Went event) o more = weighed (is_inside o.layout o.state) (weight_of o.layout o.state) + more
 trusted_by Halted o more = 0

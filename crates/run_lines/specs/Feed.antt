@@ -58,7 +58,7 @@ abbrev pub pairs_in : Line → List FeedPair
 pairs_in (pass p0 p1 p2) = p0 ∷ p1 ∷ p2 ∷ []
 pairs_in _ = no_pairs
 
--- the pairs of an enter line, by the lines behind it
+-- the pairs of an enter line, by the lines after it
 abbrev pub pairs_behind : List Line → List FeedPair
 pairs_behind [] = no_pairs
 pairs_behind (x ∷ xs) = pairs_in x

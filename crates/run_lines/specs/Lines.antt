@@ -80,7 +80,7 @@ pass_line l p = pass (feed_pair l p.p0) (feed_pair l p.p1) (feed_pair l p.p2)
 abbrev pub pass_lines : Layout → Pairs → List Line
 pass_lines l p = if none_paired p then [] else pass_line l p ∷ []
 
--- what stands behind the line of an event
+-- what stands after the line of an event
 abbrev pub lines_behind : Layout → View → Event → List Line
 lines_behind l v (Entered part k back) = pass_lines l (pairs_of l v)
 lines_behind l v _ = []

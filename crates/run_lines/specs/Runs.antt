@@ -89,7 +89,7 @@ pub record RunsTo (old : StartSeen) (steps : ℕ) (sink : SinkSeen) (new : Start
   pub text : Adds sink (run_text (layout old) old.state steps) after
   pub pieces : AddsPieces sink (run_pieces (layout old) old.state steps) after
 
--- some pieces were written, and then, behind them, one of others failed
+-- some pieces were written, and then, after them, one of others failed
 abbrev pub FailsAfterPieces : SinkSeen → List (List ℕ) → List (List ℕ) → SinkSeen → Type 0
 FailsAfterPieces old pieces more new = (mid : SinkSeen) × AddsPieces old pieces mid
     × FailsAtPiece mid more new

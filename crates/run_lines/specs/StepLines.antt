@@ -15,14 +15,14 @@ abbrev pub IsNoPass : Line → Type 0
 IsNoPass (pass p0 p1 p2) = ⊥
 IsNoPass _ = Unit {0}
 
--- none, one that is no pass line, or an enter line with a pass line right behind it
+-- none, one that is no pass line, or an enter line with a pass line right after it
 pub data AreOfStep : List Line → Type 0 where
   none_told : AreOfStep []
   one_told : {x : Line} → IsNoPass x → AreOfStep (x ∷ [])
   pass_told : {part export : List ℕ} {stk : Word} {args : Args} {back : FeedBack} {p0 p1 p2 : FeedPair}
       → AreOfStep (enter part export stk args back ∷ pass p0 p1 p2 ∷ [])
 
--- those of steps, one behind the other
+-- those of steps, one after the other
 pub data AreOfSteps : List Line → Type 0 where
   no_step : AreOfSteps []
   and_step : {ls more : List Line} → AreOfSteps ls → AreOfStep more → AreOfSteps (ls ++ more)

@@ -9,7 +9,7 @@ abbrev pub direction : Bool → List ℕ
 direction true = codes "in "
 direction false = codes "out "
 
--- a text behind its blank
+-- a text after its blank
 abbrev pub field : List ℕ → List ℕ
 field t = codes " " ++ t
 
@@ -55,7 +55,7 @@ lines_text (l ∷ ls) = line_text l ++ lines_text ls
 
 -- ---- the pieces in which a line is written, each by one write
 
--- each word behind its blank
+-- each word after its blank
 abbrev pub words_pieces : List Word → List (List ℕ)
 words_pieces [] = []
 words_pieces (w ∷ ws) = field (word_text_of w) ∷ words_pieces ws

@@ -15,7 +15,7 @@ use Rattle.line_fields.specs.declared.TheConstants.{LAST_NATURAL}
 use Rattle.line_fields.specs.Numbers.{natural_in}
 use Rattle.line_fields.specs.Words.{word_in}
 use Rattle.line_fields.specs.Fields.{Reader, field, meant, fields}
-use Rattle.line_fields.proofs.Offers.{number_is, word_is}
+use Rattle.line_fields.proofs.Offers.{number_is, word_is, goes, same_read, meant_is}
 use Rattle.run_picture.specs.declared.heights.Scale.{Scale}
 use Rattle.run_picture.specs.declared.turn.Side.{Side}
 use Rattle.run_picture.specs.declared.turn.Extent.{Extent}
@@ -27,7 +27,6 @@ use Rattle.run_picture.specs.Events.{EventSeen, events_in}
 use Rattle.run_picture.specs.Heights.{with_cut, with_turn, cuts_from, below, fits, scale_of}
 use Rattle.run_picture.specs.Page.{PageSeen, column_of, x, y}
 use Rattle.run_picture.specs.Picture.{page_for}
-use Rattle.run_picture.proofs.Passes.{goes, same_read, meant_is}
 use Rattle.run_picture.proofs.Stands.{Under, with_cut_under, no_lower}
 
 -- ---- addresses have 32 bits
@@ -69,7 +68,7 @@ spanned_small is_call ts = read_small _ by_fields
         let g5 = goes (meant natural_in g4.rest) _ (t, r) g4.next in
         let k4 = meant_is natural_in g3.rest g4.value g4.rest g4.first in
         let k5 = meant_is natural_in g4.rest g5.value g5.rest g5.first in
-        subst IsSmall (same_read g5.next)
+        subst IsSmall (same_read g5.next).0
         (either_small is_call (side_of g1.value) (record { base = g4.value; last = g5.value })
         (natural_small k4.0 g4.value k4.1) (natural_small k5.0 g5.value k5.1))
 

@@ -63,7 +63,7 @@ module _ (test : Class → Bool) where
   append (line c a b d e ∷ xs) ys = append xs ys
   append (label c a b s ∷ xs) ys = append xs ys
 
-  -- shapes without a box, in front of others and behind them
+  -- shapes without a box, in front of others and after them
   bare : (xs ys : List Shape) → boxes_of test xs ≡ [] → boxes_of test (xs ++ ys) ≡ boxes_of test ys
   bare xs ys h = append xs ys ∙ ap (λ zs. zs ++ boxes_of test ys) h
 

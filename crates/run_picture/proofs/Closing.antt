@@ -200,7 +200,7 @@ found_closing es k w m h =
     let lt = p.2 in
     (p.0, is_closed es p.0 p.1, omega arith)
 
--- what closes a call closes it whatever comes behind
+-- what closes a call closes it whatever comes after
 pub closed_still : (inner back : List EventSeen) (k : ℕ) → closing inner ≡ Some k
     → (closing (inner ++ back) ≡ Some k) × (k < length inner + 1)
 closed_still inner back k h =

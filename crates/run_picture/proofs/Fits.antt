@@ -45,7 +45,7 @@ pub data Fits : List Extent → List EventSeen → Type 0 where
   goes_by : {now : List Extent} {e : EventSeen} {es : List EventSeen} → IsNeither e.turn → Fits now es
       → Fits now (e ∷ es)
 
--- behind a call
+-- after a call
 record Opened (s : Extent) (now : List Extent) (es : List EventSeen) : Type 0 where
   range : IsRange s
   under : LiesUnder s now
@@ -83,7 +83,7 @@ at_neither now e es h (goes_by k f) = f
 abbrev bases : List Extent → List ℕ
 bases now = map (λ (s : Extent). s.base) now
 
--- the frames that are open, and what is held, behind lines
+-- the frames that are open, and what is held, after lines
 record Behind (h : HeldSeen) (front rest : List EventSeen) : Type 0 where
   now : List Extent
   apart : Apart now
@@ -124,7 +124,7 @@ behind (e ∷ es) rest now h a b (goes_by k f) =
 
 -- ---- a call that stays open
 
--- behind lines that don't close it, it is open still, below calls that were made since
+-- after lines that don't close it, it is open still, below calls that were made since
 pub record Still (now : List Extent) (s : Extent) (h : HeldSeen) (k w : ℕ)
     (inner rest : List EventSeen) : Type 0 where
   above : List Extent
@@ -154,7 +154,7 @@ module _ (now : List Extent) (s : Extent) (rest : List EventSeen) where
         ∙ ap (λ m. closing_from m (length d.above) rest) (omega arith);
   }
 
-  -- nothing closes the call behind such a line
+  -- nothing closes the call after such a line
   none_behind : (e : EventSeen) (es : List EventSeen) (k w v : ℕ) → open_behind e.turn w ≡ Some v
       → closing_from k w (e ∷ es) ≡ None → closing_from (k + 1) v es ≡ None
   none_behind e es k w v is h = sym (ap (λ o. closes_or o k (λ u. closing_from (k + 1) u es)) is) ∙ h
@@ -239,7 +239,7 @@ cut_low (q ∷ above) now s (Some t) top a h =
 
 -- ---- a call in front of lines
 
--- the frames that are open before a call, and what is so behind lines that don't close it
+-- the frames that are open before a call, and what is so after lines that don't close it
 pub record AtCall (h : HeldSeen) (front : List EventSeen) (c : EventSeen) (s : Extent)
     (inner rest : List EventSeen) : Type 0 where
   pub now : List Extent

@@ -16,11 +16,11 @@ shapes_append (x ∷ xs) ys =
     ap (λ t. shape_text x ++ t) (shapes_append xs ys)
     ∙ sym (append_assoc (shape_text x) (shapes_text xs) (shapes_text ys))
 
--- a piece, and one behind it
+-- a piece, and one after it
 pub piece : (a b old mid new : List ℕ) → mid ≡ old ++ a → new ≡ mid ++ b → new ≡ old ++ (a ++ b)
 piece a b old mid new h k = k ∙ ap (λ t. t ++ b) h ∙ append_assoc old a b
 
--- shapes, and shapes behind them
+-- shapes, and shapes after them
 pub then : (xs ys : List Shape) (old mid new : List ℕ) → mid ≡ old ++ shapes_text xs
     → new ≡ mid ++ shapes_text ys → new ≡ old ++ shapes_text (xs ++ ys)
 then xs ys old mid new h k =

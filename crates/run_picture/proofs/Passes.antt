@@ -10,8 +10,9 @@ use Rattle.line_fields.specs.Options.{where_true}
 use Rattle.line_fields.specs.Numbers.{natural_in, number_in}
 use Rattle.line_fields.specs.Words.{is_word}
 use Rattle.line_fields.specs.Forms.{back_in, handed_in}
-use Rattle.line_fields.specs.Fields.{Reader, reads_on, done, unless_none, meant, tested, whole, fields, lines}
-use Rattle.line_fields.proofs.Offers.{chosen}
+use Rattle.line_fields.specs.Fields.{Reader, done, meant, tested, fields, lines}
+use Rattle.line_fields.proofs.Offers.{chosen, Fields, goes, meant_is, same_read, tested_is, unless_is}
+use Rattle.line_fields.proofs.Offers.{whole_is}
 use Rattle.run_audit.proofs.Offers.{told_decides}
 use Rattle.run_audit.specs.declared.fault.AuditFault.{AuditFault}
 use Rattle.run_audit.specs.declared.fault.AuditFault.TheVariants.{Form, Width, Overlap, Mismatch}
@@ -33,50 +34,6 @@ use Rattle.run_picture.specs.Events.{EventSeen, event_of, events_in, events}
 use Rattle.run_picture.specs.Laws.{IsNeither}
 use Rattle.run_picture.specs.OpenLaws.{Passes}
 use Rattle.run_picture.proofs.Fits.{LiesUnder, IsRange, Apart, under_all, Fits, ends, opens, closes, goes_by}
-
--- ---- one reader, and the next
-
-abbrev Fields : Type 0
-Fields = List (List ℕ)
-
-pub record Goes {A B : Type 0} (o : Option (A × Fields)) (f : A → Reader B) (y : B × Fields) : Type 0 where
-  pub value : A
-  pub rest : Fields
-  pub first : o ≡ Some (value, rest)
-  pub next : f value rest ≡ Some y
-
-pub goes : {A B : Type 0} (o : Option (A × Fields)) (f : A → Reader B) (y : B × Fields)
-    → reads_on o f ≡ Some y → Goes o f y
-goes None f y h = absurd cc
-goes (Some x) f y h = record { value = x.0; rest = x.1; first = refl; next = h }
-
-pub same_read : {A : Type 0} {x z : A} {ts us : Fields} → done x ts ≡ Some (z, us) → x ≡ z
-same_read {A = A} {x = x} {z = z} {ts = ts} {us = us} h =
-    let both : (x, ts) ≡ (z, us) = cc in
-    ap (λ (p : A × Fields). p.0) both
-
-pub unless_is : {A : Type 0} (o : Option A) (ts : Fields) (x : A) (rest : Fields)
-    → unless_none o ts ≡ Some (x, rest) → (o ≡ Some x) × (ts ≡ rest)
-unless_is None ts x rest h = absurd cc
-unless_is {A = A} (Some y) ts x rest h =
-    let both : (y, ts) ≡ (x, rest) = cc in
-    (ap (λ (p : A × Fields). Some p.0) both, ap (λ (p : A × Fields). p.1) both)
-
-tested_is : (test : List ℕ → Bool) (ts : Fields) (x : List ℕ) (rest : Fields)
-    → tested test ts ≡ Some (x, rest) → (t : List ℕ) × (ts ≡ t ∷ rest)
-unfolding tested
-tested_is test [] x rest h = absurd cc
-tested_is test (t ∷ ts) x rest h =
-    let k = unless_is (where_true (test t) t) ts x rest h in
-    (t, ap (λ us. t ∷ us) k.1)
-
-pub meant_is : {A : Type 0} (read : List ℕ → Option A) (ts : Fields) (x : A) (rest : Fields)
-    → meant read ts ≡ Some (x, rest) → (t : List ℕ) × (read t ≡ Some x) × (ts ≡ t ∷ rest)
-unfolding meant
-meant_is read [] x rest h = absurd cc
-meant_is read (t ∷ ts) x rest h =
-    let k = unless_is (read t) ts x rest h in
-    (t, k.0, ap (λ us. t ∷ us) k.1)
 
 -- ---- what a line changes is what the audit takes it for
 
@@ -111,20 +68,20 @@ told_is b ts t rest h =
     let g6 = goes (registers b g5.rest) _ (t, rest) g5.next in
     let g7 = goes (tested (bytes_eq (codes ":")) g6.rest) _ (t, rest) g6.next in
     let g8 = goes (words_left g7.rest) _ (t, rest) g7.next in
-    let same = same_read g8.next in
+    let same = (same_read g8.next).0 in
     let k1 = tested_is is_direction ts g1.value g1.rest g1.first in
     let k2 = tested_is is_name g1.rest g2.value g2.rest g2.first in
     let k3 = meant_is natural_in g2.rest g3.value g3.rest g3.first in
     let k4 = meant_is natural_in g3.rest g4.value g4.rest g4.first in
     let k5 = meant_is natural_in g4.rest g5.value g5.rest g5.first in
-    let are : ts ≡ k1.0 ∷ k2.0 ∷ k3.0 ∷ k4.0 ∷ k5.0 ∷ g5.rest =
-    k1.1 ∙ ap (λ us. k1.0 ∷ us) (k2.1 ∙ ap (λ us. k2.0 ∷ us) (k3.2 ∙ ap (λ us. k3.0 ∷ us)
+    let are : ts ≡ g1.value ∷ g2.value ∷ k3.0 ∷ k4.0 ∷ k5.0 ∷ g5.rest =
+    k1.1 ∙ ap (λ us. g1.value ∷ us) (k2.1 ∙ ap (λ us. g2.value ∷ us) (k3.2 ∙ ap (λ us. k3.0 ∷ us)
     (k4.2 ∙ ap (λ us. k4.0 ∷ us) k5.2))) in
     let low : natural_in k4.0 ≡ Some t.base = k4.1 ∙ ap (λ (u : ToldSeen). Some u.base) same in
     let high : natural_in k5.0 ≡ Some t.last = k5.1 ∙ ap (λ (u : ToldSeen). Some u.last) same in (
-      side_of k1.0,
+      side_of g1.value,
       g5.rest,
-      ap (spanned b) are ∙ spanned_is b k1.0 k2.0 k3.0 k4.0 k5.0 g5.rest t.base t.last low high,
+      ap (spanned b) are ∙ spanned_is b g1.value g2.value k3.0 k4.0 k5.0 g5.rest t.base t.last low high,
     )
 
 call_is : (ts : Fields) (l : Line) (rest : Fields) → call ts ≡ Some (l, rest)
@@ -133,7 +90,7 @@ unfolding call
 call_is ts l rest h =
     let g = goes (told true ts) _ (l, rest) h in
     let k = told_is true ts g.value g.rest g.first in
-    subst (λ m. IsSame m (turn_read (spanned true ts))) (same_read g.next) (k.0, ap turn_read k.2)
+    subst (λ m. IsSame m (turn_read (spanned true ts))) (same_read g.next).0 (k.0, ap turn_read k.2)
 
 ret_is : (ts : Fields) (l : Line) (rest : Fields) → ret ts ≡ Some (l, rest)
     → IsSame l (turn_read (spanned false ts))
@@ -141,7 +98,7 @@ unfolding ret
 ret_is ts l rest h =
     let g = goes (told false ts) _ (l, rest) h in
     let k = told_is false ts g.value g.rest g.first in
-    subst (λ m. IsSame m (turn_read (spanned false ts))) (same_read g.next) (k.0, ap turn_read k.2)
+    subst (λ m. IsSame m (turn_read (spanned false ts))) (same_read g.next).0 (k.0, ap turn_read k.2)
 
 -- ---- the lines that are neither
 
@@ -169,7 +126,7 @@ enter_plain ts l rest h =
     let g3 = goes (tested is_word g2.rest) _ (l, rest) g2.next in
     let g4 = goes (registers true g3.rest) _ (l, rest) g3.next in
     let g5 = goes (meant back_in g4.rest) _ (l, rest) g4.next in
-    subst IsPlain (same_read g5.next) tt
+    subst IsPlain (same_read g5.next).0 tt
 
 pass_plain : (ts : Fields) (l : Line) (rest : Fields) → passed ts ≡ Some (l, rest) → IsPlain l
 unfolding passed
@@ -186,14 +143,14 @@ unfolding left
 leave_plain ts l rest h =
     let g1 = goes (tested is_name ts) _ (l, rest) h in
     let g2 = goes (tested is_word g1.rest) _ (l, rest) g1.next in
-    subst IsPlain (same_read g2.next) tt
+    subst IsPlain (same_read g2.next).0 tt
 
 steps_plain : (ts : Fields) (l : Line) (rest : Fields) → steps ts ≡ Some (l, rest) → IsPlain l
 unfolding steps
 steps_plain ts l rest h =
     let g1 = goes (tested (bytes_eq (codes "steps")) ts) _ (l, rest) h in
     let g2 = goes (meant (number_in 18446744073709551615) g1.rest) _ (l, rest) g1.next in
-    subst IsPlain (same_read g2.next) tt
+    subst IsPlain (same_read g2.next).0 tt
 
 halted_plain : (ts : Fields) (l : Line) (rest : Fields) → halted ts ≡ Some (l, rest) → IsPlain l
 unfolding halted
@@ -250,11 +207,6 @@ named_is name ts l rest h false false e f =
     pick (bytes_eq (codes "running") name) running _ ts l rest (IsPlain l) k6 (running_plain ts l rest)
     (λ k7. absurd (let n : None ≡ Some (l, rest) = k7 in cc))))))))
     (rest_neither (bytes_eq (codes "enter") name) (bytes_eq (codes "leave") name) ts))
-
-pub whole_is : {A : Type 0} (o : Option (A × Fields)) (x : A) → whole o ≡ Some x → o ≡ Some (x, [])
-whole_is None x h = absurd cc
-whole_is (Some (y, [])) x h = let same : y ≡ x = cc in ap (λ z. Some (z, [])) same
-whole_is (Some (y, t ∷ ts)) x h = absurd cc
 
 line_fields_is : (ts : Fields) (l : Line) (rest : Fields) → one_line ts ≡ Some (l, rest)
     → IsSame l (turn_read (one_turn ts))

@@ -298,7 +298,7 @@ module _ (p : PageSeen) (w : Within p) where
         groups_len (n + 1) after (f ∷ es) (omega arith),
       )
 
-  -- ---- what stands behind them
+  -- ---- what stands after them
 
   lanes_size : size (lanes p) ≤ 133
   unfolding lanes

@@ -1,6 +1,6 @@
 -- A text that passes the audit has no byte that is escaped.
 use Rattle.std.proofs.Common.{◌≡◌, ℕ, ◌+◌, ◌≤◌, Bool, true, false, List, [], ◌∷◌, Option, Some}
-use Rattle.std.proofs.Common.{None, Ok, refl, sym, ap, subst, arith, inl, inr}
+use Rattle.std.proofs.Common.{None, Ok, refl, sym, subst, arith, inl, inr}
 use Rattle.std.specs.Prelude.{ℤ, codes, is_some, if◌then◌else◌, ◌||◌}
 use Rattle.std.specs.Str.{bytes_eq}
 use Rattle.std.specs.List.{list_all}
@@ -17,9 +17,10 @@ use Rattle.line_fields.specs.Cuts.{parts, behind}
 use Rattle.line_fields.specs.Numbers.{number_in, natural_in, integer_in}
 use Rattle.line_fields.specs.Words.{word_in, is_word}
 use Rattle.line_fields.specs.Forms.{back_in, handed_in}
-use Rattle.line_fields.specs.Fields.{Reader, done, meant, tested, fields, lines}
+use Rattle.line_fields.specs.Fields.{Reader, meant, tested, fields, lines}
 use Rattle.line_fields.specs.declared.TheConstants.{LAST_NATURAL}
 use Rattle.line_fields.proofs.Offers.{chosen, number_is, integer_is, word_is, back_is, handed_is, behind_is}
+use Rattle.line_fields.proofs.Offers.{Fields, goes, meant_is, same_read, tested_is, unless_is, whole_is}
 use Rattle.run_audit.specs.declared.line.Line.{Line}
 use Rattle.run_audit.specs.declared.line.Line.TheVariants.{Call, Ret, Enter, Pass, Leave, End}
 use Rattle.run_audit.specs.Told.{ToldSeen}
@@ -29,7 +30,7 @@ use Rattle.run_audit.specs.Lines.{line_named, one_line, line_in}
 use Rattle.run_audit.specs.Audit.{OpenSeen, nothing_open, stepped, at_end, audit_on, judged, audited_from}
 use Rattle.run_audit.specs.Audit.{audited}
 use Rattle.run_picture.specs.LengthLaws.{TracesArePlain}
-use Rattle.run_picture.proofs.Passes.{goes, unless_is, step_ok, whole_is}
+use Rattle.run_picture.proofs.Passes.{step_ok}
 use Rattle.run_picture.proofs.Plain.{Plain, both, name_plain, decimal_plain, integer_plain, word_plain}
 use Rattle.run_picture.proofs.Plain.{back_plain, handed_plain, AllPlain, joined_plain}
 
@@ -99,26 +100,19 @@ natural_plain t n h = number_plain LAST_NATURAL n t (omega arith) h
 count_plain : (t : List ℕ) (n : ℕ) → number_in 18446744073709551615 t ≡ Some n → Plain t
 count_plain t n h = number_plain 18446744073709551615 n t (omega arith) h
 
--- ---- one field, and those behind it
-
-abbrev Fields : Type 0
-Fields = List (List ℕ)
+-- ---- one field, and those after it
 
 by_test : (test : List ℕ → Bool) → ((t : List ℕ) → test t ≡ true → Plain t) → (ts : Fields) (x : List ℕ)
     (rest : Fields) → tested test ts ≡ Some (x, rest) → AllPlain rest → AllPlain ts
-unfolding tested
-by_test test each [] x rest h a = absurd cc
-by_test test each (t ∷ ts) x rest h a =
-    let k = unless_is (where_true (test t) t) ts x rest h in
-    (each t (chosen (test t) t x k.0).0, subst AllPlain (sym k.1) a)
+by_test test each ts x rest h a =
+    let k = tested_is test ts x rest h in
+    subst AllPlain (sym k.1) (each x k.0, a)
 
 by_meaning : {A : Type 0} (read : List ℕ → Option A) → ((t : List ℕ) (x : A) → read t ≡ Some x → Plain t)
     → (ts : Fields) (x : A) (rest : Fields) → meant read ts ≡ Some (x, rest) → AllPlain rest → AllPlain ts
-unfolding meant
-by_meaning read each [] x rest h a = absurd cc
-by_meaning read each (t ∷ ts) x rest h a =
-    let k = unless_is (read t) ts x rest h in
-    (each t x k.0, subst AllPlain (sym k.1) a)
+by_meaning read each ts x rest h a =
+    let (t, means, is) = meant_is read ts x rest h in
+    subst AllPlain (sym is) (each t x means, a)
 
 -- ---- lines
 
@@ -179,11 +173,6 @@ ret_plain ts l rest h =
     let g = goes (told false ts) _ (l, rest) h in
     told_plain false ts g.value g.rest g.first
 
-done_rest : {A : Type 0} {x z : A} {ts us : Fields} → done x ts ≡ Some (z, us) → ts ≡ us
-done_rest {A = A} {x = x} {z = z} {ts = ts} {us = us} h =
-    let pair : (x, ts) ≡ (z, us) = cc in
-    ap (λ (p : A × Fields). p.1) pair
-
 enter_plain : (ts : Fields) (l : Line) (rest : Fields) → entered ts ≡ Some (l, rest) → AllPlain rest
     → AllPlain ts
 unfolding entered
@@ -198,7 +187,7 @@ enter_plain ts l rest h a =
     (by_test is_word is_word_plain g2.rest g3.value g3.rest g3.first
     (registers_plain true g3.rest g4.value g4.rest g4.first
     (by_meaning back_in back_in_plain g4.rest g5.value g5.rest g5.first
-    (subst AllPlain (sym (done_rest g5.next)) a)))))
+    (subst AllPlain (sym (same_read g5.next).1) a)))))
 
 pass_plain : (ts : Fields) (l : Line) (rest : Fields) → passed ts ≡ Some (l, rest) → AllPlain rest
     → AllPlain ts
@@ -221,7 +210,7 @@ leave_plain ts l rest h a =
     let g2 = goes (tested is_word g1.rest) _ (l, rest) g1.next in
     by_test is_name name_plain ts g1.value g1.rest g1.first
     (by_test is_word is_word_plain g1.rest g2.value g2.rest g2.first
-    (subst AllPlain (sym (done_rest g2.next)) a))
+    (subst AllPlain (sym (same_read g2.next).1) a))
 
 steps_plain : (ts : Fields) (l : Line) (rest : Fields) → steps ts ≡ Some (l, rest) → AllPlain rest
     → AllPlain ts
@@ -232,7 +221,7 @@ steps_plain ts l rest h a =
     by_test (bytes_eq (codes "steps")) (λ u. same_plain (codes "steps") u (record { same = refl })) ts
     g1.value g1.rest g1.first
     (by_meaning (number_in 18446744073709551615) count_plain g1.rest g2.value g2.rest g2.first
-    (subst AllPlain (sym (done_rest g2.next)) a))
+    (subst AllPlain (sym (same_read g2.next).1) a))
 
 halted_plain : (ts : Fields) (l : Line) (rest : Fields) → halted ts ≡ Some (l, rest) → AllPlain rest
     → AllPlain ts

@@ -22,7 +22,7 @@ class_of Outside = class.Outside
 
 -- ---- in the lanes
 
--- who acts behind a line
+-- who acts after a line
 unfoldable pub acts : PageSeen → ℕ → Turn → List Shape
 acts p n t =
     line class.Acts (x p n) (middle (side_behind t)) (x p (n + 1)) (middle (side_behind t)) ∷ []
@@ -58,11 +58,11 @@ abbrev pub area_below : PageSeen → ℕ → Side → Option ℕ → List Shape
 area_below p n side None = []
 area_below p n side (Some top) = box (class_of side) (x p n) (y p top) (x p (n + 1)) (bottom p) ∷ []
 
--- what was handed over to who acts behind a line
+-- what was handed over to who acts after a line
 unfoldable pub area : PageSeen → ℕ → Turn → Option ℕ → List Shape
 area p n t top = area_below p n (side_behind t) top
 
--- a frame, from its call to the line that closes it, so many lines behind
+-- a frame, from its call to the line that closes it, so many lines after
 abbrev pub frame_box : PageSeen → ℕ → Extent → Option ℕ → Shape
 frame_box p n span (Some k) = box class.Closed (x p n) (y p (span.last + 1)) (x p (n + k)) (y p span.base)
 frame_box p n span None = box class.Open (x p n) (y p (span.last + 1)) (x p p.count + 14) (y p span.base)
@@ -71,7 +71,7 @@ abbrev pub behind_blank : Option (List ℕ × List ℕ) → List ℕ
 behind_blank None = []
 behind_blank (Some both) = both.1
 
--- what a call line tells behind its direction
+-- what a call line tells after its direction
 abbrev pub told_of : List ℕ → List ℕ
 told_of l = behind_blank (cut 32 (behind_blank (cut 32 l)))
 
@@ -105,7 +105,7 @@ frame p n Other l es = []
 
 -- ---- lines
 
--- of the n-th line, where this is handed over, and these lines come behind it
+-- of the n-th line, where this is handed over, and these lines come after it
 unfoldable pub line_shapes : PageSeen → ℕ → Turn → List ℕ → Option ℕ → List EventSeen → List Shape
 line_shapes p n t l top es =
     area p n t top ++ acts p n t ++ arrow p n t ++ number p n ++ told_beside p n l ++ frame p n t l es

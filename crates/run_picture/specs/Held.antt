@@ -3,7 +3,7 @@ use Rattle.std.specs.Prelude.{ℕ, ◌+◌, min, List, [], ◌∷◌, drop, Opti
 use Rattle.run_picture.specs.declared.turn.Turn.{Turn}
 use Rattle.run_picture.specs.declared.turn.Turn.TheVariants.{Call, Ret, Enter, Leave, Other}
 
--- where the open frames begin, newest first, and the address behind the stack, if there is one
+-- where the open frames begin, newest first, and the address after the stack, if there is one
 pub record HeldSeen : Type 0 where
   pub bases : List ℕ
   pub top : Option ℕ
@@ -15,7 +15,7 @@ abbrev pub end_top : Option ℕ → Option ℕ
 end_top None = None
 end_top (Some end) = Some (end + 1)
 
--- behind a line: a call hands over what lies below its frame, a return this frame too
+-- after a line: a call hands over what lies below its frame, a return this frame too
 abbrev pub held_after : HeldSeen → Turn → HeldSeen
 held_after h (Call side span) = record { bases = span.base ∷ h.bases; top = Some span.base }
 held_after h (Ret side span) = record { bases = drop 1 h.bases; top = Some (span.last + 1) }

@@ -35,7 +35,7 @@ abbrev pub ended_text : List (List ℕ) → List ℕ
 ended_text [] = []
 ended_text (t ∷ ts) = t ++ 10 ∷ ended_text ts
 
--- what stands behind the last newline of a text
+-- what stands after the last newline of a text
 abbrev pub last_of : List (List ℕ) → List ℕ
 last_of [] = []
 last_of (t ∷ []) = t
@@ -82,7 +82,7 @@ boxes_of test (box c left top right low ∷ ss) =
 boxes_of test (line c x1 y1 x2 y2 ∷ ss) = boxes_of test ss
 boxes_of test (label c x y s ∷ ss) = boxes_of test ss
 
--- the box of a line behind which these come: of a call whose range isn't empty, from its line to the one
+-- the box of a line after which these come: of a call whose range isn't empty, from its line to the one
 -- that closes it
 abbrev pub box_due : PageSeen → ℕ → Turn → List EventSeen → List Shape
 box_due p n (Call side span) es =
@@ -102,7 +102,7 @@ abbrev pub OneBoxEach : Type 0
 OneBoxEach = (es : List EventSeen) → map (λ (g : Group). boxes_of is_frame g.shapes) (groups_of es)
     ≡ boxes_due (page_for es) 1 es
 
--- the areas of lines from the n-th on: what is handed over to who acts behind each, below the newest frame
+-- the areas of lines from the n-th on: what is handed over to who acts after each, below the newest frame
 abbrev pub areas_due : PageSeen → ℕ → HeldSeen → List EventSeen → List (List Shape)
 areas_due p n h [] = []
 areas_due p n h (e ∷ []) = [] ∷ []

@@ -13,12 +13,12 @@ use Rattle.run_picture.specs.Picture.{page_for}
 abbrev pub Passes : List ℕ → Type 0
 Passes text = audited text ≡ Ok tt
 
--- what is handed over behind lines
+-- what is handed over after lines
 abbrev pub held_by : HeldSeen → List EventSeen → HeldSeen
 held_by h [] = h
 held_by h (e ∷ es) = held_by (held_after h e.turn) es
 
--- what is handed over behind a line lies below the frame of each call that is open there
+-- what is handed over after a line lies below the frame of each call that is open there
 abbrev pub AreasAreFree : Type 0
 AreasAreFree = (text : List ℕ) (front inner back : List EventSeen) (c : EventSeen) (side : Side)
     (span : Extent) (top : ℕ) → Passes text → events text ≡ front ++ c ∷ (inner ++ back)
@@ -26,7 +26,7 @@ AreasAreFree = (text : List ℕ) (front inner back : List EventSeen) (c : EventS
     → closing inner ≡ None → shown (held_by nothing_held (front ++ c ∷ inner)) ≡ Some top
     → y (page_for (events text)) span.base ≤ y (page_for (events text)) top
 
--- a call that is made j lines behind another returns before it
+-- a call that is made j lines after another returns before it
 abbrev pub EndsBefore : ℕ → Option ℕ → Option ℕ → Type 0
 EndsBefore j inner None = Unit {0}
 EndsBefore j None (Some k) = ⊥
@@ -40,7 +40,7 @@ BoxesNest = (text : List ℕ) (front inner back : List EventSeen) (c d : EventSe
     → (y (page_for (events text)) outer.base ≤ y (page_for (events text)) (span.last + 1))
     × EndsBefore (length inner + 1) (closing back) (closing (inner ++ d ∷ back))
 
--- and one that is made when it has returned: its box begins behind the other's end
+-- and one that is made when it has returned: its box begins after the other's end
 abbrev pub BoxesFollow : Type 0
 BoxesFollow = (inner back : List EventSeen) (d : EventSeen) (k : ℕ) → closing inner ≡ Some k
     → (closing (inner ++ d ∷ back) ≡ Some k) × (k < length inner + 1)

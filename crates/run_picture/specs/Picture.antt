@@ -15,7 +15,7 @@ use Rattle.run_picture.specs.Held.{nothing_held}
 use Rattle.run_picture.specs.Page.{PageSeen, page_of, x, y, width, height}
 use Rattle.run_picture.specs.Groups.{groups}
 
--- ---- what stands behind the lines
+-- ---- what stands after the lines
 
 -- the lanes, and the border between them
 unfoldable pub lanes : PageSeen → List Shape

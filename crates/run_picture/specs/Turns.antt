@@ -73,7 +73,7 @@ turn_read (Some read) = read.0
 unfoldable pub turn_of : List ℕ → Turn
 turn_of line = turn_read (one_turn (fields line))
 
--- who acts before such a line, and who behind it
+-- who acts before such a line, and who after it
 abbrev pub side_before : Turn → Side
 side_before (Call side span) = Trusted
 side_before (Ret side span) = side

@@ -53,7 +53,7 @@ pub(crate) fn events(alloc: Global, text: &[u8]) -> Result<Vec<Event<'_>>, Alloc
     Ok(events)
 }
 
-// How many calls that were made since are open behind a line, and `None` where it closes the call.
+// How many calls that were made since are open after a line, and `None` where it closes the call.
 fn open_behind(turn: Turn, within: u64) -> Option<u64>
     requires { within ≤ 65536 }
     ensures same { result ≡ open_behind turn within }
@@ -67,7 +67,7 @@ fn open_behind(turn: Turn, within: u64) -> Option<u64>
     }
 }
 
-/// How many lines behind a call it is closed, by the lines behind it; `None` exactly where it stays open.
+/// How many lines after a call it is closed, by the lines after it; `None` exactly where it stays open.
 #[tactic(auto, unfolding(crate::specs::Events::closing))]
 pub(crate) fn closing(events: &[Event<'_>]) -> Option<u64>
     requires { length events.now ≤ 16384 }

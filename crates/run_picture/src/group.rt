@@ -27,7 +27,7 @@ fn class_of(side: Side) -> Class
     }
 }
 
-// Appends who acts behind a line.
+// Appends who acts after a line.
 #[tactic(auto, unfolding(crate::specs::Groups::acts))]
 fn push_acts(text: &mut Vec<u8>, page: &Page<'_>, n: u64, turn: Turn) -> Result<(), AllocError>
     requires { n ≤ 16384 }
@@ -183,7 +183,7 @@ fn push_frame_box(
     }
 }
 
-// What stands behind the first blank.
+// What stands after the first blank.
 fn behind_blank(text: &[u8]) -> &[u8]
     ensures { result.now ≡ behind_blank (cut 32 text.now) }
 {
@@ -193,7 +193,7 @@ fn behind_blank(text: &[u8]) -> &[u8]
     }
 }
 
-// Appends what a call line tells behind its direction, in a frame that is so many columns wide.
+// Appends what a call line tells after its direction, in a frame that is so many columns wide.
 #[tactic(auto, unfolding(crate::specs::Groups::told_inside))]
 fn push_inside(
     text: &mut Vec<u8>,

@@ -6,7 +6,7 @@ use crate::turn::Turn;
 use std::alloc::{AllocError, Global};
 use std::marker::Model;
 
-/// Where the open frames begin, and the address behind the stack that was handed over last, if there is one.
+/// Where the open frames begin, and the address after the stack that was handed over last, if there is one.
 /// A contract sees the frames newest first.
 #[derive(Drop)]
 pub(crate) struct Held {
@@ -34,7 +34,7 @@ impl Held {
         }
     }
 
-    /// Behind a line.
+    /// After a line.
     pub(crate) fn go_on(&mut self, turn: Turn) -> Result<(), AllocError>
         ensures { OnOk result (self.new ≡ held_after self.old turn) }
     {
@@ -54,7 +54,7 @@ impl Held {
         Ok(())
     }
 
-    /// The address behind what of the stack lies below the newest frame.
+    /// The address after what of the stack lies below the newest frame.
     pub(crate) fn shown(&self) -> Option<u64>
         ensures { result ≡ shown self.now }
     {

@@ -148,7 +148,7 @@ impl Turn {
         }
     }
 
-    /// Who acts behind it.
+    /// Who acts after it.
     pub(crate) fn side_behind(self) -> Side
         ensures { result ≡ side_behind self }
     {

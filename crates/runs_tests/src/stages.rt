@@ -13,7 +13,7 @@ use worked_parts::Piece::{Entry, Lines, Site};
 use worked_parts::{Piece, text};
 
 // The trusted part `t`. Its code is from 4096 on: `fail`, the literal, the entry `main` at offset 2, and a
-// call; the entry `again` and a second call. Behind the calls it halts. Data is from 8192 on: the words of
+// call; the entry `again` and a second call. After the calls it halts. Data is from 8192 on: the words of
 // two imports, and two more.
 static FIRST: [Piece; 6] = [
     Lines(

@@ -4,4 +4,6 @@ pub mod Waits
 pub mod Straight
 pub mod Bodies
 pub mod Single
+pub mod Fuels
+pub mod Settled
 pub mod Offers

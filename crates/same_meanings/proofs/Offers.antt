@@ -19,3 +19,7 @@ pub use Rattle.same_meanings.proofs.Bodies.{value_register}
 pub use Rattle.same_meanings.proofs.Single.{head_of, it, Both, of_both, IsSingle, both_found, EnterSame}
 pub use Rattle.same_meanings.proofs.Single.{HopSame}
 pub use Rattle.same_meanings.proofs.Single.{StartSame, single_decides}
+-- under more fuel the same is told, or more
+pub use Rattle.same_meanings.proofs.Fuels.{end_later, event_later, in_front}
+-- calls by their numbers, and what a fuel is enough for on each feed
+pub use Rattle.same_meanings.proofs.Settled.{numbers_apart, one_feed, settled_mean, settled_ends}

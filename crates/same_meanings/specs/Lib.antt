@@ -1,2 +1,3 @@
+pub mod Observed
 pub mod Same
 pub mod Straight

@@ -135,7 +135,7 @@ module _ (S : Sides) where
   BothFound T (Some t) None = ⊥
 
   -- What is shown of procedures, so that the meanings are the same: shared ones of one name belong to each
-  -- other; entered by an item or hopped to they tell the same, once that holds of what is told behind; and so
+  -- other; entered by an item or hopped to they tell the same, once that holds of what is told after; and so
   -- it is from the start.
   pub record SameProcedures (size : ℕ) : Type 1 where
     pub Targets : Target → Target → Type 0

@@ -40,7 +40,7 @@ abbrev mutual
   AllStraight (step s ss) = IsStraight s × AllStraight ss
 
 -- what a statement comes to: a failure, the end of all with a value, the end of the procedure with a value,
--- or what stands behind it
+-- or what stands after it
 pub data Outcome : Type 0 where
   Breaks : Outcome
   Stops : ℤ → Outcome
@@ -90,7 +90,7 @@ module _ (home : ℕ) where
     block_outcome no_steps env st = GoesOn env st
     block_outcome (step s ss) env st = followed (step_outcome s env st) (block_outcome ss)
 
-  -- of a procedure: behind its last statement it gives 0
+  -- of a procedure: after its last statement it gives 0
   abbrev pub body_outcome : Procedure → List Value → Store → Outcome
   body_outcome p env st =
       followed (block_outcome (block_of p.body) (env ++ replicate p.locals (Num (pos 0))) st)

@@ -8,7 +8,7 @@
 
 use cap_words::Items;
 
-/// What a feed has, one behind another. Names are bytes of ASCII, as in the lines of a run.
+/// What a feed has, one after another. Names are bytes of ASCII, as in the lines of a run.
 #[derive(Drop)]
 pub enum Item {
     /// A procedure is entered from outside.

@@ -368,7 +368,7 @@ return_made = record {
   event = ap (λ c. event_after L (note_by L o26 c) o27) back_case ∙ back_told;
 }
 
--- ---- behind it memory is as at the start, but for the words that came back
+-- ---- after it memory is as at the start, but for the words that came back
 
 pub given_back_same : IsSame given_back
 unfolding put_back

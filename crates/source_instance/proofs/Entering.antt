@@ -1,4 +1,4 @@
--- In the run of the instance code outside comes, enters the module at its export, and comes back behind its
+-- In the run of the instance code outside comes, enters the module at its export, and comes back after its
 -- call.
 use Rattle.std.proofs.Common.{◌≡◌, ℕ, ◌+◌, zero, suc, true, false, [], ◌∷◌, inl, Some, None, refl, sym, ap}
 use Rattle.std.proofs.Common.{subst, ◌∙◌, arith}
@@ -68,7 +68,7 @@ fetches3 : (t : State Word) (w : Word) → t.regs.pc ≡ Mem (own_code 3) → ce
 unfolding faces cell_faces entry_code call_code return_code
 fetches3 t w pc there = rw (pc, there) refl
 
--- the word behind the call
+-- the word after the call
 abbrev back : ℕ
 back = 1 + site_at + CALL_WORDS
 
@@ -115,7 +115,7 @@ cell_back = (_, refl)
 
 -- ---- the adversary goes back
 
--- the instruction behind n others, once the machine has gone on
+-- the instruction after n others, once the machine has gone on
 next_goes : (n : ℕ) (v : State Word) → (plain n start.state).end ≡ None
     → step_of id id (after start n) ≡ went v → ((plain (n + 1) start.state).end ≡ None)
     × (after start (n + 1) ≡ v)
@@ -177,7 +177,7 @@ its_name : part_name L 0 ≡ 116 ∷ []
 unfolding part_name owner_of
 its_name = refl
 
--- behind so many instructions it goes back
+-- after so many instructions it goes back
 abbrev to_back : ℕ
 to_back = 44 + CALL_WORDS
 

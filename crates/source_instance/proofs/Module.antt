@@ -98,7 +98,7 @@ as_word i = Int (pos (number_of i))
 abbrev pub site_at : ℕ
 site_at = 2 + ENTRY_WORDS + 16
 
--- addresses behind it: six words further on the procedure ends
+-- addresses after it: six words further on the procedure ends
 abbrev pub behind : ℕ → ℕ
 behind k = 1 + site_at + SITE_WORDS + k
 

@@ -13,9 +13,7 @@ use Rattle.lcm_machine.proofs.Offers.{cell-without_in}
 use Rattle.call_sequence.specs.declared.TheConstants.{CALL_WORDS, SITE_WORDS}
 use Rattle.call_sequence.specs.Sequences.{call_code, return_code, entry_code}
 use Rattle.linked_starts.specs.Owners.{owner_of}
-use Rattle.linked_starts.specs.Parts.{PartSeen}
 use Rattle.linked_starts.specs.Started.{StartSeen}
-use Rattle.linked_starts.specs.LinkedStarts.{IsStartOf}
 use Rattle.trusted_border.specs.declared.events.Event.{Event}
 use Rattle.trusted_border.specs.Layout.{site_code}
 use Rattle.overlay_machine.specs.declared.words.OWord.TheVariants.{Plain}
@@ -35,7 +33,6 @@ use Rattle.run_lines.specs.Feed.{outs_of as outs_in, items_of as items_in}
 use Rattle.run_lines.specs.Runs.{written}
 use Rattle.headline.specs.Headline.{HeadlineHolds}
 use Rattle.headline.proofs.Offers.{zeros}
-use Rattle.proc_language.specs.declared.module.ModuleFields.{ModuleFields}
 use Rattle.proc_program.specs.Lower.{part_of}
 use Rattle.source_events.specs.declared.FeedBack.TheVariants as way
 use Rattle.source_events.specs.declared.FeedPair.{FeedPair}
@@ -51,12 +48,12 @@ use Rattle.template_runs.specs.Runs.{is_inside}
 use Rattle.source_laws.specs.Sources.{Shows, MeansAlways, MeaningEnds}
 use Rattle.source_laws.specs.Sources as shown
 use Rattle.source_laws.specs.Trace.{event_outs, event_items, weighed}
-use Rattle.source_starts.specs.Sources.{AreSources}
+use Rattle.source_starts.specs.Sources.{SourcesDoWhatTheyMean}
 use Rattle.source_starts.specs.RunMeans.{runs_trusted}
 use Rattle.source_instance.specs.There.{SourceThere}
 use Rattle.source_instance.proofs.Module.{source}
-use Rattle.source_instance.proofs.Parts.{parts, second, are_sources}
-use Rattle.source_instance.proofs.Start.{start, is_start_of}
+use Rattle.source_instance.proofs.Parts.{parts, second}
+use Rattle.source_instance.proofs.Start.{start, is_start_of, sources}
 use Rattle.source_instance.proofs.Machine.{L, Makes, own_data, its_code, stack, g_code, g_data}
 use Rattle.source_instance.proofs.Enters as enters
 use Rattle.source_instance.proofs.Calls as calls
@@ -219,7 +216,7 @@ answered : Comes (44 + SITE_WORDS + 1) (enter_line ∷ call_line ∷ ret_line �
     (enter_item ∷ ret_item ∷ []) calls.o27
 answered = tells called calls.return_made ret_told
 
--- behind so many instructions it leaves
+-- after so many instructions it leaves
 abbrev pub leaving_at : ℕ
 leaving_at = 44 + SITE_WORDS + 22
 
@@ -288,19 +285,9 @@ it_means : MeansAlways world 8 start
     → MeaningEnds world 8 (enter_item ∷ ret_item ∷ []) (called_out ∷ left_out ∷ []) Waiting
 it_means mean = (mean (leaving_at + 1) left.weight _ _ leaves.o49 left.shows).waits stands_outside
 
-abbrev StartsMean : Type 0
-StartsMean =
-    (modules : List ModuleFields) (ps : List PartSeen) (size : ℕ) (s : StartSeen) → IsStartOf ps size s
-    → AreSources modules ps → MeansAlways (map part_of modules) size s
-
-pub source_there : HeadlineHolds → StartLinesAgree → StartsMean → SourceThere
+pub source_there : HeadlineHolds → StartLinesAgree → SourcesDoWhatTheyMean → SourceThere
 source_there headline agree mean = record {
-  modules = source ∷ [];
-  parts = parts;
-  size = 8;
-  start = start;
-  linked = is_start_of;
-  sources = are_sources;
+  sources = sources;
   other = second;
   other_in = (1, omega arith, refl);
   untrusted = refl;
@@ -332,5 +319,5 @@ source_there headline agree mean = record {
   went = ap outs_in (it_writes agree);
   means =
       subst (λ items. MeaningEnds world 8 items (called_out ∷ left_out ∷ []) Waiting) (sym (came agree))
-      (it_means (mean (source ∷ []) parts 8 start is_start_of are_sources));
+      (it_means (mean sources));
 }

@@ -20,12 +20,12 @@ use Rattle.source_laws.specs.Secrets.{EachLetsGo}
 use Rattle.source_laws.specs.Words.{word_from, back_at}
 use Rattle.source_laws.specs.Wiped.{TellsSince, WipedTold, low_of}
 use Rattle.source_laws.proofs.Offers.{meaning, whence_same, tells_of, low_same}
-use Rattle.source_starts.specs.Sources.{SourcesLeaveNothing, linked_at}
+use Rattle.source_starts.specs.Links.{overlay_link}
+use Rattle.source_starts.specs.Sources.{SourcesLeaveNothing}
 use Rattle.source_starts.specs.PlainWiped.{PlainRunsWipe}
 use Rattle.source_instance.specs.Shows.{LetsGoThere, SourceShows}
-use Rattle.source_instance.proofs.Module.{source, behind}
-use Rattle.source_instance.proofs.Parts.{parts, are_sources}
-use Rattle.source_instance.proofs.Start.{start, is_start_of}
+use Rattle.source_instance.proofs.Module.{behind}
+use Rattle.source_instance.proofs.Start.{start, sources}
 use Rattle.source_instance.proofs.Machine.{L, its_code, its_data}
 use Rattle.source_instance.proofs.Enters.{o0, o7}
 use Rattle.source_instance.proofs.Calls.{o25, o26, frame, call_made}
@@ -36,7 +36,7 @@ use Rattle.source_instance.proofs.Held.{entry, answer, call_told, inside, outsid
 use Rattle.source_instance.proofs.Lows.{W, much, first, second}
 
 abbrev G : Link
-G = linked_at parts 8 start
+G = overlay_link sources.link
 
 -- ---- the low ends
 
@@ -69,7 +69,7 @@ low_is es is b p q n since t low computed =
 module _ (each : EachLetsGo) (law : SourcesLeaveNothing) (wipe : PlainRunsWipe) where
   there : (j : ℕ) (es : List Shown) (is : List (Thing OWord Back)) (b p q : OState) → Matched start j p
       → TellsSince L o0 es is b p → is_inside L p ≡ true → overlay_step L p ≡ goes q → is_inside L q ≡ false
-      → LetsGoThere (source ∷ []) parts 8 start es is b p q
+      → LetsGoThere sources es is b p q
   there j es is b p q r since i e gone =
       let o = each start j p q r i e gone in
       record {
@@ -79,16 +79,16 @@ module _ (each : EachLetsGo) (law : SourcesLeaveNothing) (wipe : PlainRunsWipe) 
         gone = gone;
         come = o.0;
         lets_go = o.1;
-        shows = (law (source ∷ []) parts 8 start is_start_of are_sources).shows o.0 p q o.1;
-        told = wipe (source ∷ []) parts 8 start is_start_of are_sources es is b p q since i e gone;
+        shows = (law sources).shows o.0 p q o.1;
+        told = wipe sources es is b p q since i e gone;
       }
 
-  calls : LetsGoThere (source ∷ []) parts 8 start [] (entry ∷ []) o7 o25 o26
+  calls : LetsGoThere sources [] (entry ∷ []) o7 o25 o26
   calls = there 44 [] (entry ∷ []) o7 o25 o26 run.to_call.reached held.to_call (inside o25 39 refl)
       call_made.goes_on
       (outside o26 104 refl)
 
-  leaves : LetsGoThere (source ∷ []) parts 8 start (call_told ∷ []) (entry ∷ answer ∷ []) o26 o48 o49
+  leaves : LetsGoThere sources (call_told ∷ []) (entry ∷ answer ∷ []) o26 o48 o49
   leaves = there run.leaving_at (call_told ∷ []) (entry ∷ answer ∷ []) o26 o48 o49 run.to_leave.reached
       held.to_leave
       (inside o48 (behind 22) refl) step48.goes_on (outside o49 104 refl)
@@ -133,12 +133,7 @@ module _ (each : EachLetsGo) (law : SourcesLeaveNothing) (wipe : PlainRunsWipe) 
 
   pub source_shows : SourceShows
   source_shows = record {
-    modules = source ∷ [];
-    parts = parts;
-    size = 8;
-    start = start;
-    linked = is_start_of;
-    sources = are_sources;
+    sources = sources;
     base = refl;
     end = refl;
     outside = o7;

@@ -17,8 +17,9 @@ use Rattle.linked_starts.specs.Linked.{Linked}
 use Rattle.linked_starts.proofs.Offers.{are_linked, filled, cells_filled, site_of, sites_are, owners_of}
 use Rattle.linked_starts.proofs.Offers.{owners_are}
 use Rattle.linked_starts.specs.LinkedStarts.{IsStartOf}
-use Rattle.source_instance.proofs.Module.{trusted, site_at}
-use Rattle.source_instance.proofs.Parts.{adversary, second, parts, each, keeps, has_room}
+use Rattle.source_starts.specs.Sources.{LinkedSources}
+use Rattle.source_instance.proofs.Module.{source, trusted, site_at}
+use Rattle.source_instance.proofs.Parts.{adversary, second, parts, each, keeps, has_room, are_sources}
 
 -- ---- the start
 
@@ -82,3 +83,10 @@ starts = record {
 
 pub is_start_of : IsStartOf parts 8 start
 is_start_of = record { accepted = each; room = has_room; rules = keeps; starts = starts }
+
+abbrev pub sources : LinkedSources
+sources = record {
+  modules = source ∷ [];
+  linked = record { link = record { parts = parts; size = 8; start = start }; is_start = is_start_of };
+  are_sources = are_sources;
+}

@@ -2,59 +2,50 @@
 -- is entered, calls out, is answered, and leaves.
 use Rattle.std.specs.Prelude.{◌≡◌, ℕ, ◌≤◌, true, false, List, [], ◌∷◌, Some}
 use Rattle.lcm_machine.specs.Cells.{cell}
-use Rattle.linked_starts.specs.Parts.{PartSeen}
-use Rattle.linked_starts.specs.Started.{StartSeen}
-use Rattle.linked_starts.specs.LinkedStarts.{IsStartOf}
 use Rattle.overlay_machine.specs.declared.words.OWord.{OWord}
 use Rattle.overlay_machine.specs.State.{OpenFrame, OState}
 use Rattle.overlay_machine.specs.Step.{goes, overlay_step}
-use Rattle.overlay_machine.specs.Starting.{overlay_at}
 use Rattle.run_lines.specs.Layout.{layout}
-use Rattle.proc_language.specs.declared.module.ModuleFields.{ModuleFields}
 use Rattle.proc_semantics.specs.Marked.{Thing}
 use Rattle.template_runs.specs.Runs.{is_inside}
 use Rattle.template_runs.specs.Border.{zero, Opened, ShowsCall, ShowsLeave}
 use Rattle.source_laws.specs.Seen.{Back, Shown}
 use Rattle.source_laws.specs.Secrets.{LetsGo, ShowsNoMore}
 use Rattle.source_laws.specs.Wiped.{TellsSince}
-use Rattle.source_starts.specs.Sources.{AreSources, linked_at}
+use Rattle.source_starts.specs.Links.{overlay_link, first_state}
+use Rattle.source_starts.specs.Sources.{LinkedSources}
 use Rattle.source_starts.specs.PlainWiped.{PlainWipedTold}
 
 -- the sources let go with a step, before which so much had left and come, and code outside ran last in a
 -- state; and what the laws say of it
-pub record LetsGoThere (modules : List ModuleFields) (parts : List PartSeen) (size : ℕ) (s : StartSeen)
-    (es : List Shown) (is : List (Thing OWord Back)) (b p q : OState) : Type 0 where
-  pub since : TellsSince (layout s) (overlay_at s).state es is b p
-  pub inside : is_inside (layout s) p ≡ true
-  pub steps : overlay_step (layout s) p ≡ goes q
-  pub gone : is_inside (layout s) q ≡ false
+pub record LetsGoThere (a : LinkedSources) (es : List Shown) (is : List (Thing OWord Back)) (b p q : OState)
+    : Type 0 where
+  pub since : TellsSince (layout a.start) (first_state a.link) es is b p
+  pub inside : is_inside (layout a.start) p ≡ true
+  pub steps : overlay_step (layout a.start) p ≡ goes q
+  pub gone : is_inside (layout a.start) q ≡ false
   pub come : OState
-  pub lets_go : LetsGo s come p q
-  pub shows : ShowsNoMore (linked_at parts size s) come p q
-  pub told : PlainWipedTold modules (linked_at parts size s) size s es is b q
+  pub lets_go : LetsGo a.start come p q
+  pub shows : ShowsNoMore (overlay_link a.link) come p q
+  pub told : PlainWipedTold a.modules a.link es is b q
 
 pub record SourceShows : Type 0 where
-  pub modules : List ModuleFields
-  pub parts : List PartSeen
-  pub size : ℕ
-  pub start : StartSeen
-  pub linked : IsStartOf parts size start
-  pub sources : AreSources modules parts
+  pub sources : LinkedSources
   -- the stack is that of the addresses from 111 to 118
-  pub base : (layout start).stack.base ≡ 111
-  pub end : (layout start).stack.end ≡ 118
+  pub base : (layout sources.start).stack.base ≡ 111
+  pub end : (layout sources.start).stack.end ≡ 118
   -- code outside enters a procedure, which calls out: that pair is opened, the frame is from 116 to 118, and
   -- the arguments are 0
   pub outside : OState
   pub calling : OState
   pub called : OState
   pub entry : Thing OWord Back
-  pub calls : LetsGoThere modules parts size start [] (entry ∷ []) outside calling called
+  pub calls : LetsGoThere sources [] (entry ∷ []) outside calling called
   pub pair : Opened
   pub frame : OpenFrame
   pub frame_base : frame.base ≡ 116
   pub frame_end : frame.end ≡ 118
-  pub call_shown : ShowsCall (layout start) pair frame called
+  pub call_shown : ShowsCall (layout sources.start) pair frame called
   pub a0 : called.maps.regs.a0 ≡ zero
   pub a1 : called.maps.regs.a1 ≡ zero
   pub a2 : called.maps.regs.a2 ≡ zero
@@ -67,8 +58,8 @@ pub record SourceShows : Type 0 where
   pub left : OState
   pub call : Shown
   pub answer : Thing OWord Back
-  pub leaves : LetsGoThere modules parts size start (call ∷ []) (entry ∷ answer ∷ []) called leaving left
-  pub leave_shown : ShowsLeave (layout start) pair 118 left
+  pub leaves : LetsGoThere sources (call ∷ []) (entry ∷ answer ∷ []) called leaving left
+  pub leave_shown : ShowsLeave (layout sources.start) pair 118 left
   pub value : left.maps.regs.a0 ≡ zero
   -- the cells of the frame are wiped
   pub given_back : leaves.told.overlay.wiped.end ≡ 118

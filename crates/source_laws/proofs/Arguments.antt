@@ -2,12 +2,12 @@
 use Rattle.std.proofs.Common.{Option, ◌≡◌, ◌≢◌, ◌⊎◌, inl, inr, ℕ, zero, suc, ◌+◌, ◌-◌, ◌*◌, ◌<◌, ◌≤◌, ℤ, pos}
 use Rattle.std.proofs.Common.{◌+ℤ◌, ◌-ℤ◌, List, [], ◌∷◌, ◌++◌, length, Some, None, true, false, refl}
 use Rattle.std.proofs.Common.{sym, ap, ◌∙◌, subst, arith, append_assoc, append-nil, length-append}
-use Rattle.source_laws.proofs.AtWork.{AtWork, DataPair, Half}
+use Rattle.source_laws.proofs.AtWork.{AtWork, DataPair, Half, data_fits}
 use Rattle.source_laws.proofs.Refined.{of_handle, of_args, pair_of, Comp, args, whole}
 use Rattle.proc_semantics.specs.Marked.{CodeHalf, DataHalf}
 use Rattle.source_laws.proofs.Variables.{AtPlace, EnvIn, PairAt, env_same, index_is}
 use Rattle.source_laws.proofs.CallsIn.{int_public}
-use Rattle.template_runs.proofs.Offers.{used, fits_small, with_at, length-with_at, SameBelow, get_with}
+use Rattle.template_runs.proofs.Offers.{used, with_at, length-with_at, SameBelow, get_with}
 use Rattle.template_runs.proofs.Offers.{get_other, At, Placed, next_pc, Here, Free, load_law, store_law}
 use Rattle.template_runs.proofs.Offers.{loaded, with_reg, set_law, dat_law, load_data_law, Stand}
 use Rattle.template_runs.proofs.Offers.{stand_front, stand_back, words-append, words_in, free_a0, free_a1}
@@ -32,7 +32,7 @@ use Rattle.overlay_machine.specs.declared.words.OWord.{OWord}
 use Rattle.overlay_machine.specs.declared.words.OWord.TheVariants.{Plain}
 use Rattle.overlay_machine.specs.Words.{look}
 use Rattle.overlay_machine.specs.State.{OState}
-use Rattle.overlay_machine.specs.Link.{ranges_of, data_region}
+use Rattle.overlay_machine.specs.Link.{ranges_of}
 use Rattle.proc_semantics.specs.Values.{Store, pair_in}
 use Rattle.proc_semantics.specs.declared.value.Pair.{Pair}
 use Rattle.proc_program.specs.declared.program.Handle.{Handle}
@@ -44,7 +44,7 @@ use Rattle.proc_program.specs.Limits.{arg_registers}
 use Rattle.proc_templates.specs.Items.{zero_of}
 use Rattle.proc_templates.specs.Templates.{code, load_slot, store_slot, load_linked, load_pair, load_args}
 use Rattle.proc_templates.specs.Templates.{args_code, argument, arguments, zeros}
-use Rattle.source_laws.specs.Fits.{HandleInside, PassFits}
+use Rattle.source_laws.specs.Fits.{HandleInside, PassFits, AsPair}
 use Rattle.source_laws.proofs.CallSites.{ArgsCallsAt}
 use Rattle.source_laws.proofs.Evals.{LawOf}
 use Rattle.template_runs.specs.Public.{IsPublic}
@@ -133,8 +133,8 @@ holding_push ws x o q lt h e others j y is =
     ]
 
 module _ (at_work : AtWork) where
-  open at_work use {world, g, linked, StoreIs, p, ip, failing, top, fs, ow, f, s, end, kinds, IsPair, rests}
-  open at_work use {globals}
+  open at_work use {world, g, linked, StoreIs, work, IsPair}
+  open work use {p, ip, failing, top, fs, ow, f, s, end, kinds, rests, globals}
 
   abbrev Inside : List OWord → (ℕ → OWord) → OState → Type 0
   Inside words mem o = Here g linked p s.words top words mem fs o
@@ -227,16 +227,11 @@ module _ (at_work : AtWork) where
         → UpTo g ow.owes (used s.words top) n b q m) → 6 + b ≤ c → UpTo g ow.owes (used s.words top) n c o m
     data_pair_law k at0 r t pair o ne fr ft sr st1 code1 d at h u le =
         let base = p.component.data_base in
-        let small = linked.small (data_region p) (linked.data_there p ip) in
         let ins = d.inside in
         let in0 : at0 < length p.component.data_words = omega (arith, ins) in
-        let ha : p.component.data_base + (at0 + 1) ≤ (ranges_of p).data_last = omega (arith, ins) in
-        let fit0 : fits_64 (pos (p.component.data_base + at0)) ≡ true =
-        fits_small (p.component.data_base + at0) (omega (arith, ha, small)) in
-        let fit1 : fits_64 (pos (p.component.data_base + (at0 + 1))) ≡ true =
-        fits_small (p.component.data_base + (at0 + 1)) (omega (arith, ha, small)) in
-        let fitb : fits_64 (pos p.component.data_base) ≡ true =
-        fits_small p.component.data_base (omega (arith, ha, small)) in
+        let fit0 = data_fits g linked p ip at0 (p.component.data_base + at0) in0 (omega arith) in
+        let fit1 = data_fits g linked p ip (at0 + 1) (p.component.data_base + (at0 + 1)) ins (omega arith) in
+        let fitb = data_fits g linked p ip at0 p.component.data_base in0 (omega arith) in
         let e1 : pos (p.component.data_base + at0) +ℤ pos 1 ≡ pos (p.component.data_base + (at0 + 1)) =
         omega (arith, ints) in
         let e2 : pos (p.component.data_base + (at0 + 1)) +ℤ (pos 0 -ℤ pos (at0 + 1)) ≡ pos
@@ -328,8 +323,10 @@ module _ (at_work : AtWork) where
 
   module _ (n c b : ℕ) (m : Comp) (words : List OWord) (mem : ℕ → OWord) (st : Store) (env : List Value)
       (store : StoreIs st mem) (en : Env env words) (len : length words ≡ s.words) where
-    called_there : (h : Handle) → HandleThere h → PairThere (Told h IsCalled) env mem words h
-    called_there (Given i) fit =
+    given_there : (Rel : Pair → OWord → OWord → Type 0) (i : ℕ) → slice_get kinds i ≡ Some AsPair
+        → ((r : Pair) (x y : OWord) → Told (Given i) IsPair r x y → Rel r x y)
+        → PairThere Rel env mem words (Given i)
+    given_there Rel i fit into =
         let x : PairAt kinds (AtPlace f.words IsPair) env words i = en.pairs i fit in
         record {
           pair = x.pair;
@@ -338,8 +335,12 @@ module _ (at_work : AtWork) where
           meant = x.meant;
           stands = x.stands;
           stands_too = x.stands_too;
-          is = (forget x.pair x.first x.second x.is.0, x.is.1, x.is.2);
+          is = into x.pair x.first x.second x.is;
         }
+
+    called_there : (h : Handle) → HandleThere h → PairThere (Told h IsCalled) env mem words h
+    called_there (Given i) fit =
+        given_there (Told (Given i) IsCalled) i fit (λ r x y t. (forget r x y t.0, t.1, t.2))
     called_there (Imported k) fit =
         let d = pairs.from_imports st mem k env store fit in
         record {
@@ -353,17 +354,7 @@ module _ (at_work : AtWork) where
     called_there (Own j) fit = pairs.from_own st mem j env store fit
 
     passed_there : (h : Handle) → PassThere h → PairThere (Told h IsPair) env mem words h
-    passed_there (Given i) fit =
-        let x : PairAt kinds (AtPlace f.words IsPair) env words i = en.pairs i fit in
-        record {
-          pair = x.pair;
-          first = x.first;
-          second = x.second;
-          meant = x.meant;
-          stands = x.stands;
-          stands_too = x.stands_too;
-          is = x.is;
-        }
+    passed_there (Given i) fit = given_there (Told (Given i) IsPair) i fit (λ r x y t. t)
     passed_there (Imported k) fit = pairs.from_imports st mem k env store fit
     passed_there (Own j) fit = pairs.from_shared st mem j env store fit.0 fit.1
 
@@ -417,7 +408,7 @@ module _ (at_work : AtWork) where
   HandlesFit (value e xs) = HandlesFit xs
   HandlesFit (pass h xs) = PassThere h × HandlesFit xs
 
-  -- arguments are loaded behind those that are there
+  -- arguments are loaded after those that are there
   module _ (n : ℕ) (m : Comp) (words : List OWord) (mem : ℕ → OWord) (st : Store) (env : List Value)
       (store : StoreIs st mem) (en : Env env words) (len : length words ≡ s.words) where
     pub load_args_law : (xs : Args) (vs : List Value) (t i k c b : ℕ) (done : List OWord) (o : OState)

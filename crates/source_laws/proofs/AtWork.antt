@@ -1,6 +1,7 @@
 -- A procedure at work: where its globals and pairs stand, and where it stands itself.
-use Rattle.template_runs.proofs.Offers.{Owing, Placed, mem_with, is_half}
-use Rattle.std.proofs.Common.{◌≡◌, ℕ, ◌+◌, ◌<◌, ◌≤◌, ℤ, List, length, Some, true, ◌*◌, None, Bool, false}
+use Rattle.template_runs.proofs.Offers.{Owing, Placed, fits_small, mem_with, is_half}
+use Rattle.std.proofs.Common.{◌≡◌, ℕ, ◌+◌, ◌<◌, ◌≤◌, ℤ, pos, List, length, Some, true, ◌*◌, None, Bool}
+use Rattle.std.proofs.Common.{false, arith}
 use Rattle.std.specs.Prelude.{slice_get}
 use Rattle.cap_words.specs.declared.Word.TheVariants.{Int}
 use Rattle.cap_words.specs.Linear.{is_linear}
@@ -11,7 +12,7 @@ use Rattle.overlay_machine.specs.declared.words.OWord.{OWord}
 use Rattle.overlay_machine.specs.declared.words.OWord.TheVariants.{Plain}
 use Rattle.overlay_machine.specs.Words.{look}
 use Rattle.overlay_machine.specs.State.{OpenFrame}
-use Rattle.overlay_machine.specs.Link.{Link, IsTrusted}
+use Rattle.overlay_machine.specs.Link.{Link, IsTrusted, ranges_of, data_region}
 use Rattle.overlay_machine.specs.Linked.{Linked}
 use Rattle.source_laws.proofs.Refined.{World, Frame, pair_of}
 use Rattle.proc_semantics.specs.Values.{Store, global_word, set_word}
@@ -24,6 +25,14 @@ use Rattle.cap_words.specs.Face.{face_of}
 use Rattle.cap_words.specs.Faces.{face_linear}
 use Rattle.proc_program.specs.declared.program.Handle.TheVariants.{Own, Imported}
 use Rattle.run_lines.specs.Feed.{integer_in}
+
+-- the numbers up to an address of a part's data
+pub data_fits : (g : Link) (linked : Linked g) (p : PartSeen) → IsTrusted g p → (o a : ℕ)
+    → o < length p.component.data_words → a ≤ p.component.data_base + o → fits_64 (pos a) ≡ true
+data_fits g linked p ip o a lt le =
+    let small = linked.small (data_region p) (linked.data_there p ip) in
+    let high : p.component.data_base + o ≤ (ranges_of p).data_last = omega (arith, lt) in
+    fits_small a (omega (arith, le, high, small))
 
 -- how a part's globals stand in its data, before which the words of pairs stand
 pub record Globals (StoreIs : Store → (ℕ → OWord) → Type 0) (p : PartSeen) (home pairs : ℕ) : Type 0 where
@@ -77,12 +86,8 @@ module _ (world : World) (StoreIs : Store → (ℕ → OWord) → Type 0) (p : P
         → DataPair p (Slotted (world.marks.own home j) IsPair) mem (2 * (imports + j))
         (pair_of world home env (Own j))
 
--- among which modules, in which part, below which frames; its own frame, its places and its pairs
-pub record AtWork : Type 1 where
-  pub world : World
-  pub g : Link
-  pub linked : Linked g
-  pub StoreIs : Store → (ℕ → OWord) → Type 0
+-- in which part and below which frames a procedure works; its own frame, its places and its globals
+pub record Work (g : Link) (linked : Linked g) (StoreIs : Store → (ℕ → OWord) → Type 0) : Type 0 where
   pub p : PartSeen
   pub ip : IsTrusted g p
   pub failing : Placed g linked p 0 Fail
@@ -99,6 +104,15 @@ pub record AtWork : Type 1 where
   pub temps : 2 + length kinds ≤ s.temps
   pub slots : s.temps ≤ s.words
   pub globals : Globals StoreIs p f.home s.pairs
+
+-- among which modules it works, and its pairs
+pub record AtWork : Type 1 where
+  pub world : World
+  pub g : Link
+  pub linked : Linked g
+  pub StoreIs : Store → (ℕ → OWord) → Type 0
+  pub work : Work g linked StoreIs
+  open work use {p, f, s}
   -- when two words are a pair that may be passed on, and when one that may be called
   pub IsPair : Pair → OWord → OWord → Type 0
   pub IsCalled : Pair → OWord → OWord → Type 0

@@ -27,7 +27,7 @@ use Rattle.source_laws.specs.Sites.{BlockNumbered}
 use Rattle.template_runs.proofs.Offers.{words_in}
 use Rattle.source_laws.proofs.PieceSizes.{after-words}
 
--- ---- how many sites stand behind pieces
+-- ---- how many sites stand after pieces
 
 count-append : (j : ℕ) (a b : List Item) → count j (a ++ b) ≡ count (count j a) b
 count-append j [] b = refl
@@ -184,7 +184,7 @@ module _ (c : ComponentFields) (f : FrameShape) where
   moved : (i j k l : ℕ) (xs : List Item) → i ≡ j → k ≡ l → SitesAt c i k xs → SitesAt c j l xs
   moved i j k l xs e q h = subst (λ x. SitesAt c x l xs) e (subst (λ x. SitesAt c i x xs) q h)
 
-  -- behind pieces that end with so many sites
+  -- after pieces that end with so many sites
   pub sites_back : (j n k : ℕ) (a b : List Item) → count j a ≡ n → SitesAt c j k (a ++ b)
       → SitesAt c n (k + words_in a) b
   sites_back j n k a b e h =

@@ -70,6 +70,19 @@ use Rattle.source_laws.proofs.Arguments.{Holding}
 use Rattle.run_lines.specs.Feed.{integer_in}
 use Rattle.cap_words.specs.declared.Sealable.{Sealable}
 
+four_are : (xs : List OWord) (q : OState) → length xs ≡ 4 → Holding xs q
+    → xs ≡ q.maps.regs.a0 ∷ q.maps.regs.a1 ∷ q.maps.regs.a2 ∷ q.maps.regs.a3 ∷ []
+four_are [] q len hd = absurd (omega (arith, len))
+four_are (x0 ∷ []) q len hd = absurd (omega (arith, len))
+four_are (x0 ∷ x1 ∷ []) q len hd = absurd (omega (arith, len))
+four_are (x0 ∷ x1 ∷ x2 ∷ []) q len hd = absurd (omega (arith, len))
+four_are (x0 ∷ x1 ∷ x2 ∷ x3 ∷ []) q len hd =
+    sym (ap (λ z. z ∷ q.maps.regs.a1 ∷ q.maps.regs.a2 ∷ q.maps.regs.a3 ∷ []) (hd 0 x0 refl)
+    ∙ ap (λ z. x0 ∷ z ∷ q.maps.regs.a2 ∷ q.maps.regs.a3 ∷ []) (hd 1 x1 refl)
+    ∙ ap (λ z. x0 ∷ x1 ∷ z ∷ q.maps.regs.a3 ∷ []) (hd 2 x2 refl)
+    ∙ ap (λ z. x0 ∷ x1 ∷ x2 ∷ z ∷ []) (hd 3 x3 refl))
+four_are (x0 ∷ x1 ∷ x2 ∷ x3 ∷ x4 ∷ xs) q len hd = absurd (omega (arith, len))
+
 abbrev zeros_of : ℕ → List OWord
 zeros_of n = replicate n (Plain (Int (pos 0)))
 
@@ -217,6 +230,14 @@ module _ (g : Link) (linked : Linked g) (Begins : Target → PartSeen → ℕ �
   abbrev pub filled : List OWord → List OWord
   filled ws = ws ++ replicate (4 - length ws) (Plain (Int (pos 0)))
 
+  -- they are the four registers
+  pub filled_is : (ws : List OWord) (q : OState) → length ws ≤ 4 → Holding (filled ws) q
+      → filled ws ≡ q.maps.regs.a0 ∷ q.maps.regs.a1 ∷ q.maps.regs.a2 ∷ q.maps.regs.a3 ∷ []
+  filled_is ws q few holds =
+      let l = length-append ws (replicate (4 - length ws) (Plain (Int (pos 0)))) in
+      let r = length-replicate (4 - length ws) (Plain (Int (pos 0))) in
+      four_are (filled ws) q (omega (arith, l, r, few)) holds
+
   module _ (world : World) (StoreIs : Store → (ℕ → OWord) → Type 0)
       (RegsAre : Registers → OState → Type 0) (p : PartSeen) (w top : ℕ) (fs : List OpenFrame)
       (ow : Owing fs) (f : Frame)
@@ -338,28 +359,9 @@ module _ (g : Link) (linked : Linked g) (Begins : Target → PartSeen → ℕ �
             given_is : top - w - g.layout.stack.base ≡ f.left - f.need - 1
             given_is = omega (arith, need_is, left_is, room)
 
-            -- the four registers are the words of the arguments
-            four_are : (xs : List OWord) (q : OState) → length xs ≡ 4 → Holding xs q
-                → xs ≡ q.maps.regs.a0 ∷ q.maps.regs.a1 ∷ q.maps.regs.a2 ∷ q.maps.regs.a3 ∷ []
-            four_are [] q len hd = absurd (omega (arith, len))
-            four_are (x0 ∷ []) q len hd = absurd (omega (arith, len))
-            four_are (x0 ∷ x1 ∷ []) q len hd = absurd (omega (arith, len))
-            four_are (x0 ∷ x1 ∷ x2 ∷ []) q len hd = absurd (omega (arith, len))
-            four_are (x0 ∷ x1 ∷ x2 ∷ x3 ∷ []) q len hd =
-                sym (ap (λ z. z ∷ q.maps.regs.a1 ∷ q.maps.regs.a2 ∷ q.maps.regs.a3 ∷ []) (hd 0 x0 refl)
-                ∙ ap (λ z. x0 ∷ z ∷ q.maps.regs.a2 ∷ q.maps.regs.a3 ∷ []) (hd 1 x1 refl)
-                ∙ ap (λ z. x0 ∷ x1 ∷ z ∷ q.maps.regs.a3 ∷ []) (hd 2 x2 refl)
-                ∙ ap (λ z. x0 ∷ x1 ∷ x2 ∷ z ∷ []) (hd 3 x3 refl))
-            four_are (x0 ∷ x1 ∷ x2 ∷ x3 ∷ x4 ∷ xs) q len hd = absurd (omega (arith, len))
-
-            filled_is : filled ws ≡ o.maps.regs.a0 ∷ o.maps.regs.a1 ∷ o.maps.regs.a2 ∷ o.maps.regs.a3 ∷ []
-            filled_is = four_are (filled ws) o
-                (let l = length-append ws (replicate (4 - length ws) (Plain (Int (pos 0)))) in
-                let r = length-replicate (4 - length ws) (Plain (Int (pos 0))) in omega (arith, l, r, few))
-                holds
-
             args_public : ArePublic g (o.maps.regs.a0 ∷ o.maps.regs.a1 ∷ o.maps.regs.a2 ∷ o.maps.regs.a3 ∷ [])
-            args_public = subst (ArePublic g) filled_is (words_shown vs wy.words ws (4 - length ws) passed)
+            args_public = subst (ArePublic g) (filled_is ws o few holds)
+                (words_shown vs wy.words ws (4 - length ws) passed)
 
             pub runs_law : (n : ℕ) (t : Target) → MeantBy (Runs t) x y
                 → ProcLaw scene n → Cont (suc n) → 18 + c ≤ b
@@ -504,7 +506,8 @@ module _ (g : Link) (linked : Linked g) (Begins : Target → PartSeen → ℕ �
                     (integer_in (flat g.layout Q.frames (reg Q.maps.regs d))) (reg Q.maps.regs d)
                 word_is d i e =
                     sym (shown_at vs wy.words ws (4 - length ws) i passed)
-                    ∙ ap (λ z. word_shown (slice_index_or z i (Plain (Int (pos 0))))) filled_is
+                    ∙ ap (λ z. word_shown (slice_index_or z i (Plain (Int (pos 0)))))
+                    (filled_is ws o few holds)
                     ∙ ap word_shown e
                     ∙ ap (λ z. arg_shown z (reg Q.maps.regs d)) (sym (a_is d))
 

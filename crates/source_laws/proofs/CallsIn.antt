@@ -1,4 +1,4 @@
--- A call of a procedure of the modules, from its site to the word behind it.
+-- A call of a procedure of the modules, from its site to the word after it.
 use Rattle.std.proofs.Common.{None, ◌≡◌, ◌≢◌, ℕ, suc, ◌+◌, ◌-◌, ◌≤◌, ℤ, pos, List, ◌∷◌, Option, Some, true}
 use Rattle.std.proofs.Common.{refl, sym, ap, ◌∙◌, subst, arith, inl, length}
 use Rattle.source_laws.specs.Seen.{Back, handed, left_with, back_here}

@@ -1,4 +1,4 @@
--- A call of the outside, from its site to the word behind `plus g0 a0 0`.
+-- A call of the outside, from its site to the word after `plus g0 a0 0`.
 use Rattle.call_sequence.specs.declared.TheConstants.{CALL_WORDS, SITE_WORDS}
 use Rattle.trusted_border.specs.declared.layout.SiteCode.{SiteCode}
 use Rattle.trusted_border.specs.declared.events.Event.TheVariants.{Called, Left}

@@ -92,7 +92,7 @@ module _ (world : World) (g : Link) (linked : Linked g) (Begins : Target → Par
     RegsAre = Regs;
   }
 
-  -- the values of a procedure's places stand in the slots behind the first two
+  -- the values of a procedure's places stand in the slots after the first two
   abbrev pub EnvIs : Procedure → List (Option OWord) → List Value → List OWord → Type 0
   EnvIs what ms env ws = (rc rd : OWord)
       → EnvIn (kinds_from what.callbacks what.locals) (AtPlace ms (IsPair g linked Begins)) env (rc ∷ rd ∷ ws)
@@ -312,21 +312,23 @@ module _ (world : World) (g : Link) (linked : Linked g) (Begins : Target → Par
     abbrev pub Enacts : ℕ → List (Option OWord) → (fs : List OpenFrame) → Owing fs → Enacting
     Enacts top ms fs ow = record {
       scene = InScene;
-      p = p;
-      ip = c.part.trusted;
-      failing = c.part.failing;
-      top = top;
-      fs = fs;
-      ow = ow;
-      f = frame_of t c.what top ms;
-      s = Fr;
-      end = End;
-      end_in = end_in;
-      kinds = Kinds;
-      rests = rests c.what.callbacks c.what.locals;
-      temps = temps_in;
-      slots = slots_in;
-      globals = c.part.globals;
+      work = record {
+        p = p;
+        ip = c.part.trusted;
+        failing = c.part.failing;
+        top = top;
+        fs = fs;
+        ow = ow;
+        f = frame_of t c.what top ms;
+        s = Fr;
+        end = End;
+        end_in = end_in;
+        kinds = Kinds;
+        rests = rests c.what.callbacks c.what.locals;
+        temps = temps_in;
+        slots = slots_in;
+        globals = c.part.globals;
+      };
       pairs = c.part.pairs;
       need_is = refl;
       left_is = refl;

@@ -1,9 +1,9 @@
 -- Statements, given their expressions.
-use Rattle.source_laws.proofs.AtWork.{AtWork}
+use Rattle.source_laws.proofs.AtWork.{AtWork, data_fits}
 use Rattle.source_laws.proofs.Variables.{AtPlace, EnvIn, env_same, env_set}
 use Rattle.source_laws.proofs.CallsIn.{int_public}
 use Rattle.template_runs.proofs.Offers.{not_free, with_reg, with_data, set_law, dat_law, store_data_law}
-use Rattle.template_runs.proofs.Offers.{mem_with, clean_same, used, fits_small, with_at}
+use Rattle.template_runs.proofs.Offers.{mem_with, clean_same, used, with_at}
 use Rattle.template_runs.proofs.Offers.{length-with_at, SameBelow, get_with, get_other, At, Placed, next_pc}
 use Rattle.template_runs.proofs.Offers.{halt, inside_here, Here, load_law, store_law, Stand, stand_front}
 use Rattle.template_runs.proofs.Offers.{stand_back, words-append, words_in, free_g0, free_a0, from_element}
@@ -29,7 +29,7 @@ use Rattle.overlay_machine.specs.declared.words.OWord.TheVariants.{Plain}
 use Rattle.overlay_machine.specs.Words.{look}
 use Rattle.overlay_machine.specs.State.{OState}
 use Rattle.overlay_machine.specs.Flat.{flat}
-use Rattle.overlay_machine.specs.Link.{ranges_of, data_region}
+use Rattle.overlay_machine.specs.Link.{ranges_of}
 use Rattle.run_lines.specs.Views.{flat_view}
 use Rattle.proc_program.specs.Program as run
 use Rattle.source_laws.proofs.Refined.{Comp, ends, Then, Next, expr, element, assigned, stmt, block}
@@ -60,8 +60,8 @@ zero_same (pos (suc n)) = ne_eqb (suc n) 0 (omega arith)
 zero_same (negsuc n) = refl
 
 module _ (at_work : AtWork) where
-  open at_work use {world, g, linked, StoreIs, p, ip, failing, top, fs, ow, f, s, end, kinds, IsPair}
-  open at_work use {rests, globals, end_in, temps, slots}
+  open at_work use {world, g, linked, StoreIs, work, IsPair}
+  open work use {p, ip, failing, top, fs, ow, f, s, end, end_in, kinds, rests, temps, slots, globals}
 
   abbrev Inside : List OWord → (ℕ → OWord) → OState → Type 0
   Inside words mem o = Here g linked p s.words top words mem fs o
@@ -75,14 +75,14 @@ module _ (at_work : AtWork) where
       → LawOf at_work n env e
       (code s t e) t
 
-  -- behind a `return`, at the epilogue
+  -- after a `return`, at the epilogue
   abbrev pub Returns : ℕ → ℕ → List OWord → Then → Type 0
   Returns n c words back = (v : ℤ) (st' : Store) (mem' : ℕ → OWord) (words' : List OWord) (q : OState)
       → At g linked p end q → Inside words' mem' q → SameBelow 2 words words'
       → q.maps.regs.a0 ≡ Plain (Int v)
       → fits_64 v ≡ true → StoreIs st' mem' → UpTo g ow.owes (used s.words top) n c q (back v st')
 
-  -- behind a statement
+  -- after a statement
   abbrev pub Onward : ℕ → ℕ → ℕ → List OWord → Next → Type 0
   Onward n c k words kk =
       (env' : List Value) (st' : Store) (mem' : ℕ → OWord) (words' : List OWord) (q : OState)
@@ -173,13 +173,9 @@ module _ (at_work : AtWork) where
         let m : Comp = kk env (set_word st2 f.home d v) in
         let room = globals.room in
         let a = p.component.data_base + (s.pairs + d) in
-        let small = linked.small (data_region p) (linked.data_there p ip) in
         let in_data : s.pairs + d < length p.component.data_words = omega (arith, room, lt) in
-        let ha : p.component.data_base + (s.pairs + d) ≤ (ranges_of p).data_last = omega (arith, in_data) in
-        let fit_a : fits_64 (pos (p.component.data_base + (s.pairs + d))) ≡ true =
-        fits_small (p.component.data_base + (s.pairs + d)) (omega (arith, ha, small)) in
-        let fit_b : fits_64 (pos p.component.data_base) ≡ true =
-        fits_small p.component.data_base (omega (arith, ha, small)) in
+        let fit_a = data_fits g linked p ip (s.pairs + d) a in_data (omega arith) in
+        let fit_b = data_fits g linked p ip (s.pairs + d) p.component.data_base in_data (omega arith) in
         let go_back : pos (p.component.data_base + (s.pairs + d)) +ℤ (pos 0 -ℤ pos (s.pairs + d)) ≡ pos
         p.component.data_base = omega (arith, ints) in
         let mem3 = mem_with mem2 (p.component.data_base + (s.pairs + d)) (Plain (Int v)) in

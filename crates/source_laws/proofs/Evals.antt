@@ -1,8 +1,8 @@
 -- Expressions other than calls: their values come into g0.
-use Rattle.source_laws.proofs.AtWork.{AtWork}
+use Rattle.source_laws.proofs.AtWork.{AtWork, data_fits}
 use Rattle.source_laws.proofs.Variables.{AtPlace, EnvIn, NumberAt, env_same, index_is}
 use Rattle.source_laws.proofs.CallsIn.{int_public}
-use Rattle.template_runs.proofs.Offers.{used, fits_small, with_at, length-with_at, SameBelow, get_with}
+use Rattle.template_runs.proofs.Offers.{used, with_at, length-with_at, SameBelow, get_with}
 use Rattle.template_runs.proofs.Offers.{get_other, At, next_pc, Here, load_law, store_law, loaded, with_reg}
 use Rattle.template_runs.proofs.Offers.{set_law, dat_law, load_data_law, Stand, stand_front, stand_back}
 use Rattle.template_runs.proofs.Offers.{words-append, words_in, free_g0, free_g1, from_element}
@@ -25,7 +25,7 @@ use Rattle.overlay_machine.specs.declared.words.OWord.{OWord}
 use Rattle.overlay_machine.specs.declared.words.OWord.TheVariants.{Plain}
 use Rattle.overlay_machine.specs.Words.{look}
 use Rattle.overlay_machine.specs.State.{OState}
-use Rattle.overlay_machine.specs.Link.{ranges_of, data_region}
+use Rattle.overlay_machine.specs.Link.{ranges_of}
 use Rattle.proc_program.specs.Program as run
 use Rattle.source_laws.proofs.Refined.{Comp, tick, Then, expr, operated, element, whole}
 use Rattle.proc_semantics.specs.Values.{Store, variable, number_in, global_word}
@@ -43,8 +43,8 @@ use Rattle.source_laws.proofs.ValueRows.{index_law, operator_law, reach_law}
 use Rattle.template_runs.specs.Public.{IsPublic}
 
 module _ (at_work : AtWork) where
-  open at_work use {world, g, linked, StoreIs, p, ip, failing, top, fs, ow, f, s, end, kinds, IsPair, rests}
-  open at_work use {globals}
+  open at_work use {world, g, linked, StoreIs, work, IsPair}
+  open work use {p, ip, failing, top, fs, ow, f, s, end, kinds, rests, globals}
 
   abbrev pub In : List OWord → (ℕ → OWord) → OState → Type 0
   In words mem o = Here g linked p s.words top words mem fs o
@@ -52,7 +52,7 @@ module _ (at_work : AtWork) where
   abbrev pub EnvAt : List Value → List OWord → Type 0
   EnvAt = EnvIn kinds (AtPlace f.words IsPair)
 
-  -- an expression's words, from its first to the one behind it, where t is the first free slot
+  -- an expression's words, from its first to the one after it, where t is the first free slot
   abbrev pub LawOf : ℕ → List Value → Exp → List Item → ℕ → Type 0
   LawOf n env e xs t =
       (k c : ℕ) (words : List OWord) (st : Store) (mem : ℕ → OWord) (kk : Then) (o : OState)
@@ -116,13 +116,9 @@ module _ (at_work : AtWork) where
         let v = global_word st f.home d in
         let m : Comp = kk v st in
         let a = p.component.data_base + (s.pairs + d) in
-        let small = linked.small (data_region p) (linked.data_there p ip) in
         let in_data : s.pairs + d < length p.component.data_words = omega (arith, room, lt) in
-        let ha : p.component.data_base + (s.pairs + d) ≤ (ranges_of p).data_last = omega (arith, in_data) in
-        let fit_a : fits_64 (pos (p.component.data_base + (s.pairs + d))) ≡ true =
-        fits_small (p.component.data_base + (s.pairs + d)) (omega (arith, ha, small)) in
-        let fit_b : fits_64 (pos p.component.data_base) ≡ true =
-        fits_small p.component.data_base (omega (arith, ha, small)) in
+        let fit_a = data_fits g linked p ip (s.pairs + d) a in_data (omega arith) in
+        let fit_b = data_fits g linked p ip (s.pairs + d) p.component.data_base in_data (omega arith) in
         let back : pos (p.component.data_base + (s.pairs + d)) +ℤ (pos 0 -ℤ pos (s.pairs + d)) ≡ pos
         p.component.data_base = omega (arith, ints) in
         let is : mem (p.component.data_base + (s.pairs + d)) ≡ Plain (Int (global_word st f.home d)) =

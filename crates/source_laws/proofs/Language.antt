@@ -1,10 +1,10 @@
 -- Every body does what it means: calls, and the induction on programs.
 use Rattle.call_sequence.specs.declared.TheConstants.{SITE_WORDS}
-use Rattle.source_laws.proofs.AtWork.{AtWork, Globals, Half, Pairs}
+use Rattle.source_laws.proofs.AtWork.{AtWork, Half, Pairs, Work}
 use Rattle.source_laws.proofs.Scenes.{Scene}
 use Rattle.source_laws.proofs.Variables.{AtPlace, EnvIn, env_same}
 use Rattle.source_laws.proofs.Refined.{Way, way, handed, of_args, pair_of, Comp, Then, Next}
-use Rattle.source_laws.proofs.Refined.{args, call, stmt, block, part_of, stack_of, Frame, whole}
+use Rattle.source_laws.proofs.Refined.{args, call, stmt, block, part_of, stack_of, whole}
 use Rattle.std.proofs.Common.{Option, ◌≡◌, ℕ, zero, suc, ◌+◌, ◌-◌, ◌*◌, ◌<◌, ◌≤◌, pos, List, [], ◌∷◌, ◌++◌}
 use Rattle.std.proofs.Common.{length, Some, refl, sym, ap, ◌∙◌, subst, arith}
 use Rattle.std.specs.Prelude.{slice_get, drop, replicate}
@@ -13,13 +13,11 @@ use Rattle.cap_words.specs.declared.Word.TheVariants.{Int}
 use Rattle.lcm_isa.specs.declared.Reg.{Reg}
 use Rattle.lcm_isa.specs.declared.Reg.TheVariants.{C1, C2, G0, G1, G2, A0}
 use Rattle.lcm_isa.specs.declared.Operand.TheVariants.{Imm}
-use Rattle.lcm_isa.specs.declared.Instr.TheVariants.{Fail, Plus}
-use Rattle.linked_starts.specs.Parts.{PartSeen}
+use Rattle.lcm_isa.specs.declared.Instr.TheVariants.{Plus}
 use Rattle.trusted_border.specs.declared.layout.SiteCode.{SiteCode}
 use Rattle.overlay_machine.specs.declared.words.OWord.{OWord}
 use Rattle.overlay_machine.specs.declared.words.OWord.TheVariants.{Plain}
-use Rattle.overlay_machine.specs.State.{OpenFrame, OState}
-use Rattle.overlay_machine.specs.Link.{IsTrusted}
+use Rattle.overlay_machine.specs.State.{OState}
 use Rattle.run_lines.specs.Layout.{part_name, site_of}
 use Rattle.proc_program.specs.Program as run
 use Rattle.proc_semantics.specs.Values.{Store}
@@ -29,16 +27,14 @@ use Rattle.proc_program.specs.declared.program.Location.TheVariants.{Local, Glob
 use Rattle.proc_program.specs.Program.{Exp, Number, Element, Call, Binary, Args, no_args, value, pass}
 use Rattle.proc_program.specs.Program.{Statement, Set, SetAt, Do, If, While, Return, Block, no_steps, step}
 use Rattle.proc_semantics.specs.declared.value.Value.{Value}
-use Rattle.proc_templates.specs.declared.FrameShape.{FrameShape as Shape}
 use Rattle.proc_program.specs.Limits.{arg_registers}
 use Rattle.proc_templates.specs.Items.{Item, does, site as a_site}
 use Rattle.proc_templates.specs.Templates.{code, args_code, load_args, load_pair, zeros, arguments, argument}
 use Rattle.proc_templates.specs.Templates.{step_code, block_code}
-use Rattle.source_laws.specs.Fits.{HandleInside, ExpFits, ArgsFit, StepFits, BlockFits, Kind, AsNumber}
-use Rattle.source_laws.specs.Fits.{AsPair, AsRest}
+use Rattle.source_laws.specs.Fits.{HandleInside, ExpFits, ArgsFit, StepFits, BlockFits, AsNumber}
 use Rattle.source_laws.specs.Sites.{SiteIs}
 use Rattle.source_laws.proofs.CallSites.{StepCallsAt, BlockCallsAt}
-use Rattle.template_runs.proofs.Offers.{Owing, used, At, Placed, Here, SameBelow, SiteHere, Called, Stand}
+use Rattle.template_runs.proofs.Offers.{used, At, Here, SameBelow, SiteHere, Called, Stand}
 use Rattle.template_runs.proofs.Offers.{stand_front, stand_back, words-append, words_in, free_c1, free_c2}
 use Rattle.template_runs.proofs.Offers.{free_g0, free_g1, free_g2}
 use Rattle.source_laws.proofs.Upto.{UpTo, spend, tick_up}
@@ -69,21 +65,8 @@ holding_kept ws rs o q ap1 others h j x e = others (argument j) (argument_spare 
 pub record Enacting : Type 1 where
   pub scene : Scene
   open scene use {world, g, linked, Begins, StoreIs, RegsAre}
-  pub p : PartSeen
-  pub ip : IsTrusted g p
-  pub failing : Placed g linked p 0 Fail
-  pub top : ℕ
-  pub fs : List OpenFrame
-  pub ow : Owing fs
-  pub f : Frame
-  pub s : Shape
-  pub end : ℕ
-  pub end_in : end < length p.component.code
-  pub kinds : List Kind
-  pub rests : (i : ℕ) → slice_get kinds i ≡ Some AsPair → slice_get kinds (i + 1) ≡ Some AsRest
-  pub temps : 2 + length kinds ≤ s.temps
-  pub slots : s.temps ≤ s.words
-  pub globals : Globals StoreIs p f.home s.pairs
+  pub work : Work g linked StoreIs
+  open work use {p, top, f, s, end}
   pub pairs : Pairs world StoreIs p f.home s.imports (IsCalled g linked Begins) (IsPair g linked Begins)
   pub need_is : f.need ≡ s.words
   pub left_is : f.left ≡ top + 1 - g.layout.stack.base
@@ -96,9 +79,9 @@ pub record Enacting : Type 1 where
   pub called : (k n : ℕ) → SiteIs p.component n k → Called g linked p end k n
 
 module _ (here : Enacting) where
-  open here use {scene, p, ip, failing, top, fs, ow, f, s, end, end_in, kinds, rests, temps, slots, globals}
-  open here use {pairs, need_is, left_is, stack_is, site_part, passes, called}
+  open here use {scene, work, pairs, need_is, left_is, stack_is, site_part, passes, called}
   open scene use {world, g, linked, Begins, StoreIs, RegsAre}
+  open work use {p, ip, failing, top, fs, ow, f, s, end, end_in, kinds, rests, temps, slots, globals}
 
   pub forget : (r : Pair) (x y : OWord) → IsPair g linked Begins r x y → IsCalled g linked Begins r x y
   forget r x y i = i.called
@@ -112,22 +95,8 @@ module _ (here : Enacting) where
     g = g;
     linked = linked;
     StoreIs = StoreIs;
-    p = p;
-    ip = ip;
-    failing = failing;
-    top = top;
-    fs = fs;
-    ow = ow;
-    f = f;
-    s = s;
-    end = end;
-    kinds = kinds;
+    work = work;
     IsPair = IsPair g linked Begins;
-    rests = rests;
-    globals = globals;
-    end_in = end_in;
-    temps = temps;
-    slots = slots;
     IsCalled = IsCalled g linked Begins;
     forget = forget;
     halves = halves;

@@ -9,9 +9,8 @@ use Rattle.template_runs.proofs.Offers.{free_a1, free_a2, free_a3, none_fits, ze
 use Rattle.source_laws.proofs.Upto.{upto, failing as failing_runs, UpTo, spend}
 use Rattle.std.proofs.Common.{◌≡◌, ◌≢◌, ◌⊎◌, inl, inr, ℕ, zero, suc, ◌+◌, ◌-◌, ◌<◌, ◌≤◌, ℤ, pos, List}
 use Rattle.std.proofs.Common.{[], ◌∷◌, ◌++◌, length, map, replicate, Option, Some, None, Bool, true, false}
-use Rattle.std.proofs.Common.{refl, sym, ap, ◌∙◌, subst, arith, length-append}
+use Rattle.std.proofs.Common.{refl, sym, ap, ◌∙◌, subst, arith}
 use Rattle.std.specs.Prelude.{slice_get, ◌&&◌, if◌then◌else◌}
-use Rattle.std.proofs.lemmas.List.{length-replicate}
 use Rattle.cap_words.specs.declared.Word.{Word}
 use Rattle.cap_words.specs.declared.Word.TheVariants.{Int, Mem, Seal, Sealed}
 use Rattle.cap_words.specs.declared.Sealable.{Sealable}
@@ -45,7 +44,7 @@ use Rattle.proc_templates.specs.Items.{Item}
 use Rattle.proc_templates.specs.Templates.{argument, check_half, check_params}
 use Rattle.source_laws.proofs.Handed.{places, handed, then_hold, number_first, pair_first}
 use Rattle.source_laws.proofs.Arguments.{Holding, with_other, with_same, argument_spare}
-use Rattle.source_laws.proofs.Callings.{IsPair, Passed, no_more, one_more, two_more, filled}
+use Rattle.source_laws.proofs.Callings.{IsPair, Passed, no_more, one_more, two_more, filled, filled_is}
 use Rattle.run_lines.specs.Feed.{integer_in}
 
 -- of words that hold an integer
@@ -98,7 +97,7 @@ module _ (g : Link) (linked : Linked g) (Begins : Target → PartSeen → ℕ �
         → PairIs r.pair x (first_word ws) → Fed rs ws → Fed (r ∷ rs) (x ∷ ws)
 
   -- words of registers, and their marks; those that procedures hand over are numbers, and two that are a
-  -- pair; 0 behind the last one
+  -- pair; 0 after the last one
   pub data RegsFrom : List Register → List (Option OWord) → List OWord → Type 0 where
     nothing_more : (k : ℕ) → RegsFrom [] [] (replicate k (Plain (Int (pos 0))))
     numbered : (v : ℤ) {rs : List Register} {ms : List (Option OWord)} {ws : List OWord} → fits_64 v ≡ true
@@ -120,28 +119,12 @@ module _ (g : Link) (linked : Linked g) (Begins : Target → PartSeen → ℕ �
   passed_regs _ _ _ k (one_more v {vs} {ms} {ws} fit h) = numbered v fit (passed_regs vs ms ws k h)
   passed_regs _ _ _ k (two_more r x y {vs} {ms} {ws} i h) = together r x y i (passed_regs vs ms ws k h)
 
-  four_are : (xs : List OWord) (q : OState) → length xs ≡ 4 → Holding xs q
-      → xs ≡ q.maps.regs.a0 ∷ q.maps.regs.a1 ∷ q.maps.regs.a2 ∷ q.maps.regs.a3 ∷ []
-  four_are [] q len hd = absurd (omega (arith, len))
-  four_are (x0 ∷ []) q len hd = absurd (omega (arith, len))
-  four_are (x0 ∷ x1 ∷ []) q len hd = absurd (omega (arith, len))
-  four_are (x0 ∷ x1 ∷ x2 ∷ []) q len hd = absurd (omega (arith, len))
-  four_are (x0 ∷ x1 ∷ x2 ∷ x3 ∷ []) q len hd =
-      sym (ap (λ z. z ∷ q.maps.regs.a1 ∷ q.maps.regs.a2 ∷ q.maps.regs.a3 ∷ []) (hd 0 x0 refl)
-      ∙ ap (λ z. x0 ∷ z ∷ q.maps.regs.a2 ∷ q.maps.regs.a3 ∷ []) (hd 1 x1 refl)
-      ∙ ap (λ z. x0 ∷ x1 ∷ z ∷ q.maps.regs.a3 ∷ []) (hd 2 x2 refl)
-      ∙ ap (λ z. x0 ∷ x1 ∷ x2 ∷ z ∷ []) (hd 3 x3 refl))
-  four_are (x0 ∷ x1 ∷ x2 ∷ x3 ∷ x4 ∷ xs) q len hd = absurd (omega (arith, len))
-
   passes_as : (vs : List Value) (ms : List (Option OWord)) (ws : List OWord) (q : OState)
       → Passed g linked Begins vs ms ws → length ws ≤ 4 → Holding (filled g linked Begins ws) q
       → RegsFrom (map register_of vs) ms
       (q.maps.regs.a0 ∷ q.maps.regs.a1 ∷ q.maps.regs.a2 ∷ q.maps.regs.a3 ∷ [])
   passes_as vs ms ws q h few hold =
-      let l = length-append ws (replicate (4 - length ws) (Plain (Int (pos 0)))) in
-      let r = length-replicate (4 - length ws) (Plain (Int (pos 0))) in
-      subst (RegsFrom (map register_of vs) ms)
-      (four_are (filled g linked Begins ws) q (omega (arith, l, r, few)) hold)
+      subst (RegsFrom (map register_of vs) ms) (filled_is g linked Begins ws q few hold)
       (passed_regs vs ms ws (4 - length ws) h)
 
   pub passes : (world : World) (wy : Way) (vs : List Value) (ws : List OWord) (q : OState)

@@ -69,7 +69,7 @@ module _ (g : Link) (linked : Linked g) (p : PartSeen) (ip : IsTrusted g p) (end
   prologue_of [] k h = tt
   prologue_of (r ∷ rs) k h = (h.0, (h.1.0, prologue_of rs (k + 1 + 1) h.1.1))
 
-  -- what stands behind slots that are wiped
+  -- what stands after slots that are wiped
   pub epilogue_of : (j k : ℕ) → Stand g linked p end k (does (zero_of T1) ∷ (wipe j
       ++ (take_back Rdata ++ (take_back Rcode ++ (leaves ∷ [])))))
       → Code g linked p k (epilogue g linked p ip top mem fs j)

@@ -259,7 +259,7 @@ module _ (scene : Scene)
         words = taken_marks x.what.callbacks rs.words;
       }
 
-      -- behind the entry
+      -- after the entry
       after_entry : (cap : CapFields) → own_stack g.layout o.maps ≡ Some cap → (q : OState)
           → Here g linked p 0 cap.end [] mem o.frames q → At g linked p (e + ENTRY_WORDS) q
           → q.maps.regs.rcode ≡ o.maps.regs.rcode → q.maps.regs.rdata ≡ o.maps.regs.rdata → ArgsKept o q

@@ -27,17 +27,8 @@ use Rattle.source_laws.proofs.Integers.{where_ends, where_begins}
 shown_shown : (es fs : List OutLine) (is ks : List Item) (n m : ℕ) (t : Trace)
     → shown es is n (shown fs ks m t) ≡ shown (es ++ fs) (is ++ ks) (n + m) t
 shown_shown es fs is ks n m t =
-    let w : n + (m + t.weight) ≡ n + m + t.weight = omega arith in
-    ap (λ x. record { out = x; items = is ++ (ks ++ t.items); weight = n + (m + t.weight); final = t.final })
-    (sym (append_assoc es fs t.out))
-    ∙ ap (λ x. record { out = (es ++ fs) ++ t.out; items = x; weight = n + (m + t.weight); final = t.final })
-    (sym (append_assoc is ks t.items))
-    ∙ ap (λ x. record {
-      out = (es ++ fs) ++ t.out;
-      items = (is ++ ks) ++ t.items;
-      weight = x;
-      final = t.final;
-    }) w
+    let w : n + m + t.weight ≡ n + (m + t.weight) = omega arith in
+    rw (append_assoc es fs t.out, append_assoc is ks t.items, w)
 
 module _ (l : Layout) where
   trace_step : (k : ℕ) (p q : OState) → overlay_step l p ≡ goes q

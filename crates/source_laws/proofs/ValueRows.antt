@@ -76,7 +76,7 @@ module _ (world : World) (g : Link) (linked : Linked g) (p : PartSeen) (ip : IsT
           mem o z code at h
           e (ltb-false i a.length t) (omega (arith, le)))
 
-  -- the data register at the element whose index is in g0, of an array that begins behind so many words
+  -- the data register at the element whose index is in g0, of an array that begins after so many words
   pub reach_law : (before first : ℕ) (words : List OWord) (mem : ℕ → OWord) (m : Comp) (k c b i : ℕ)
       (o : OState)
       → Placed g linked p k (Plus G0 G0 (Imm (pos (before + first))))

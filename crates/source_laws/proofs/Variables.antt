@@ -47,7 +47,7 @@ abbrev pub AtPlace : List (Option OWord) → (Pair → OWord → OWord → Type 
 AtPlace ms R i r x y = R r x y × (slice_index_or ms i None ≡ Some x)
     × (slice_index_or ms (i + 1) None ≡ Some y)
 
--- the kinds of a procedure's places; behind a pair's comes its rest's
+-- the kinds of a procedure's places; after a pair's comes its rest's
 module _ (kinds : List Kind) (IsPair : ℕ → Pair → OWord → OWord → Type 0) where
   pub record NumberAt (env : List Value) (words : List OWord) (i : ℕ) : Type 0 where
     pub number : ℤ

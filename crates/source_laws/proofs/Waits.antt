@@ -55,7 +55,7 @@ rest_length [] j e = absurd (omega (arith, e))
 rest_length (w ∷ ws) j e = omega (arith, e)
 
 module _ (g : Link) (linked : Linked g) where
-  -- the items of an entry and of a return, as the state behind them shows them
+  -- the items of an entry and of a return, as the state after them shows them
   abbrev thing : OState → Item → Thing
   thing q i = thing_of g.layout q i
 
@@ -256,7 +256,7 @@ module _ (g : Link) (linked : Linked g) where
         wiped b zero le = nothing_yet g b o (m None)
         wiped b (suc k) le = wiped_by b k (omega (arith, le)) (overlay_step g.layout o) refl
 
-        -- what it shows of trusted code is shown behind the step
+        -- what it shows of trusted code is shown after the step
         quiet_leaves : (q : OState) → overlay_step g.layout o ≡ goes q → Leaves g linked o q
             → Quiet g (Shows g.layout) (GivesBack g.layout) ws (suc n) o
         quiet_leaves q i (stays out fs same ev) =

@@ -149,7 +149,7 @@ after l o _ _ _ q (and_then {es = es} {is = is} {b = b} {p = p} s e) =
           );
     }
 
--- the crossing behind others, and what is told of it
+-- the crossing after others, and what is told of it
 pub wiped_last : (g : Link) (cs : List Crossing) (c : Crossing) (lows : List (Option ℕ))
     → AreWiped g (cs ++ c ∷ []) lows
     → (low : Option ℕ) × (slice_get lows (length cs) ≡ Some low) × Wiped g low c.before c.behind

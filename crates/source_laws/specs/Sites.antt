@@ -9,7 +9,7 @@ use Rattle.proc_program.specs.Calls.{calls, args_calls, step_calls, block_calls}
 use Rattle.proc_templates.specs.Items.{Item, site}
 use Rattle.proc_templates.specs.Free.{behind}
 
--- how many sites stand before the next piece, and behind pieces
+-- how many sites stand before the next piece, and after pieces
 abbrev pub next_count : ℕ → Item → ℕ
 next_count j site = suc j
 next_count j _ = j
@@ -33,7 +33,7 @@ module _ (c : ComponentFields) where
   SitesAt j k [] = Unit {0}
   SitesAt j k (x ∷ xs) = SiteAt j k x × SitesAt (next_count j x) (behind k x) xs
 
--- calls are numbered in order, before which there are so many: a call comes behind those of its arguments
+-- calls are numbered in order, before which there are so many: a call comes after those of its arguments
 abbrev mutual
   pub Numbered : ℕ → Exp → Type 0
   Numbered j (Number n) = Unit {0}

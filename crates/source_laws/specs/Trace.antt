@@ -22,7 +22,7 @@ use Rattle.template_runs.specs.Runs.{is_inside}
 pub use Rattle.run_lines.specs.Cuts.{weighed}
 
 module _ (l : Layout) where
-  -- ---- of an event, whose state behind it shows these words
+  -- ---- of an event, whose state after it shows these words
 
   abbrev pub event_outs : View → Option Event → List OutLine
   event_outs v None = []

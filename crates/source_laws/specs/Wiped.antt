@@ -23,7 +23,7 @@ abbrev pub low_of : {T E : Type 0} → Event T E → Option ℕ
 low_of (Calls part site base low x y xs) = low
 low_of (Leaves part v low e) = low
 
--- the state in which code outside ran last, behind a step: the one before the step, if code outside ran
+-- the state in which code outside ran last, after a step: the one before the step, if code outside ran
 -- there, and else the one in which it ran last before
 abbrev pub last_outside : Bool → OState → OState → OState
 last_outside true b p = b

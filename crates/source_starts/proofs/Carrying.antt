@@ -102,7 +102,7 @@ module _ (c : ComponentFields) where
 
 -- ---- procedure by procedure
 
--- a procedure's code stands in a component, at an offset, behind so many sites
+-- a procedure's code stands in a component, at an offset, after so many sites
 pub record ProcStands (m : Program) (c : ComponentFields) (e j : ℕ) (p : Procedure) : Type 0 where
   pub carried : Carries c
       (record {

@@ -12,7 +12,7 @@ pub use Rattle.source_starts.proofs.Exports.{one_offset}
 -- what imports name among linked parts, whose names differ
 pub use Rattle.source_starts.proofs.Linking.{Names, imported_names, same_part}
 -- what the overlay of a linked start of sources has in its cells
-pub use Rattle.source_starts.proofs.StartWords.{data_in}
+pub use Rattle.source_starts.proofs.StartWords.{data_in, held_at}
 -- where the names of shared procedures lead, and the names of imports
 pub use Rattle.source_starts.proofs.Targets.{proc_of}
 -- pairs of sealed words of linked parts

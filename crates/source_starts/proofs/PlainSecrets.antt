@@ -25,8 +25,8 @@ use Rattle.overlay_machine.specs.Link.{Link, has_cell, regions}
 use Rattle.overlay_machine.specs.Linked.{Linked}
 use Rattle.overlay_machine.specs.Invariant.{Invariant}
 use Rattle.overlay_machine.specs.Safe.{IsMet}
-use Rattle.overlay_machine.specs.Starting.{overlay_at, AgreesFromStart, StartsBegin}
-use Rattle.overlay_machine.proofs.Offers.{frame_known, stays_open, is_overlay}
+use Rattle.overlay_machine.specs.Starting.{AgreesFromStart, StartsBegin}
+use Rattle.overlay_machine.proofs.Offers.{frame_known, stays_open}
 use Rattle.run_lines.specs.Layout.{layout}
 use Rattle.run_lines.specs.Cuts.{Matched}
 use Rattle.headline.specs.Headline.{Headline, HeadlineHolds}
@@ -35,7 +35,9 @@ use Rattle.template_runs.specs.Border.{IsTidied}
 use Rattle.source_laws.specs.Secrets.{HasCome, begins, comes, Until, still_there, one_more, LetsGo}
 use Rattle.source_laws.specs.Secrets.{LeavesNothing, ComesFrom, RanLast, at_start, outside}
 use Rattle.source_starts.specs.PlainSecrets.{InReach, PlainShowsNoMore, PlainRunsLeaveNothing}
-use Rattle.source_starts.specs.Sources.{SourcesLeaveNothing, linked_at}
+use Rattle.source_starts.specs.Links.{overlay_link}
+use Rattle.source_starts.specs.Sources.{SourcesLeaveNothing}
+use Rattle.source_starts.proofs.StartWords.{held_at}
 
 module _ (g : Link) (linked : Linked g) (s : StartSeen) (same : g.layout ≡ layout s)
     (holds : (j : ℕ) (p : OState) → Matched s j p → (u : State Word) × Invariant g p u)
@@ -184,10 +186,8 @@ module _ (g : Link) (linked : Linked g) (s : StartSeen) (same : g.layout ≡ lay
 pub start_shows : StartsBegin
     → ((parts : List PartSeen) (size : ℕ) (s : StartSeen) → IsLinkedStart parts size s
     → AgreesFromStart parts size s) → HeadlineHolds → SourcesLeaveNothing → PlainRunsLeaveNothing
-start_shows begin agree head law modules parts size s is sources o p q h =
-    let held = begin s (overlay_at s) (is_overlay (placed parts size) size s is) (placed parts size) size
-    is in
-    let at = agree (placed parts size) size s is in
-    plain_shows (linked_at parts size s) held.linked s refl
-    (λ j p r. let m = at.matched j p r in (m.0, m.2)) (head (placed parts size) size s is)
-    (law modules parts size s is sources) o p q h
+start_shows begin agree head law a =
+    let parts = placed a.parts a.size in
+    let at = agree parts a.size a.start a.is_start in
+    plain_shows (overlay_link a.link) (held_at begin a.linked).linked a.start refl
+    (λ j p r. let m = at.matched j p r in (m.0, m.2)) (head parts a.size a.start a.is_start) (law a)

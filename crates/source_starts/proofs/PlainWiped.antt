@@ -22,7 +22,6 @@ use Rattle.overlay_machine.specs.Link.{Link}
 use Rattle.overlay_machine.specs.Linked.{Linked}
 use Rattle.overlay_machine.specs.Invariant.{Invariant}
 use Rattle.overlay_machine.specs.Starting.{overlay_at, AgreesFromStart, StartsBegin}
-use Rattle.overlay_machine.proofs.Offers.{is_overlay}
 use Rattle.run_lines.specs.Layout.{layout}
 use Rattle.run_lines.specs.Cuts.{Matched}
 use Rattle.headline.specs.Headline.{Headline, HeadlineHolds}
@@ -34,7 +33,8 @@ use Rattle.source_laws.specs.Wiped.{TellsSince, none_yet, and_then, last_outside
 use Rattle.source_starts.specs.Wiped.{WipedCellsAreTold}
 use Rattle.source_starts.specs.PlainSecrets.{InReach}
 use Rattle.source_starts.specs.PlainWiped.{PlainWiped, PlainRunsWipe}
-use Rattle.source_starts.specs.Sources.{linked_at}
+use Rattle.source_starts.specs.Links.{overlay_link}
+use Rattle.source_starts.proofs.StartWords.{held_at}
 use Rattle.source_starts.proofs.PlainSecrets.{Trail, trail_step, here, was_in_reach}
 
 module _ (g : Link) (linked : Linked g) (s : StartSeen) (same : g.layout ≡ layout s)
@@ -124,15 +124,13 @@ module _ (g : Link) (linked : Linked g) (s : StartSeen) (same : g.layout ≡ lay
 pub start_wipes : StartsBegin
     → ((parts : List PartSeen) (size : ℕ) (s : StartSeen) → IsLinkedStart parts size s
     → AgreesFromStart parts size s) → HeadlineHolds → WipedCellsAreTold → PlainRunsWipe
-start_wipes begin agree head law modules parts size s is sources es its b p q t i e gone =
-    let held = begin s (overlay_at s) (is_overlay (placed parts size) size s is) (placed parts size) size
-    is in
-    let at = agree (placed parts size) size s is in
-    let w = law modules parts size s is sources es its b p q t i e gone in
+start_wipes begin agree head law a es its b p q t i e gone =
+    let parts = placed a.parts a.size in
+    let at = agree parts a.size a.start a.is_start in
+    let w = law a es its b p q t i e gone in
     record {
       overlay = w;
-      plain = plain_wiped (linked_at parts size s) held.linked s refl
-          (λ j p r. let m = at.matched j p r in (m.0, m.2)) (head (placed parts size) size s is) es
-          its b p q t i e
-          w.low w.wiped;
+      plain = plain_wiped (overlay_link a.link) (held_at begin a.linked).linked a.start refl
+          (λ j p r. let m = at.matched j p r in (m.0, m.2)) (head parts a.size a.start a.is_start) es its b p
+          q t i e w.low w.wiped;
     }

@@ -1,4 +1,4 @@
--- From what the refined meaning tells to the plain machine's registers behind a call.
+-- From what the refined meaning tells to the plain machine's registers after a call.
 use Rattle.std.proofs.Common.{◌≡◌, ℕ, ◌+◌, false, List, [], ◌∷◌, ◌++◌, length, map, Option, Some, None, refl}
 use Rattle.std.proofs.Common.{ap, ◌∙◌, subst, append-nil}
 use Rattle.std.specs.Prelude.{slice_get, option_map}
@@ -122,7 +122,5 @@ module _ (s : StartSeen) (head : Headline s) where
           (b.0, b.1, call_told (layout s) q i base word back b.0 (ap shown_of b.2 ∙ a.2))
 
 pub start_plain : HeadlineHolds → SourcesTellWords → PlainRunsTellWords
-start_plain head law modules parts size s is sources es its p q tells steps i base last ev =
-    plain_told s (head (placed parts size) size s is) _ _ _ (law modules parts size s is sources)
-    es its p q tells
-    steps i base last ev
+start_plain head law a =
+    plain_told a.start (head (placed a.parts a.size) a.size a.start a.is_start) _ _ _ (law a)

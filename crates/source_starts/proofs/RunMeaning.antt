@@ -1,11 +1,8 @@
 -- The plain run of linked sources means what the sources mean.
-use Rattle.std.proofs.Common.{◌≡◌, ℕ, Bool, true, false, List, ◌∷◌, Some, refl, sym, ap, ◌∙◌, subst}
-use Rattle.linked_starts.specs.Parts.{PartSeen}
+use Rattle.std.proofs.Common.{◌≡◌, Bool, true, false, ◌∷◌, Some, refl, sym, ap, ◌∙◌, subst}
 use Rattle.linked_starts.specs.Standing.{placed}
-use Rattle.linked_starts.specs.Started.{StartSeen}
-use Rattle.linked_starts.specs.LinkedStarts.{IsStartOf}
-use Rattle.overlay_machine.specs.Starting.{overlay_at, StartsBegin}
-use Rattle.overlay_machine.proofs.Offers.{listed_at, is_overlay}
+use Rattle.overlay_machine.specs.Starting.{StartsBegin}
+use Rattle.overlay_machine.proofs.Offers.{listed_at}
 use Rattle.run_lines.specs.Layout.{layout}
 use Rattle.run_lines.specs.StepLines.{StepsTellSo}
 use Rattle.run_lines.specs.Feed.{outs_of, items_of, OutsJoin, ItemsJoin, EntriesAreItems}
@@ -15,10 +12,12 @@ use Rattle.headline.specs.Headline.{HeadlineHolds}
 use Rattle.run_lines.proofs.Offers.{reached_by}
 use Rattle.proc_language.specs.declared.module.ModuleFields.{ModuleFields}
 use Rattle.proc_program.specs.Lower.{part_of}
-use Rattle.proc_semantics.specs.Values.{World}
-use Rattle.source_laws.specs.Sources.{MeansAlways, Shows}
-use Rattle.source_starts.specs.RunMeans.{RunMeans, StacksBegin, CutsShow, runs_trusted}
+use Rattle.source_laws.specs.Sources.{Shows}
+use Rattle.source_starts.specs.Links.{first_state}
+use Rattle.source_starts.specs.Sources.{SourcesDoWhatTheyMean, AreSources}
+use Rattle.source_starts.specs.RunMeans.{RunsMean, StacksBegin, CutsShow, runs_trusted}
 use Rattle.source_starts.proofs.Worlds.{aligned, part_of_home}
+use Rattle.source_starts.proofs.StartWords.{held_at}
 use Rattle.source_starts.proofs.LinesShow.{lines_show, shows_lead}
 use Rattle.source_starts.proofs.RunEnds.{runs_inside, halts_there, fails_there}
 
@@ -26,32 +25,34 @@ use Rattle.source_starts.proofs.RunEnds.{runs_inside, halts_there, fails_there}
 module _ (headline : HeadlineHolds) (outs : OutsJoin) (joined : ItemsJoin) (entries : EntriesAreItems)
     (tell : StepsTellSo) (greatest : CutsAreGreatest) where
   pub cuts_show : CutsShow
-  cuts_show parts size s is steps =
+  cuts_show a steps =
+      let s = a.start in
       let l = layout s in
-      let o = (overlay_at s).state in
+      let o = first_state a.link in
       let j = (cut s steps).at in
       let p = cut_overlay s steps in
       let es = outs_of (written s steps) in
       let items = items_of l.stack.base (written s steps) in
-      let x = (headline (placed parts size) size s is).lines steps in
+      let x = (headline (placed a.parts a.size) a.size s a.is_start).lines steps in
       let k = lines_show l o outs joined entries tell j (written s steps) p x.0 in
       let e = greatest s steps j k.0 p (shows_lead l o j k.0 es items p k.1) x.1 in
       subst (λ n. Shows l o j n es items p) (sym e.2) k.1
 
-module _ (headline : HeadlineHolds) (stops : StopsAreCuts) (show : CutsShow) where
-  pub run_means : (world : World) (parts : List PartSeen) (size : ℕ) (s : StartSeen) → IsStartOf parts size s
-      → MeansAlways world size s → (steps : ℕ) → RunMeans world size s steps
-  run_means world parts size s is mean steps =
-      let head = headline (placed parts size) size s is in
+module _ (headline : HeadlineHolds) (stops : StopsAreCuts) (show : CutsShow)
+    (mean : SourcesDoWhatTheyMean) where
+  pub run_means : RunsMean
+  run_means a steps =
+      let s = a.start in
+      let head = headline (placed a.parts a.size) a.size s a.is_start in
       let agree = head.agrees in
       let x = head.lines steps in
       let j = (cut s steps).at in
       let n = trusted_weight s steps in
       let p = cut_overlay s steps in
-      let at = reached_by (layout s) (overlay_at s).state j (written s steps) p x.0 in
+      let at = reached_by (layout s) (first_state a.link) j (written s steps) p x.0 in
       let es = outs_of (written s steps) in
       let items = items_of (layout s).stack.base (written s steps) in
-      let means = mean j n es items p (show parts size s is steps) in
+      let means = mean a j n es items p (show a.linked steps) in
       let inside = λ (b : Bool) (e : runs_trusted s j ≡ b). runs_inside stops s agree steps j p at x.1 b e in
       record {
         integers = means.integers;
@@ -68,12 +69,12 @@ module _ (headline : HeadlineHolds) (stops : StopsAreCuts) (show : CutsShow) whe
       }
 
 pub stacks_begin : StartsBegin → StacksBegin
-stacks_begin begin m ms parts size s is sources =
-    let held = begin s (overlay_at s) (is_overlay (placed parts size) size s is) (placed parts size) size
-    is in
-    let beside = aligned parts size (m ∷ ms) sources.compiled in
-    let h = part_of_home (m ∷ ms) (placed parts size) beside 0 m refl in
+stacks_begin begin a m ms first =
+    let parts = placed a.parts a.size in
+    let sources : AreSources (m ∷ ms) a.parts = subst (λ xs. AreSources xs a.parts) first a.are_sources in
+    let h = part_of_home (m ∷ ms) parts (aligned a.parts a.size (m ∷ ms) sources.compiled) 0 m refl in
     let source : Some h.1.source ≡ Some m = sym h.1.source_is in
     let same : h.1.source ≡ m = cc in
     ap (λ (u : ModuleFields). (part_of u).stack) (sym same) ∙ sym h.1.placed.stack
-    ∙ held.linked.stack_bases h.0 (listed_at (placed parts size) h.1.number h.0 h.1.number_is, h.1.trusted)
+    ∙ (held_at begin a.linked).linked.stack_bases h.0
+    (listed_at parts h.1.number h.0 h.1.number_is, h.1.trusted)

@@ -1,5 +1,5 @@
 -- The slots of linked sources hold the pairs that they name.
-use Rattle.std.proofs.Common.{◌≡◌, ℕ, zero, suc, ◌+◌, ◌*◌, List, [], ◌∷◌, map, length, Option, Some, None}
+use Rattle.std.proofs.Common.{◌≡◌, ℕ, zero, suc, ◌+◌, ◌*◌, List, [], ◌∷◌, length, Option, Some, None}
 use Rattle.std.proofs.Common.{refl, sym, ap, ◌∙◌}
 use Rattle.std.specs.Prelude.{slice_get, option_map}
 use Rattle.std.proofs.lemmas.Option.{slice_get-map}
@@ -7,12 +7,9 @@ use Rattle.std.proofs.lemmas.List.{length-map}
 use Rattle.linked_starts.specs.Parts.{PartSeen}
 use Rattle.linked_starts.specs.Standing.{placed}
 use Rattle.linked_starts.specs.Start.{Exported, imported, code_half, data_half}
-use Rattle.linked_starts.specs.Started.{StartSeen}
-use Rattle.linked_starts.specs.LinkedStarts.{IsStartOf}
 use Rattle.overlay_machine.specs.declared.words.OWord.TheVariants.{Plain}
 use Rattle.overlay_machine.specs.Starting.{overlay_at, StartsBegin}
 use Rattle.overlay_machine.specs.Keeping.{HoldsFor}
-use Rattle.overlay_machine.proofs.Offers.{is_overlay}
 use Rattle.proc_language.specs.declared.module.ModuleFields.{ModuleFields}
 use Rattle.proc_language.specs.declared.module.Proc.{Proc}
 use Rattle.proc_names.specs.Calls.{proc_calls}
@@ -23,11 +20,12 @@ use Rattle.proc_program.specs.Lower.{part_of, import_of, procedures_of}
 use Rattle.proc_templates.specs.Compiled.{imports_of}
 use Rattle.proc_semantics.specs.Values.{World, home_part, proc_in, import_in}
 use Rattle.proc_semantics.specs.Marked.{PairHalf, CodeHalf, DataHalf}
-use Rattle.source_starts.specs.Sources.{trusted_parts, AreSources}
+use Rattle.source_starts.specs.Sources.{trusted_parts, LinkedSources, world_of}
 use Rattle.source_starts.specs.Words.{slot_in, imports_in, where_there, half_at, word_at_start}
-use Rattle.source_starts.specs.Named.{by_name, exported_half, IsPairNamed, SlotsAreNamed, SlotsNamed}
+use Rattle.source_starts.specs.Named.{by_name, exported_half, IsPairNamed, SlotsAreNamed}
 use Rattle.source_starts.proofs.Worlds.{Aligned, Home, aligned, part_of_home}
 use Rattle.source_starts.proofs.Slots.{import_at, own_at}
+use Rattle.source_starts.proofs.StartWords.{held_at}
 use Rattle.source_starts.proofs.ModulePairs.{words_of}
 
 -- a procedure keeps its place and its name
@@ -38,18 +36,21 @@ named_at m n (x ∷ ps) zero p e =
     let s : x ≡ p = cc in (_, refl, ap (λ (y : Proc). y.name.text) s)
 named_at m n (x ∷ ps) (suc j) p e = named_at m (n + proc_calls x) ps j p e
 
-module _ (begin : StartsBegin) (modules : List ModuleFields) (parts : List PartSeen) (size : ℕ)
-    (s : StartSeen) (is : IsStartOf parts size s) (src : AreSources modules parts) where
+module _ (begin : StartsBegin) (a : LinkedSources) where
+  open a use {modules, are_sources as src}
+  open a.linked use {is_start as is}
+  open a.linked.link use {parts, size, start as s}
+
   abbrev P : List PartSeen
   P = placed parts size
 
   abbrev W : World
-  W = map part_of modules
+  W = world_of a
 
   held : HoldsFor P size (overlay_at s) s.state.maps
-  held = begin s (overlay_at s) (is_overlay P size s is) P size is
+  held = held_at begin a.linked
 
-  pub beside : Aligned modules (trusted_parts P)
+  beside : Aligned modules (trusted_parts P)
   beside = aligned parts size modules src.compiled
 
   -- the words of a slot
@@ -132,7 +133,7 @@ module _ (begin : StartsBegin) (modules : List ModuleFields) (parts : List PartS
   home_is : (i : ℕ) (m : ModuleFields) → slice_get modules i ≡ Some m → home_part W i ≡ Some (part_of m)
   home_is i m e = slice_get-map part_of modules i ∙ ap (option_map part_of) e
 
-  pub slots_named : SlotsAreNamed modules P s
+  pub slots_named : SlotsAreNamed modules a.link
   slots_named = record {
     imports = λ i k m n at here.
         (let home = home_is i m at in
@@ -162,6 +163,3 @@ module _ (begin : StartsBegin) (modules : List ModuleFields) (parts : List PartS
               ∙ w.2 x,
         ));
   }
-
-pub are_named : StartsBegin → SlotsNamed
-are_named begin modules parts size s is src = slots_named begin modules parts size s is src

@@ -18,16 +18,18 @@ use Rattle.linked_starts.specs.DataWords.{DataInCells}
 use Rattle.linked_starts.proofs.Offers.{in_regions_is, data_stands, given, given_by, OwnWord, own_code}
 use Rattle.linked_starts.proofs.Offers.{own_data, from_inv, slot_inv, slots_in, IsExport, imported_there}
 use Rattle.linked_starts.specs.LinkedStarts.{IsLinkedStart}
+use Rattle.linked_starts.specs.Standing.{placed}
 use Rattle.overlay_machine.specs.declared.words.OWord.{OWord}
 use Rattle.overlay_machine.specs.declared.words.OWord.TheVariants.{Plain}
 use Rattle.overlay_machine.specs.Link.{Link, IsTrusted, IsUntrusted, ranges_of, regions, data_region}
 use Rattle.overlay_machine.specs.Linked.{Linked}
 use Rattle.overlay_machine.specs.Safe.{IsOpenSeal}
-use Rattle.overlay_machine.specs.Keeping.{link_of}
-use Rattle.overlay_machine.specs.Starting.{overlay_at}
+use Rattle.overlay_machine.specs.Keeping.{link_of, HoldsFor}
+use Rattle.overlay_machine.specs.Starting.{overlay_at, StartsBegin}
 use Rattle.overlay_machine.specs.Invariant.{Invariant}
 use Rattle.overlay_machine.proofs.Offers.{listed_at, start_word_is, is_overlay}
 use Rattle.template_runs.specs.Public.{IsSharedAt, IsPublicWord, IsPublic, IsFreeAt, KeepsPrivate}
+use Rattle.source_starts.specs.Sources.{LinkedStart}
 use Rattle.source_starts.proofs.Worlds.{NamesApart, names_apart}
 use Rattle.source_starts.proofs.Linking.{may_import, same_part}
 
@@ -239,3 +241,12 @@ module _ (parts : List PartSeen) (size : ℕ) (s : StartSeen) (is : IsLinkedStar
         by a w free e =
             by_word a w (start_cell parts size a) free refl
             (ap (option_map Plain) (sym (is.starts.state.cells a)) ∙ sym (cell_plain a) ∙ e)
+
+-- ---- of a link with its start
+
+-- what the overlay begins with
+pub held_at : StartsBegin → (a : LinkedStart)
+    → HoldsFor (placed a.parts a.size) a.size (overlay_at a.start) a.start.state.maps
+held_at begin a =
+    let parts = placed a.parts a.size in
+    begin a.start (overlay_at a.start) (is_overlay parts a.size a.start a.is_start) parts a.size a.is_start

@@ -57,7 +57,7 @@ index_is (y ∷ xs) (suc i) x d e = index_is xs i x d e
 
 -- ---- globals
 
--- the words of all globals are in memory behind the pairs of their module, which are as at the start
+-- the words of all globals are in memory after the pairs of their module, which are as at the start
 pub record StoreIs (modules : List ModuleFields) (parts : List PartSeen) (first : ℕ → OWord) (st : Store)
     (mem : ℕ → OWord) : Type 0 where
   pub numbers : (i : ℕ) (p : PartSeen) (h : Home modules parts i p) (o : ℕ)

@@ -3,7 +3,7 @@ use Rattle.source_laws.proofs.Offers as tagged
 use Rattle.source_laws.specs.Words.{WhenceTold}
 use Rattle.source_laws.proofs.Offers.{whence_told, RegsFrom, nothing_more, RegsAre, in_main, outside_main}
 use Rattle.source_laws.proofs.Offers.{StandIn, StartsIn, sources_mean, leave_nothing, words_meant, wiped_told}
-use Rattle.source_starts.specs.Words.{slots, SourcesTellWords}
+use Rattle.source_starts.specs.Words.{slots, slots_of}
 use Rattle.std.proofs.Common.{◌≡◌, ℕ, ◌+◌, pos, true, List, [], ◌∷◌, map, Some, refl, sym, ap, ◌∙◌, subst}
 use Rattle.std.specs.Prelude.{slice_get}
 use Rattle.cap_words.specs.declared.Word.TheVariants.{Int}
@@ -17,7 +17,7 @@ use Rattle.linked_starts.specs.Owners.{owner_of}
 use Rattle.linked_starts.specs.Parts.{PartSeen}
 use Rattle.linked_starts.specs.Standing.{placed}
 use Rattle.linked_starts.specs.Started.{StartSeen}
-use Rattle.linked_starts.specs.LinkedStarts.{IsLinkedStart, IsStartOf}
+use Rattle.linked_starts.specs.LinkedStarts.{IsLinkedStart}
 use Rattle.trusted_border.specs.declared.layout.SiteCode.{SiteCode}
 use Rattle.trusted_border.specs.Layout.{site_code, trusted_owner}
 use Rattle.trusted_border.specs.Reaches.{site_of_seal, entry_number}
@@ -30,7 +30,8 @@ use Rattle.overlay_machine.specs.Linked.{Linked}
 use Rattle.overlay_machine.specs.Names.{NamesTold, EntryNamed}
 use Rattle.overlay_machine.specs.Invariant.{Invariant}
 use Rattle.overlay_machine.specs.Starting.{overlay_at, StartsBegin}
-use Rattle.overlay_machine.proofs.Offers.{index_of, starts_tell_names, is_overlay}
+use Rattle.overlay_machine.specs.Keeping.{HoldsFor}
+use Rattle.overlay_machine.proofs.Offers.{index_of, starts_tell_names}
 use Rattle.run_lines.specs.Layout.{part_name, entry_name}
 use Rattle.run_lines.specs.Pairs.{PairsAreOwn}
 use Rattle.proc_language.specs.declared.module.ModuleFields.{ModuleFields}
@@ -44,11 +45,11 @@ use Rattle.template_runs.specs.Public.{IsSharedAt, IsPublic}
 use Rattle.template_runs.proofs.Offers.{zero_public, At, Named, named}
 use Rattle.source_laws.specs.Sources.{MeansAlways}
 use Rattle.source_laws.specs.Secrets.{LeavesNothing}
-use Rattle.source_starts.specs.Sources.{SourcesLeaveNothing, trusted_parts, AreSources}
+use Rattle.source_starts.specs.Links.{overlay_link}
+use Rattle.source_starts.specs.Sources.{trusted_parts, LinkedSources, world_of}
 use Rattle.source_laws.specs.Wiped.{WipedAlways}
-use Rattle.source_starts.specs.Wiped.{WipedCellsAreTold}
 use Rattle.source_starts.proofs.Worlds.{Aligned, home_of, aligned}
-use Rattle.source_starts.proofs.StartWords.{the_link, apart, first_words, data_there}
+use Rattle.source_starts.proofs.StartWords.{the_link, apart, first_words, data_there, held_at}
 use Rattle.source_starts.proofs.Targets.{BeginsAt, entry_found}
 use Rattle.source_starts.proofs.ModulePairs.{starts_stored}
 use Rattle.source_starts.proofs.FedPairs.{fed_words}
@@ -221,37 +222,34 @@ module _ (modules : List ModuleFields) (parts : List PartSeen) (size : ℕ) (s :
       (λ p d ip lt. data_there parts size s is linked holds p d ip lt)
       (starts_stored modules parts size s is beside limits resolved linked holds) starts_in
 
-pub start_wiped : StartsBegin → PairsAreOwn → WipedCellsAreTold
-start_wiped begin own modules parts size s is sources =
-    let held = begin s (overlay_at s) (is_overlay (placed parts size) size s is) (placed parts size) size
-    is in
-    placed_wiped modules (placed parts size) size s is (aligned parts size modules sources.compiled)
-    sources.limits
-    sources.resolved held.linked held.holds own
+-- ---- of every link of sources
 
-pub start_words : StartsBegin → PairsAreOwn → SourcesTellWords
-start_words begin own modules parts size s is sources =
-    let held = begin s (overlay_at s) (is_overlay (placed parts size) size s is) (placed parts size) size
-    is in
-    placed_words modules (placed parts size) size s is (aligned parts size modules sources.compiled)
-    sources.limits
-    sources.resolved held.linked held.holds own
+module _ (begin : StartsBegin) (own : PairsAreOwn) (a : LinkedSources) where
+  abbrev P : List PartSeen
+  P = placed a.parts a.size
 
-pub start_leaves : StartsBegin → PairsAreOwn → SourcesLeaveNothing
-start_leaves begin own modules parts size s is sources =
-    let held = begin s (overlay_at s) (is_overlay (placed parts size) size s is) (placed parts size) size
-    is in
-    placed_leaves modules (placed parts size) size s is (aligned parts size modules sources.compiled)
-    sources.limits
-    sources.resolved held.linked held.holds own
+  held : HoldsFor P a.size (overlay_at a.start) a.start.state.maps
+  held = held_at begin a.linked
 
--- of every link of sources
-pub start_means : StartsBegin → PairsAreOwn → (modules : List ModuleFields) (parts : List PartSeen) (size : ℕ)
-    (s : StartSeen) → IsStartOf parts size s → AreSources modules parts
-    → MeansAlways (map part_of modules) size s
-start_means begin own modules parts size s is sources =
-    let held = begin s (overlay_at s) (is_overlay (placed parts size) size s is) (placed parts size) size
-    is in
-    placed_mean modules (placed parts size) size s is (aligned parts size modules sources.compiled)
-    sources.limits
-    sources.resolved held.linked held.holds own
+  beside : Aligned a.modules (trusted_parts P)
+  beside = aligned a.parts a.size a.modules a.are_sources.compiled
+
+  pub start_means : MeansAlways (world_of a) a.size a.start
+  start_means =
+      placed_mean a.modules P a.size a.start a.is_start beside a.are_sources.limits a.are_sources.resolved
+      held.linked held.holds own
+
+  pub start_words : WhenceTold (slots_of a.modules a.link) (world_of a) a.size a.start
+  start_words =
+      placed_words a.modules P a.size a.start a.is_start beside a.are_sources.limits a.are_sources.resolved
+      held.linked held.holds own
+
+  pub start_leaves : LeavesNothing (overlay_link a.link) a.start
+  start_leaves =
+      placed_leaves a.modules P a.size a.start a.is_start beside a.are_sources.limits a.are_sources.resolved
+      held.linked held.holds own
+
+  pub start_wiped : WipedAlways (overlay_link a.link) (world_of a) a.size a.start
+  start_wiped =
+      placed_wiped a.modules P a.size a.start a.is_start beside a.are_sources.limits a.are_sources.resolved
+      held.linked held.holds own

@@ -1,3 +1,4 @@
+pub mod Links
 pub mod Sources
 pub mod Words
 pub mod Named

@@ -3,17 +3,15 @@ use Rattle.std.specs.Prelude.{◌≡◌, ℕ, List, slice_get, Some}
 use Rattle.component_file.specs.declared.component.Import.{Import}
 use Rattle.linked_starts.specs.Parts.{PartSeen}
 use Rattle.linked_starts.specs.Start.{Exported, imported, code_half, data_half}
-use Rattle.linked_starts.specs.Standing.{placed}
-use Rattle.linked_starts.specs.Started.{StartSeen}
-use Rattle.linked_starts.specs.LinkedStarts.{IsStartOf}
 use Rattle.overlay_machine.specs.declared.words.OWord.{OWord}
 use Rattle.overlay_machine.specs.declared.words.OWord.TheVariants.{Plain}
 use Rattle.proc_language.specs.declared.module.ModuleFields.{ModuleFields}
 use Rattle.proc_language.specs.declared.module.Import.{Import as ModuleImport}
 use Rattle.proc_language.specs.declared.module.Proc.{Proc}
 use Rattle.proc_semantics.specs.Marked.{PairHalf, CodeHalf, DataHalf}
-use Rattle.source_starts.specs.Sources.{AreSources}
-use Rattle.source_starts.specs.Words.{slots}
+use Rattle.source_starts.specs.Links.{Linking, overlay_link}
+use Rattle.source_starts.specs.Sources.{LinkedSources}
+use Rattle.source_starts.specs.Words.{slots_of}
 
 -- an import of a name from a part of a name
 abbrev pub by_name : List ℕ → List ℕ → Import
@@ -32,16 +30,14 @@ IsPairNamed parts part name words =
 
 -- the pair of each import of a source is that of the export that it names, in the part that it names; and the
 -- pair of each procedure is that of the export of its name in its own part
-pub record SlotsAreNamed (modules : List ModuleFields) (parts : List PartSeen) (s : StartSeen) : Type 0 where
+pub record SlotsAreNamed (modules : List ModuleFields) (a : Linking) : Type 0 where
   pub imports : (i k : ℕ) (m : ModuleFields) (n : ModuleImport) → slice_get modules i ≡ Some m
       → slice_get m.imports k ≡ Some n
-      → IsPairNamed parts n.part.text n.name.text ((slots modules parts s).imported i k)
+      → IsPairNamed (overlay_link a).parts n.part.text n.name.text ((slots_of modules a).imported i k)
   pub own : (i j : ℕ) (m : ModuleFields) (p : Proc) → slice_get modules i ≡ Some m
       → slice_get m.procs j ≡ Some p
-      → IsPairNamed parts m.name.text p.name.text ((slots modules parts s).own i j)
+      → IsPairNamed (overlay_link a).parts m.name.text p.name.text ((slots_of modules a).own i j)
 
--- of every start of linked sources, among its parts where they are placed
+-- of all linked sources, among the parts where they are placed
 abbrev pub SlotsNamed : Type 0
-SlotsNamed =
-    (modules : List ModuleFields) (parts : List PartSeen) (size : ℕ) (s : StartSeen) → IsStartOf parts size s
-    → AreSources modules parts → SlotsAreNamed modules (placed parts size) s
+SlotsNamed = (a : LinkedSources) → SlotsAreNamed a.modules a.link

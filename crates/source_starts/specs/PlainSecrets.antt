@@ -1,23 +1,21 @@
 -- The same of the plain machine: what it holds where sources let go of control.
-use Rattle.std.specs.Prelude.{◌≡◌, ◌⊎◌, ℕ, ◌≤◌, pos, List, None, Some}
+use Rattle.std.specs.Prelude.{◌≡◌, ◌⊎◌, ℕ, ◌≤◌, pos, None, Some}
 use Rattle.cap_words.specs.declared.Word.{Word}
 use Rattle.cap_words.specs.declared.Word.TheVariants.{Int}
 use Rattle.lcm_isa.specs.declared.Reg.{Reg}
 use Rattle.lcm_machine.specs.Places.{reg}
 use Rattle.lcm_machine.specs.Cells.{cell}
 use Rattle.lcm_machine.specs.Run.{plain}
-use Rattle.linked_starts.specs.Parts.{PartSeen}
 use Rattle.linked_starts.specs.Started.{StartSeen}
-use Rattle.linked_starts.specs.LinkedStarts.{IsStartOf}
 use Rattle.overlay_machine.specs.State.{OState, framed}
 use Rattle.overlay_machine.specs.Flat.{flat}
 use Rattle.overlay_machine.specs.Link.{Link}
 use Rattle.run_lines.specs.Layout.{layout}
 use Rattle.run_lines.specs.Cuts.{Matched}
-use Rattle.proc_language.specs.declared.module.ModuleFields.{ModuleFields}
 use Rattle.template_runs.specs.Public.{IsFreeAt}
 use Rattle.source_laws.specs.Secrets.{LetsGo, RanLast}
-use Rattle.source_starts.specs.Sources.{AreSources, linked_at}
+use Rattle.source_starts.specs.Links.{overlay_link}
+use Rattle.source_starts.specs.Sources.{LinkedSources}
 
 -- a word that code outside can reach after so many instructions, where the overlay is in a state: that of a
 -- cell that is no trusted part's own and in no frame of an open call
@@ -46,6 +44,5 @@ pub record PlainShowsNoMore (g : Link) (s : StartSeen) (o q : OState) : Type 0 w
 -- of each point at which linked sources let go of control
 abbrev pub PlainRunsLeaveNothing : Type 0
 PlainRunsLeaveNothing =
-    (modules : List ModuleFields) (parts : List PartSeen) (size : ℕ) (s : StartSeen) → IsStartOf parts size s
-    → AreSources modules parts → (o p q : OState) → LetsGo s o p q
-    → PlainShowsNoMore (linked_at parts size s) s o q
+    (a : LinkedSources) (o p q : OState) → LetsGo a.start o p q
+    → PlainShowsNoMore (overlay_link a.link) a.start o q

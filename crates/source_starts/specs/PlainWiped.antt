@@ -7,13 +7,10 @@ use Rattle.lcm_machine.specs.Places.{reg}
 use Rattle.lcm_machine.specs.Cells.{cell}
 use Rattle.lcm_machine.specs.Run.{plain}
 use Rattle.call_sequence.specs.SequenceRuns.{IsOutsideRange, stack_cap}
-use Rattle.linked_starts.specs.Parts.{PartSeen}
 use Rattle.linked_starts.specs.Started.{StartSeen}
-use Rattle.linked_starts.specs.LinkedStarts.{IsStartOf}
 use Rattle.overlay_machine.specs.declared.words.OWord.{OWord}
 use Rattle.overlay_machine.specs.State.{OState}
 use Rattle.overlay_machine.specs.Step.{goes, overlay_step}
-use Rattle.overlay_machine.specs.Starting.{overlay_at}
 use Rattle.overlay_machine.specs.Link.{Link}
 use Rattle.run_lines.specs.Layout.{layout}
 use Rattle.run_lines.specs.Cuts.{Matched}
@@ -24,7 +21,8 @@ use Rattle.template_runs.specs.Runs.{is_inside}
 use Rattle.template_runs.specs.Border.{low_at}
 use Rattle.source_laws.specs.Seen.{Back, Shown}
 use Rattle.source_laws.specs.Wiped.{TellsSince, WipedTold}
-use Rattle.source_starts.specs.Sources.{AreSources, linked_at}
+use Rattle.source_starts.specs.Links.{Linking, overlay_link, first_state}
+use Rattle.source_starts.specs.Sources.{LinkedSources}
 use Rattle.source_starts.specs.PlainSecrets.{InReach}
 
 -- After so many instructions code outside ran last, or the run began in trusted code, and after so many it
@@ -45,20 +43,19 @@ pub record PlainWiped (g : Link) (s : StartSeen) (low : Option ℕ) (b q : OStat
       → InReach g s to q a w → InReach g s from b a w
 
 -- the lowest wiped cell is the one that the refined meaning tells of
-pub record PlainWipedTold (modules : List ModuleFields) (g : Link) (size : ℕ) (s : StartSeen)
-    (es : List Shown) (is : List (Thing OWord Back)) (b q : OState) : Type 0 where
-  pub overlay : WipedTold g (map part_of modules) size (map (λ x. x.item) is) (length es) b q
-  pub plain : PlainWiped g s overlay.low b q
+pub record PlainWipedTold (modules : List ModuleFields) (a : Linking) (es : List Shown)
+    (is : List (Thing OWord Back)) (b q : OState) : Type 0 where
+  pub overlay :
+      WipedTold (overlay_link a) (map part_of modules) a.size (map (λ x. x.item) is) (length es) b q
+  pub plain : PlainWiped (overlay_link a) a.start overlay.low b q
 
 -- wherever the sources of a start let go of control
-abbrev pub PlainWipedAlways : List ModuleFields → List PartSeen → ℕ → StartSeen → Type 0
-PlainWipedAlways modules parts size s =
+abbrev pub PlainWipedAlways : List ModuleFields → Linking → Type 0
+PlainWipedAlways modules a =
     (es : List Shown) (is : List (Thing OWord Back)) (b p q : OState)
-    → TellsSince (layout s) (overlay_at s).state es is b p → is_inside (layout s) p ≡ true
-    → overlay_step (layout s) p ≡ goes q → is_inside (layout s) q ≡ false
-    → PlainWipedTold modules (linked_at parts size s) size s es is b q
+    → TellsSince (layout a.start) (first_state a) es is b p → is_inside (layout a.start) p ≡ true
+    → overlay_step (layout a.start) p ≡ goes q → is_inside (layout a.start) q ≡ false
+    → PlainWipedTold modules a es is b q
 
 abbrev pub PlainRunsWipe : Type 0
-PlainRunsWipe =
-    (modules : List ModuleFields) (parts : List PartSeen) (size : ℕ) (s : StartSeen) → IsStartOf parts size s
-    → AreSources modules parts → PlainWipedAlways modules parts size s
+PlainRunsWipe = (a : LinkedSources) → PlainWipedAlways a.modules a.link

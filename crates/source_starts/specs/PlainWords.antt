@@ -1,12 +1,9 @@
--- The same of the plain machine: which words its registers hold behind a call out.
+-- The same of the plain machine: which words its registers hold after a call out.
 use Rattle.std.specs.Prelude.{◌≡◌, ℕ, ◌≤◌, false, List, length, map, slice_get, Option, Some, None}
 use Rattle.lcm_isa.specs.declared.Reg.{Reg}
 use Rattle.lcm_machine.specs.Places.{reg}
 use Rattle.lcm_machine.specs.Run.{plain}
-use Rattle.linked_starts.specs.Parts.{PartSeen}
-use Rattle.linked_starts.specs.Standing.{placed}
 use Rattle.linked_starts.specs.Started.{StartSeen}
-use Rattle.linked_starts.specs.LinkedStarts.{IsStartOf}
 use Rattle.trusted_border.specs.declared.layout.Layout.{Layout}
 use Rattle.trusted_border.specs.declared.events.Event.TheVariants.{Called}
 use Rattle.overlay_machine.specs.declared.words.OWord.{OWord}
@@ -14,7 +11,6 @@ use Rattle.overlay_machine.specs.State.{OState}
 use Rattle.overlay_machine.specs.Step.{goes, overlay_step}
 use Rattle.overlay_machine.specs.Events.{step_event}
 use Rattle.overlay_machine.specs.Flat.{flat}
-use Rattle.overlay_machine.specs.Starting.{overlay_at}
 use Rattle.run_lines.specs.Layout.{layout}
 use Rattle.run_lines.specs.Cuts.{Matched}
 use Rattle.proc_language.specs.declared.module.ModuleFields.{ModuleFields}
@@ -23,8 +19,9 @@ use Rattle.proc_semantics.specs.Values.{World}
 use Rattle.proc_semantics.specs.Marked.{Marks, Thing, Event, Calls, Arg, Whence, refined, arg_to}
 use Rattle.source_laws.specs.Seen.{Back, Shown, args_shown}
 use Rattle.source_laws.specs.Words.{Tells, word_from, back_at}
-use Rattle.source_starts.specs.Sources.{AreSources}
-use Rattle.source_starts.specs.Words.{slots}
+use Rattle.source_starts.specs.Links.{Linking, first_state}
+use Rattle.source_starts.specs.Sources.{LinkedSources}
+use Rattle.source_starts.specs.Words.{slots_of}
 
 -- An event of the refined meaning is this call: it tells its base, and whence the pair is and what the
 -- arguments are; read as words, that is what the registers hold.
@@ -41,7 +38,7 @@ pub record CallTold (l : Layout) (q : OState) (base : ℕ) (word : Whence → OW
   pub second_is : word second ≡ q.maps.regs.c2
   pub args_are : map (arg_to word back) args ≡ args_shown l q
 
--- Behind a call out, before which so much had left and come: after so many instructions the plain machine's
+-- After a call out, before which so much had left and come: after so many instructions the plain machine's
 -- registers are those words, flattened, and the event of that number is this call.
 pub record PlainCallTold (marks : Marks OWord) (world : World) (stack : ℕ) (s : StartSeen) (es : List Shown)
     (is : List (Thing OWord Back)) (q : OState) (base : ℕ) : Type 0 where
@@ -56,14 +53,12 @@ pub record PlainCallTold (marks : Marks OWord) (world : World) (stack : ℕ) (s 
       × CallTold (layout s) q base (word_from marks is) (back_at is) e
 
 -- of each call out of the sources of a start
-abbrev pub PlainWordsTold : List ModuleFields → List PartSeen → ℕ → StartSeen → Type 0
-PlainWordsTold modules parts size s =
+abbrev pub PlainWordsTold : List ModuleFields → Linking → Type 0
+PlainWordsTold modules a =
     (es : List Shown) (is : List (Thing OWord Back)) (p q : OState)
-    → Tells (layout s) (overlay_at s).state es is p → overlay_step (layout s) p ≡ goes q
-    → (i base last : ℕ) → step_event (layout s) p q ≡ Some (Called false i base last)
-    → PlainCallTold (slots modules (placed parts size) s) (map part_of modules) size s es is q base
+    → Tells (layout a.start) (first_state a) es is p → overlay_step (layout a.start) p ≡ goes q
+    → (i base last : ℕ) → step_event (layout a.start) p q ≡ Some (Called false i base last)
+    → PlainCallTold (slots_of modules a) (map part_of modules) a.size a.start es is q base
 
 abbrev pub PlainRunsTellWords : Type 0
-PlainRunsTellWords =
-    (modules : List ModuleFields) (parts : List PartSeen) (size : ℕ) (s : StartSeen) → IsStartOf parts size s
-    → AreSources modules parts → PlainWordsTold modules parts size s
+PlainRunsTellWords = (a : LinkedSources) → PlainWordsTold a.modules a.link

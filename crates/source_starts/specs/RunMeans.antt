@@ -1,6 +1,6 @@
 -- What the plain run of linked sources means: after so many instructions, what its lines tell of the sources,
 -- and what the meaning of the items that came in tells of it.
-use Rattle.std.specs.Prelude.{◌≡◌, ℕ, ◌+◌, ℤ, Bool, true, false, List, ◌∷◌, map}
+use Rattle.std.specs.Prelude.{◌≡◌, ℕ, ◌+◌, ℤ, Bool, true, false, List, ◌∷◌}
 use Rattle.cap_words.specs.declared.Word.TheVariants.{Int}
 use Rattle.lcm_isa.specs.declared.Reg.TheVariants.{Pc, A0}
 use Rattle.lcm_machine.specs.declared.FailCause.{FailCause}
@@ -8,23 +8,20 @@ use Rattle.lcm_machine.specs.declared.Step.TheVariants.{Halted, Failed}
 use Rattle.lcm_machine.specs.Places.{reg}
 use Rattle.lcm_machine.specs.Row.{faces}
 use Rattle.lcm_machine.specs.Run.{plain, answer as last_step}
-use Rattle.linked_starts.specs.Parts.{PartSeen}
 use Rattle.linked_starts.specs.Started.{StartSeen}
-use Rattle.linked_starts.specs.LinkedStarts.{IsStartOf}
 use Rattle.overlay_machine.specs.Step.{weight_of}
-use Rattle.overlay_machine.specs.Starting.{overlay_at}
 use Rattle.run_lines.specs.Layout.{layout, is_trusted}
 use Rattle.run_lines.specs.Feed.{outs_of, items_of}
 use Rattle.run_lines.specs.Runs.{written}
 use Rattle.run_lines.specs.Cuts.{cut, cut_overlay, trusted_weight}
 use Rattle.proc_language.specs.declared.module.ModuleFields.{ModuleFields}
-use Rattle.proc_program.specs.Lower.{part_of}
 use Rattle.source_events.specs.declared.Item.{Item}
 use Rattle.source_events.specs.declared.End.TheVariants.{Halt, Fail, Waiting}
 use Rattle.source_events.specs.Outs.{OutLine, LeaveIntegers}
 use Rattle.proc_semantics.specs.Values.{World}
 use Rattle.source_laws.specs.Sources.{Shows, MeaningEnds, MeaningBegins, MeaningTakes}
-use Rattle.source_starts.specs.Sources.{AreSources}
+use Rattle.source_starts.specs.Links.{first_state}
+use Rattle.source_starts.specs.Sources.{LinkedStart, LinkedSources, world_of}
 
 -- whether pc stands in trusted code after so many instructions
 abbrev pub runs_trusted : StartSeen → ℕ → Bool
@@ -72,18 +69,16 @@ pub record RunMeans (world : World) (size : ℕ) (s : StartSeen) (steps : ℕ) :
 -- up to the cut point the run shows what its lines tell, and what weight is trusted code's
 abbrev pub CutsShow : Type 0
 CutsShow =
-    (parts : List PartSeen) (size : ℕ) (s : StartSeen) → IsStartOf parts size s → (steps : ℕ)
-    → Shows (layout s) (overlay_at s).state (cut s steps).at (trusted_weight s steps) (went_out s steps)
-    (came_in s steps) (cut_overlay s steps)
+    (a : LinkedStart) (steps : ℕ)
+    → Shows (layout a.start) (first_state a.link) (cut a.start steps).at (trusted_weight a.start steps)
+    (went_out a.start steps) (came_in a.start steps) (cut_overlay a.start steps)
 
 -- of every run of linked sources
 abbrev pub RunsMean : Type 0
-RunsMean =
-    (modules : List ModuleFields) (parts : List PartSeen) (size : ℕ) (s : StartSeen) → IsStartOf parts size s
-    → AreSources modules parts → (steps : ℕ) → RunMeans (map part_of modules) size s steps
+RunsMean = (a : LinkedSources) (steps : ℕ) → RunMeans (world_of a) a.size a.start steps
 
 -- stacks begin where the sources say
 abbrev pub StacksBegin : Type 0
 StacksBegin =
-    (m : ModuleFields) (ms : List ModuleFields) (parts : List PartSeen) (size : ℕ) (s : StartSeen)
-    → IsStartOf parts size s → AreSources (m ∷ ms) parts → m.stack ≡ (layout s).stack.base
+    (a : LinkedSources) (m : ModuleFields) (ms : List ModuleFields) → a.modules ≡ m ∷ ms
+    → m.stack ≡ (layout a.start).stack.base

@@ -5,7 +5,6 @@ use Rattle.lcm_machine.specs.Cells.{cell}
 use Rattle.linked_starts.specs.Parts.{PartSeen}
 use Rattle.linked_starts.specs.Standing.{placed}
 use Rattle.linked_starts.specs.Started.{StartSeen}
-use Rattle.linked_starts.specs.LinkedStarts.{IsStartOf}
 use Rattle.overlay_machine.specs.declared.words.OWord.{OWord}
 use Rattle.overlay_machine.specs.declared.words.OWord.TheVariants.{Plain}
 use Rattle.overlay_machine.specs.Starting.{overlay_at}
@@ -14,10 +13,11 @@ use Rattle.proc_program.specs.Lower.{part_of}
 use Rattle.proc_semantics.specs.Values.{home_part, proc_in, import_in}
 use Rattle.proc_semantics.specs.Marked.{Marks, PairHalf, CodeHalf, DataHalf}
 use Rattle.source_laws.specs.Words.{WhenceTold}
-use Rattle.source_starts.specs.Sources.{trusted_parts, AreSources}
+use Rattle.source_starts.specs.Links.{Linking}
+use Rattle.source_starts.specs.Sources.{trusted_parts, LinkedSources, world_of}
 
 -- the words of the pairs that modules have: those that stand in the data of their parts at the start. The
--- pair of an import stands in the two words of its number, that of an own procedure behind those of imports.
+-- pair of an import stands in the two words of its number, that of an own procedure after those of imports.
 -- Where a module has no import or procedure of a number, integer 0 is read.
 module _ (modules : List ModuleFields) (parts : List PartSeen) (s : StartSeen) where
   abbrev pub word_at_start : ℕ → OWord
@@ -48,10 +48,12 @@ module _ (modules : List ModuleFields) (parts : List PartSeen) (s : StartSeen) w
         (slot_in (slice_get (trusted_parts parts) i) (half_at (2 * k) x));
   }
 
+-- in a link
+abbrev pub slots_of : List ModuleFields → Linking → Marks OWord
+slots_of modules a = slots modules (placed a.parts a.size) a.start
+
 -- what leaves linked sources is what their refined meaning tells: whom they call, with which words, from
 -- where
 abbrev pub SourcesTellWords : Type 0
 SourcesTellWords =
-    (modules : List ModuleFields) (parts : List PartSeen) (size : ℕ) (s : StartSeen) → IsStartOf parts size s
-    → AreSources modules parts
-    → WhenceTold (slots modules (placed parts size) s) (map part_of modules) size s
+    (a : LinkedSources) → WhenceTold (slots_of a.modules a.link) (world_of a) a.size a.start

@@ -1,12 +1,5 @@
 //! What runs of linked sources mean. These functions do nothing; their contracts are the laws.
-ghost use Rattle.std.specs.Prelude.{ℕ, List, map};
-ghost use Rattle.linked_starts.specs.Parts.{PartSeen};
-ghost use Rattle.linked_starts.specs.Started.{StartSeen};
-ghost use Rattle.proc_language.specs.declared.module.ModuleFields.{ModuleFields};
-ghost use Rattle.proc_program.specs.Lower.{part_of};
-ghost use Rattle.linked_starts.specs.LinkedStarts.{IsStartOf};
-ghost use Rattle.source_laws.specs.Sources.{MeansAlways};
-ghost use Rattle.source_starts.specs.Sources.{AreSources, SourcesLeaveNothing};
+ghost use Rattle.source_starts.specs.Sources.{SourcesDoWhatTheyMean, SourcesLeaveNothing};
 ghost use Rattle.source_starts.specs.PlainWords.{PlainRunsTellWords};
 ghost use Rattle.source_starts.specs.Words.{SourcesTellWords};
 ghost use Rattle.source_starts.specs.Named.{SlotsNamed};
@@ -30,9 +23,7 @@ use run_lines::laws::{cuts_are_greatest, lines_are_a_feed, pairs_are_the_overlay
 /// tick at least for each 200 instructions of the steps that began in trusted code. Each procedure that left
 /// gave an integer. The meaning is that of the items that came in so far, with the whole stack of the link.
 pub fn sources_mean()
-    ensures { (modules : List ModuleFields) (parts : List PartSeen) (size : ℕ) (s : StartSeen)
-        → IsStartOf parts size s → AreSources modules parts
-        → MeansAlways (map part_of modules) size s }
+    ensures { SourcesDoWhatTheyMean }
 {
     starts_begin();
     pairs_are_the_overlays();
@@ -90,7 +81,7 @@ pub fn sources_leave_nothing()
 /// which it goes, what each argument register holds, and where its frame begins; of each procedure that left
 /// the pair by which it went, the stack that it gave back, and the calls that are open. A pair of an import
 /// or of an own procedure is the one that stands in the part's data at the start, one that came from outside
-/// is that of the argument registers behind its item, what is given back is what was handed over with the
+/// is that of the argument registers after its item, what is given back is what was handed over with the
 /// item of the entry, and the calls that are open are those that were open there.
 pub fn sources_tell_words()
     ensures { SourcesTellWords }

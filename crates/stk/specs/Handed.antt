@@ -5,9 +5,8 @@ use Rattle.outside_io.specs.SinkSeen.{SinkSeen}
 use Rattle.lcm_machine.specs.Run.{Run as Machine}
 use Rattle.command_words.specs.Action.{asked_in}
 use Rattle.refusal_lines.specs.declared.status.Status.{Status}
-use Rattle.refusal_lines.specs.declared.status.Status.TheVariants.{NoMemory}
 use Rattle.refusal_lines.specs.Status.{status_number}
-use Rattle.lcm_cli.specs.Answers.{outside}
+use Rattle.call_answers.specs.Answers.{outside}
 use Rattle.lcm_cli.specs.Causes.{Promised}
 
 -- the number is that of a status that the top call promises of these words, over these files and this sink
@@ -18,10 +17,3 @@ pub record IsAnswered (words : List (List ℕ)) (files : FilesSeen) (sink : Sink
   pub kept : Option Machine
   pub promised : Promised (asked_in words) (outside files sink None) status
       (outside files_then sink_then kept)
-
--- memory was refused before the call, and nothing was read, put or written
-pub record IsUncalled (files : FilesSeen) (sink : SinkSeen) (number : ℕ)
-    (files_then : FilesSeen) (sink_then : SinkSeen) : Type 0 where
-  pub number_is : number ≡ status_number NoMemory
-  pub files_are : files_then ≡ files
-  pub sink_is : sink_then ≡ sink

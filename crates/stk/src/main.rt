@@ -1,25 +1,19 @@
 //! The program `stk`: the top call over the files and the standard output of the system.
 #![tactic(auto)]
 
-ghost use Rattle.std.specs.IoError.{error_kind};
-ghost use Rattle.std.specs.Prelude.{◌≡◌, ◌≢◌, ◌⊎◌, [], drop, IfOk, IfErr};
-ghost use Rattle.std.specs.Vec.Iter.{into_iter_items};
+ghost use Rattle.call_answers.specs.Handed.{Handed, IsUncalled};
 ghost use Rattle.command_words.specs.Texts.{texts};
-ghost use Rattle.stk.specs.Handed.{IsAnswered, IsUncalled};
+ghost use Rattle.refusal_lines.specs.declared.status.Status.TheVariants.{NoMemory};
+ghost use Rattle.refusal_lines.specs.Status.{status_number};
+ghost use Rattle.stk.specs.Handed.{IsAnswered};
 
+use call_answers::call_words;
 use lcm_cli::{Status, stk_main};
 use outside_io::{Files, HostFiles, HostSink, Sink};
-use std::alloc::{AllocError, Global};
+use std::alloc::Global;
 use std::env::{self, Args};
-use std::io::{self, ErrorKind};
+use std::io;
 use std::process::ExitCode;
-
-// The words behind the first, which is the program's own name.
-fn words_behind(alloc: Global, args: Args) -> Result<Vec<String>, AllocError>
-    ensures { IfOk result (λ words. words.items ≡ drop 1 (into_iter_items args)) }
-{
-    args.skip(1).collect(alloc)
-}
 
 // The number of the top call's answer to these words.
 fn answered<F: Files, S: Sink>(alloc: Global, words: &Vec<String>, files: &mut F, out: &mut S) -> u8
@@ -31,7 +25,7 @@ fn answered<F: Files, S: Sink>(alloc: Global, words: &Vec<String>, files: &mut F
 }
 
 // The status of the process, whose arguments are these: the number of the top call's answer to the words
-// behind the first. A word that is no text makes the command line no command, as no words do; if memory was
+// after the first. A word that is no text makes the command line no command, as no words do; if memory was
 // refused for the arguments, the top call isn't called.
 fn status<F: Files, S: Sink>(
     alloc: Global,
@@ -39,25 +33,14 @@ fn status<F: Files, S: Sink>(
     files: &mut F,
     out: &mut S,
 ) -> u8
-    ensures words { IfOk args (λ a.
-        IsAnswered (texts (drop 1 (into_iter_items a))) (F.seen files.old) (S.seen out.old)
-        result (F.seen files.new) (S.seen out.new)
-        ⊎ IsUncalled (F.seen files.old) (S.seen out.old) result (F.seen files.new) (S.seen out.new)) }
-    ensures refused { IfErr args (λ e. error_kind e ≡ ErrorKind.OutOfMemory
-        → IsUncalled (F.seen files.old) (S.seen out.old) result (F.seen files.new) (S.seen out.new)) }
-    ensures none { IfErr args (λ e. error_kind e ≢ ErrorKind.OutOfMemory
-        → IsAnswered [] (F.seen files.old) (S.seen out.old) result (F.seen files.new) (S.seen out.new)) }
+    ensures { Handed args (λ words.
+        IsAnswered words (F.seen files.old) (S.seen out.old) result (F.seen files.new) (S.seen out.new))
+        (IsUncalled (status_number NoMemory) (F.seen files.old) (S.seen out.old)
+        result (F.seen files.new) (S.seen out.new)) }
 {
-    match args {
-        Ok(args) => match words_behind(alloc, args) {
-            Ok(words) => answered(alloc, &words, files, out),
-            Err(_) => Status::NoMemory.number(),
-        },
-        Err(error) if error.kind() == ErrorKind::OutOfMemory => Status::NoMemory.number(),
-        Err(_) => {
-            let words = Vec::new(alloc);
-            answered(alloc, &words, files, out)
-        }
+    match call_words(alloc, args) {
+        Ok(words) => answered(alloc, &words, files, out),
+        Err(_) => Status::NoMemory.number(),
     }
 }
 

@@ -1,25 +1,19 @@
 //! The program `stk_draw`: its call over the files and the standard output of the system.
 #![tactic(auto)]
 
-ghost use Rattle.std.specs.IoError.{error_kind};
-ghost use Rattle.std.specs.Prelude.{◌≡◌, ◌≢◌, ◌⊎◌, [], drop, IfOk, IfErr};
-ghost use Rattle.std.specs.Vec.Iter.{into_iter_items};
+ghost use Rattle.call_answers.specs.Handed.{Handed, IsUncalled};
 ghost use Rattle.command_words.specs.Texts.{texts};
-ghost use Rattle.stk_draw.specs.Drawn.{IsAnswered, IsUncalled};
+ghost use Rattle.draw_call.specs.declared.status.DrawStatus.TheVariants.{NoMemory};
+ghost use Rattle.draw_call.specs.Answers.{draw_status_number};
+ghost use Rattle.stk_draw.specs.Drawn.{IsAnswered};
 
+use call_answers::call_words;
 use draw_call::{DrawStatus, draw_main};
 use outside_io::{Files, HostFiles, HostSink, Sink};
-use std::alloc::{AllocError, Global};
+use std::alloc::Global;
 use std::env::{self, Args};
-use std::io::{self, ErrorKind};
+use std::io;
 use std::process::ExitCode;
-
-// The words behind the first, which is the program's own name.
-fn words_behind(alloc: Global, args: Args) -> Result<Vec<String>, AllocError>
-    ensures { IfOk result (λ words. words.items ≡ drop 1 (into_iter_items args)) }
-{
-    args.skip(1).collect(alloc)
-}
 
 // The number of the call's answer to these words.
 fn answered<F: Files, S: Sink>(alloc: Global, words: &[String], files: &mut F, out: &mut S) -> u8
@@ -29,7 +23,7 @@ fn answered<F: Files, S: Sink>(alloc: Global, words: &[String], files: &mut F, o
     draw_main(alloc, words, files, out).number()
 }
 
-// The status of the process, whose arguments are these: the number of the call's answer to the words behind
+// The status of the process, whose arguments are these: the number of the call's answer to the words after
 // the first. A word that is no text makes the words no command, as no words do; if memory was refused for the
 // arguments, nothing is called.
 fn status<F: Files, S: Sink>(
@@ -38,22 +32,14 @@ fn status<F: Files, S: Sink>(
     files: &mut F,
     out: &mut S,
 ) -> u8
-    ensures words { IfOk args (λ a.
-        IsAnswered (texts (drop 1 (into_iter_items a))) (F.seen files.old) (S.seen out.old)
-        result (F.seen files.new) (S.seen out.new)
-        ⊎ IsUncalled (F.seen files.old) (S.seen out.old) result (F.seen files.new) (S.seen out.new)) }
-    ensures refused { IfErr args (λ e. error_kind e ≡ ErrorKind.OutOfMemory
-        → IsUncalled (F.seen files.old) (S.seen out.old) result (F.seen files.new) (S.seen out.new)) }
-    ensures none { IfErr args (λ e. error_kind e ≢ ErrorKind.OutOfMemory
-        → IsAnswered [] (F.seen files.old) (S.seen out.old) result (F.seen files.new) (S.seen out.new)) }
+    ensures { Handed args (λ words.
+        IsAnswered words (F.seen files.old) (S.seen out.old) result (F.seen files.new) (S.seen out.new))
+        (IsUncalled (draw_status_number NoMemory) (F.seen files.old) (S.seen out.old)
+        result (F.seen files.new) (S.seen out.new)) }
 {
-    match args {
-        Ok(args) => match words_behind(alloc, args) {
-            Ok(words) => answered(alloc, &words, files, out),
-            Err(_) => DrawStatus::NoMemory.number(),
-        },
-        Err(error) if error.kind() == ErrorKind::OutOfMemory => DrawStatus::NoMemory.number(),
-        Err(_) => answered(alloc, &[], files, out),
+    match call_words(alloc, args) {
+        Ok(words) => answered(alloc, &words, files, out),
+        Err(_) => DrawStatus::NoMemory.number(),
     }
 }
 

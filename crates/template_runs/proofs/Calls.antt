@@ -316,7 +316,7 @@ module _ (g : Link) (linked : Linked g) where
           ∙ ap (λ b. record (part_stack_cap (ranges_of p) r.cap.end (pos 0)) { base = b; addr = r.cap.addr })
           (sym (linked.stack_bases p at.trusted))
 
-      -- inside the procedure again, behind the site
+      -- inside the procedure again, after the site
       pub here_back : Here g linked p w top words mem' fs q
       here_back = subst (Here g linked p w top words mem' fs) (sym back_is) (record {
         valid = subst (Valid g linked) back_is valid;

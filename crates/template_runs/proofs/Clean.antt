@@ -301,7 +301,7 @@ module _ (g : Link) where
       out_of a (inl lt) = inl (omega (arith, lt))
       out_of a (inr gt) = inr gt
 
-      -- of a call that is told of behind it: nothing was told since code outside ran, or a procedure has
+      -- of a call that is told of after it: nothing was told since code outside ran, or a procedure has
       -- ended
       pub clean_pending : (low : Option ℕ) (below told : ℕ) → below + 1 ≡ top - words
           → Clean b low (record { words = 0; top = below; told = told }) o

@@ -71,7 +71,7 @@ module _ (g : Link) (linked : Linked g) where
       abbrev after_lt : OState → ℕ → ℤ → OState
       after_lt o k y = with_reg o G1 (Plain (Int y)) (next_pc g linked p k)
 
-      -- behind the first test
+      -- after the first test
       abbrev after_first : OState → ℕ → ℤ → OState
       after_first o k x = after_lt (at_test o k) (k + 1 + 1) (bit (int_lt x (pos 0)))
 

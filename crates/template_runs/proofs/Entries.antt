@@ -198,7 +198,7 @@ module _ (g : Link) (linked : Linked g) (p : PartSeen) (ip : IsTrusted g p) (top
       × ((x y z : OWord) → Reads
       (set_reg (set_reg (set_reg (set_reg regs r (left_of look Plain w)) Pc x) Stk y) Pc z) rs ws)
 
-  -- at the end each register that wasn't linear is as before: what is said of the state behind is said of
+  -- at the end each register that wasn't linear is as before: what is said of the state after is said of
   -- these words
   pub prologue_law : (rs : List Reg) (ws words : List OWord) (k : ℕ) (want : RunsOn g.layout) (c b : ℕ)
       (o : OState) → Code g linked p k (prologue rs) → Reads o.maps.regs rs ws → At g linked p k o

@@ -40,7 +40,7 @@ module _ (g : Link) (linked : Linked g) (p : PartSeen) (ip : IsTrusted g p) (top
   pops zero = []
   pops (suc n) = Cca Stk (Imm (pos 1)) ∷ Store Stk T1 ∷ pops n
 
-  -- the cells of slots from one up to below another hold 0, and those behind them are as before
+  -- the cells of slots from one up to below another hold 0, and those after them are as before
   pub record AreWiped (i n : ℕ) (o q : OState) : Type 0 where
     pub wiped : (j : ℕ) → i ≤ j → j < n → cell q.maps.cells (top - j) ≡ Some (Plain (Int (pos 0)))
     pub others : (a : ℕ) → a + n ≤ top → cell q.maps.cells a ≡ cell o.maps.cells a

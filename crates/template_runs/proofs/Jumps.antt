@@ -90,7 +90,7 @@ module _ (g : Link) (linked : Linked g) (p : PartSeen) (ip : IsTrusted g p) (w t
         (λ v2 at2.
         u (gone s) (gone_away s h1 v2) at2 (record { g0 = refl; a0 = refl }))) le1
 
-    -- where what is wanted behind the jump is another property: a loop goes back with a step less
+    -- where what is wanted after the jump is another property: a loop goes back with a step less
     pub back_law : (later want : RunsOn g.layout)
         → ((n c : ℕ) (o q : OState) → Makes g.layout n None o q → is_inside g.layout q ≡ true
         → q.maps.cells ≡ o.maps.cells → later.Good c q → want.Good (n + c) o)

@@ -58,7 +58,7 @@ refused w v (Some x) (Some y) ea eb (inr h) =
       | inr t ↦ rw (ea, eb) (rw t refl)
     ]
 
--- a foreign word behind one of a site
+-- a foreign word after one of a site
 second_refuses : (l : Layout) (w : Word) (x y : Option Opened) → OneSite l x → IsForeign l w → opened_of w ≡ y
     → Refuses x y
 second_refuses l w None y o f e = tt

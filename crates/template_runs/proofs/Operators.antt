@@ -89,7 +89,7 @@ module _ (g : Link) (linked : Linked g) (p : PartSeen) (ip : IsTrusted g p) (w t
   module _ (k c : ℕ) (x y z : ℤ) (words : List OWord) (mem : ℕ → OWord) (o : OState) (at : At g linked p k o)
       (h : Away' z words mem o) (ex : o.maps.regs.g0 ≡ Plain (Int x)) (ey : o.maps.regs.g1 ≡ Plain (Int y))
     where
-      -- what goes on behind, with the value in g0
+      -- what goes on after, with the value in g0
       abbrev pub Cont : (want : RunsOn g.layout) → Op → ℤ → Type 0
       Cont want u v =
           (q : OState) → At g linked p (k + words_in (op_code u)) q → Away' z words mem q

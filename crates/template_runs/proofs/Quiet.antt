@@ -139,7 +139,7 @@ module _ (g : Link) (Shown Pays : OState → OState → Type 0) where
 
   module _ (n : ℕ) (ws vs : List OState) (o q : OState)
       (step : overlay_step g.layout o ≡ goes q) where
-    -- what comes later is told behind the step
+    -- what comes later is told after the step
     module _ (io : is_inside g.layout o ≡ true) (h : Quiet vs n q) where
       behind_later : (i j : ℕ) (b a p x : OState) → i + j ≤ suc n → Comes i o b a → Lets j a p x
           → Shown p x × Stays b a

@@ -1,4 +1,4 @@
--- What registers hold where trusted code lets go of control: behind a call, and behind the end of a
+-- What registers hold where trusted code lets go of control: after a call, and after the end of a
 -- procedure.
 use Rattle.std.proofs.Common.{◌≡◌, ◌≢◌, ◌⊎◌, inl, inr, ℕ, ◌+◌, ◌-◌, ◌≤◌, pos, List, Some, refl, sym, ap, ◌∙◌}
 use Rattle.std.proofs.Common.{IsSome, arith}

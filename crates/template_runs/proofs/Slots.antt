@@ -64,7 +64,7 @@ holds_set m top j (v ∷ vs) (suc i) w lt le h =
           (holds_set m top (j + 1) vs i w (omega (arith, lt)) (omega (arith, le)) h.1),
     )
 
--- a word behind them
+-- a word after them
 pub holds_push : (m : Cells) (top j : ℕ) (ws : List OWord) (w : OWord)
     → cell m (top - (j + length ws)) ≡ Some w → Holds m top j ws → Holds m top j (ws ++ w ∷ [])
 holds_push m top j [] w e h = let z : top - j ≡ top - (j + 0) = omega arith in (ap (cell m) z ∙ e, tt)

@@ -122,7 +122,7 @@ module _ (g : Link) (linked : Linked g) where
               (sym (cell-set_other o.maps.cells a b x ne) ∙ ap (λ m. cell m b) (sym set) ∙ there)
         ]
 
-    -- cells go to a new frame, behind a public word
+    -- cells go to a new frame, after a public word
     pub valid_called : (f : OpenFrame) (x : OWord) (a n end : ℕ) → q.maps.cells ≡ without o.maps.cells a end
         → q.frames ≡ f ∷ o.frames → f.words ≡ x ∷ words_from Plain o.maps.cells (a + 1) n → IsPublic g x
         → ((b : ℕ) → a ≤ b → b ≤ a + n → IsFreeAt g b) → Valid q

@@ -44,7 +44,7 @@ code_word d = Plain (Sealed d.seal (MemIn d.code))
 abbrev pub half_word : Opened → OWord
 half_word d = Plain (Sealed d.seal d.half)
 
--- Behind a call: the callee's pair in c1 and c2, and opened in pc and data; the pair of the call in rcode and
+-- After a call: the callee's pair in c1 and c2, and opened in pc and data; the pair of the call in rcode and
 -- rdata; the stack below the frame in stk; integer 0 in t1, t2, g0, g1 and g2. The others, a0 to a3, are what
 -- the call line tells.
 pub record ShowsCall (l : Layout) (d : Opened) (f : OpenFrame) (q : OState) : Type 0 where
@@ -63,7 +63,7 @@ pub record ShowsCall (l : Layout) (d : Opened) (f : OpenFrame) (q : OState) : Ty
   pub g1 : q.maps.regs.g1 ≡ zero
   pub g2 : q.maps.regs.g2 ≡ zero
 
--- Behind a procedure's end: the pair of the return in rcode and rdata, where a linear half is spent, and
+-- After a procedure's end: the pair of the return in rcode and rdata, where a linear half is spent, and
 -- opened in pc and data; the whole stack that it was lent in stk; integer 0 in all others but a0, which the
 -- leave line tells.
 pub record ShowsLeave (l : Layout) (d : Opened) (top : ℕ) (q : OState) : Type 0 where
@@ -105,7 +105,7 @@ pub record IsWipedFrom (g : Link) (low end : ℕ) (o q : OState) : Type 0 where
   pub kept : (a : ℕ) (w : OWord) → IsFreeAt g a → IsOutsideRange a low end → cell q.maps.cells a ≡ Some w
       → cell o.maps.cells a ≡ Some w
 
--- where the wiped cells begin, up to an end: so many words above the stack's first one, or behind the end
+-- where the wiped cells begin, up to an end: so many words above the stack's first one, or after the end
 -- where none was wiped
 abbrev pub low_at : ℕ → ℕ → Option ℕ → ℕ
 low_at base end None = end + 1

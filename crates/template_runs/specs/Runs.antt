@@ -25,7 +25,7 @@ pub data Sets (May : ℕ → Type 0) (o q : OState) : Type 0 where
   one_cell : (a : ℕ) (x : OWord) → May a → q.maps.cells ≡ set_cell o.maps.cells a x → Sets May o q
 
 -- What is wanted of runs: a property of states under a credit. It holds with more credit, and before a step
--- without an event if it holds behind it with the step's weight less, where the step sets no cell but those
+-- without an event if it holds after it with the step's weight less, where the step sets no cell but those
 -- that it may.
 pub record RunsOn (l : Layout) : Type 1 where
   pub Good : ℕ → OState → Type 0

@@ -37,7 +37,7 @@ SameData g m n =
     → cell n (p.component.data_base + d) ≡ cell m (p.component.data_base + d)
 
 -- what a step of it does that goes on: it stays outside, enters a procedure that is shared, or returns to the
--- newest open call, behind its site
+-- newest open call, after its site
 pub data GoesOn (g : Link) (o q : OState) : Type 0 where
   stays : RunsOutside g q → q.frames ≡ o.frames → SameData g o.maps.cells q.maps.cells → GoesOn g o q
   enters : (p : PartSeen) (k : ℕ) → IsTrusted g p → IsSharedAt p.component k

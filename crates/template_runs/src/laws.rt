@@ -10,7 +10,7 @@ ghost use Rattle.template_runs.specs.Sharing.{SharedAloneIsEntered};
 /// half of a procedure that isn't shared. Then each of its steps that goes on stays outside, where the same
 /// holds again and the data of trusted parts are as before; or enters a trusted part where an export that is
 /// shared begins, with registers that hold words that it may be shown; or returns to the newest open call,
-/// behind its site, and what is private is kept.
+/// after its site, and what is private is kept.
 pub fn shared_alone_is_entered()
     ensures { SharedAloneIsEntered }
 {}

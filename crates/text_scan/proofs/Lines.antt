@@ -18,7 +18,7 @@ use Rattle.readers.specs.Answers.{Fails}
 use Rattle.readers.specs.Results.{◌>>=◌}
 use Rattle.readers.proofs.Offers.{still_fails, fails_with}
 
--- behind the piece that was read
+-- after the piece that was read
 pub behind : (at k : ℕ) (text : List ℕ) → line_from at k text ≡ line_from (at + k) 0 (drop k text)
 unfolding line_from
 behind at zero [] = refl

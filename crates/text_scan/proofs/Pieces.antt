@@ -18,7 +18,7 @@ use Rattle.text_scan.specs.Tokens.{with_front}
 use Rattle.text_scan.specs.Grammar.{IsName, IsPiece}
 use Rattle.text_scan.proofs.Lines.{one_piece, begins}
 
--- a piece that isn't empty, and what is read behind it
+-- a piece that isn't empty, and what is read after it
 pub after_piece : (at : ℕ) (first rest : List ℕ) (p : Piece) → 0 < length first → p.len ≡ length first
     → piece_at at (first ++ rest) ≡ Ok p
     → line_from at 0 (first ++ rest) ≡ with_front (token_of at p.kind p.len)

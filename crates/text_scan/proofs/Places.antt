@@ -16,7 +16,7 @@ use Rattle.text_scan.specs.Grammar.{IsSpelled}
 
 -- ---- places
 
--- tokens end behind where they begin
+-- tokens end after where they begin
 pub placed_ends : (low high : ℕ) (tokens : List Token) → Placed low high tokens → low ≤ high
 placed_ends low high [] placed = placed
 placed_ends low high (t ∷ tokens) placed =
@@ -73,7 +73,7 @@ text_placed text ts h =
 
 -- ---- bytes
 
--- what stands at a place of the text, and behind it
+-- what stands at a place of the text, and after it
 slice_here : (whole first rest : List ℕ) (at : ℕ) → drop at whole ≡ first ++ rest
     → slice_range whole at (at + length first) ≡ first
 slice_here whole first rest at h =

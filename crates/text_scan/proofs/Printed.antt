@@ -127,7 +127,7 @@ pub shows_number : (n : ℕ) (rest : List ℕ) (fs : List Form) → n ≤ 922337
 shows_number n rest fs le stops others = shows_token (Number n) (decimal n) rest fs
     (decimal_nonempty n (omega arith)) (λ at. decimal_piece n rest at le stops) others
 
--- an integer is its number, behind a sign where it is negative
+-- an integer is its number, after a sign where it is negative
 abbrev pub integer_forms : ℤ → List Form
 integer_forms (pos n) = record { kind = Number n; text = decimal n } ∷ []
 integer_forms (negsuc n) = record { kind = Sign 45; text = 45 ∷ [] } ∷ record {
@@ -171,7 +171,7 @@ pub record IsField (most : ℕ) (text : List ℕ) (forms : List Form) : Type 0 w
   pub shown : (rest : List ℕ) (fs : List Form) → is_name_byte (first_of rest) ≡ false → Shows rest fs
       → Shows (text ++ rest) (forms ++ fs)
 
--- what stands behind a field up to the line's end
+-- what stands after a field up to the line's end
 pub record IsRest (most : ℕ) (text : List ℕ) (forms : List Form) : Type 0 where
   pub short : length text ≤ most
   pub in_line : IsInLine text

@@ -57,7 +57,7 @@ abbrev pub IsPiece : Option TokenKind → List ℕ → List ℕ → Type 0
 IsPiece None text after = IsBlank text ⊎ IsComment text after
 IsPiece (Some kind) text after = IsTokenText kind text × Ends kind after
 
--- the line is these pieces, one behind another
+-- the line is these pieces, one after another
 abbrev pub IsCut : List (Option TokenKind × List ℕ) → List ℕ → Type 0
 IsCut [] line = line ≡ []
 IsCut (p ∷ pieces) line =
@@ -99,7 +99,7 @@ IsWrong at rest (NumberTooLarge p) =
     × (LARGEST_NUMBER < digits_value 10 (take_while is_digit rest))
 IsWrong at rest _ = ⊥
 
--- a line that stands at a place of the text goes wrong so behind these pieces
+-- a line that stands at a place of the text goes wrong so after these pieces
 abbrev pub GoesWrong : ℕ → List (Option TokenKind × List ℕ) → List ℕ → ScanFault → Type 0
 GoesWrong at [] line fault = IsWrong at line fault
 GoesWrong at (p ∷ pieces) line fault =
@@ -130,7 +130,7 @@ HasFault text fault = LinesFail 1 0 (slice_split is_newline text) fault
 
 -- ---- what follows
 
--- the tokens stand one behind another between two places
+-- the tokens stand one after another between two places
 abbrev pub Placed : ℕ → ℕ → List Token → Type 0
 Placed low high [] = low ≤ high
 Placed low high (t ∷ tokens) = (low ≤ t.at) × Placed (t.at + t.len) high tokens

@@ -99,17 +99,17 @@ scanned text = lines_from 1 0 (slice_split is_newline text)
 
 -- ---- for the steps of reading
 
--- what is read behind tokens that were read before
+-- what is read after tokens that were read before
 abbrev pub with_front : List Token → Result (List Token) ScanFault → Result (List Token) ScanFault
 with_front front read = read >>= λ tokens. Ok (front ++ tokens)
 
--- what was read stands behind the tokens that were there, unless memory was refused
+-- what was read stands after the tokens that were there, unless memory was refused
 abbrev pub Appends : {A : Type 0}
     → Result A ScanFault → List Token → List Token → Result (List Token) ScanFault → Type 0
 Appends (Ok x) old new read = with_front old read ≡ Ok new
 Appends (Err e) old new read = Fails is_refusal e read
 
--- the lines behind a newline, where there is one
+-- the lines after a newline, where there is one
 abbrev pub lines_behind : Option (List ℕ) → List (List ℕ)
 lines_behind None = []
 lines_behind (Some text) = slice_split is_newline text

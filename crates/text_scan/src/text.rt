@@ -68,7 +68,7 @@ pub fn scan(alloc: Global, text: &[u8]) -> Result<Vec<Token>, ScanFault>
     ensures spelled { IfOk result (λ v. All (IsSpelled text.now) v.items) }
 {
     let mut tokens = Vec::new(alloc);
-    // Wider than a place: behind the last newline that a text can have it is 2^32.
+    // Wider than a place: after the last newline that a text can have it is 2^32.
     let mut number: u64 = 1;
     let mut at = 0;
     let mut rest = text;

@@ -4,7 +4,7 @@ use Rattle.std.proofs.Common.{ℕ, ◌≤◌, length, slice_set}
 use Rattle.std.proofs.lemmas.List.{set_past}
 use Rattle.token_check.specs.Tokens.{Full, alike, equal_sets}
 
--- a place behind the last is not set
+-- a place after the last is not set
 pub stays : (s : Full) (i : ℕ) (b : Bool) → length s ≤ i → s ≡ slice_set s i b
 stays s i b h = sym (set_past s i b h)
 

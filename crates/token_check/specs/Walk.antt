@@ -1,4 +1,4 @@
--- Which tokens are full behind each statement and expression, in the order of evaluation, or the first rule
+-- Which tokens are full after each statement and expression, in the order of evaluation, or the first rule
 -- that is broken.
 use Rattle.std.specs.Prelude.{ℕ, true, false, if◌then◌else◌, List, [], ◌∷◌, Option, Some, None, Result}
 use Rattle.std.specs.Prelude.{Ok, Err, slice_set}
@@ -22,7 +22,7 @@ abbrev pub walk_on : {A B : Type 0} → Walked A → (A → Walked B) → Walked
 walk_on (Ok x) f = f x
 walk_on (Err e) f = Err e
 
--- the set behind a statement; None where nothing goes on
+-- the set after a statement; None where nothing goes on
 abbrev pub After : Type 0
 After = Option Full
 
@@ -44,7 +44,7 @@ joined at None b = Ok b
 joined at (Some s) None = Ok (Some s)
 joined at (Some s) (Some t) = if equal_sets s t then Ok (Some s) else Err (fault.Split at)
 
--- the body of a loop comes back with the set from before the test; behind the loop stands that after the test
+-- the body of a loop comes back with the set from before the test; after the loop stands that after the test
 unfoldable pub comes_back : ℕ → Full → Full → After → Walked After
 comes_back at before tested None = Ok (Some tested)
 comes_back at before tested (Some t) = if equal_sets before t then Ok (Some tested) else Err (fault.Split at)

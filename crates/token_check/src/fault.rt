@@ -22,7 +22,7 @@ pub enum TokenFault {
 }
 
 impl TokenFault {
-    /// Its number, behind those of the faults of texts, names and sizes: 12 for `Empty`, 13 `Full`,
+    /// Its number, after those of the faults of texts, names and sizes: 12 for `Empty`, 13 `Full`,
     /// 14 `Kept`, 15 `Split`, 16 `Dead`.
     pub fn number(self) -> u8
         ensures { result ≡ fault_number self }

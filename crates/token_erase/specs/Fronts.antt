@@ -4,13 +4,13 @@ use Rattle.proc_language.specs.declared.tree.Arg.{Arg}
 use Rattle.proc_language.specs.declared.tree.Arg.TheVariants.{Value, Proc}
 use Rattle.proc_language.specs.Tree.{Args, value, proc, Stmt, Block, stmt}
 
--- some arguments, and behind them the rest
+-- some arguments, and after them the rest
 abbrev pub args_before : List Arg → Args → Args
 args_before [] rest = rest
 args_before (Value e ∷ args) rest = value e (args_before args rest)
 args_before (Proc f ∷ args) rest = proc f (args_before args rest)
 
--- some statements, and behind them the rest
+-- some statements, and after them the rest
 abbrev pub stmts_before : List Stmt → Block → Block
 stmts_before [] rest = rest
 stmts_before (s ∷ stmts) rest = stmt s (stmts_before stmts rest)

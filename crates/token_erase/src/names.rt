@@ -18,7 +18,7 @@ pub(crate) fn name(alloc: Global, x: &Name) -> Result<Name, AllocError>
     })
 }
 
-/// Puts what there is behind the others.
+/// Puts what there is after the others.
 pub(crate) fn add<T: Drop>(list: &mut Vec<T>, next: Option<T>) -> Result<(), AllocError>
     ensures { IfOk result (λ _. list.new.items ≡ list.old.items ++ at_most_one next) }
 {

@@ -5,7 +5,7 @@ use Rattle.token_language.specs.declared.tree.TokenArg.TheVariants.{Value, Proc,
 use Rattle.token_language.specs.Tree.{size_of_args}
 use Rattle.token_language.specs.View.{args_of}
 
--- those behind one
+-- those after one
 pub rest_le : (arg : TokenArg) (rest : List TokenArg)
     → size_of_args (args_of rest) ≤ size_of_args (args_of (arg ∷ rest))
 rest_le (Value e) rest = omega arith

@@ -9,7 +9,7 @@ use Rattle.token_language.specs.Tree.{Expr, number, var, element, call, op, Args
 use Rattle.token_language.specs.Tree.{Stmt, set, set_at, do_call, if_then, if_else, while, return, halt}
 use Rattle.token_language.specs.Tree.{make, spend, Block, no_stmts, stmt}
 
--- ---- expressions: `proc` and a name has a value behind it, and a token has its name twice
+-- ---- expressions: `proc` and a name has a value after it, and a token has its name twice
 
 abbrev mutual
   kept : Expr → plain.Expr

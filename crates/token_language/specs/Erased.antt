@@ -31,7 +31,7 @@ abbrev mutual
   erased_args (token x args) = erased_args args
 
 abbrev mutual
-  -- a statement, and behind it the rest of its block
+  -- a statement, and after it the rest of its block
   pub erased_before : Stmt → plain.Block → plain.Block
   erased_before (set at end x e) b = plain.stmt (plain.set at x (erased_expr e)) b
   erased_before (set_at at end x i e) b = plain.stmt (plain.set_at at x (erased_expr i) (erased_expr e)) b

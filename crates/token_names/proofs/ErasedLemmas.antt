@@ -161,7 +161,7 @@ module _ (m : TokenModuleFields) (p : TokenProc) where
         both (handed_faults m p f) (args_faults m p args) (handed_free f) (args_free args) h
     args_free (token x args) h = args_free args (rest_free (token_faults p x) _ h)
 
-  -- a statement that stays, and what is behind it
+  -- a statement that stays, and what is after it
   stays : {hs ks : List NameFault} → Free hs → Free ks → Free (hs ++ ks)
   stays {hs} {ks} here rest = ap (λ l. l ++ ks) here ∙ rest
 

@@ -16,7 +16,7 @@ use Rattle.token_language.specs.declared.module.TokenModuleFields.{TokenModuleFi
 use Rattle.token_names.specs.TokenFaults.{is_plain}
 use Rattle.token_language.specs.Erased.{erased, erased_params, erased_locals, erased_proc}
 
--- behind one item more
+-- after one item more
 pub position-cons : {A : Type 0} (test : A → Bool) (x : A) (xs : List A)
     → position test (x ∷ xs) ≡ (if test x then Some 0 else option_map (λ i. i + 1) (position test xs))
 position-cons test x xs = by (test x)
@@ -46,7 +46,7 @@ pub shared_procs_index : (procs : List TokenProc) (f : Name)
     → shared_index (map erased_proc procs) f ≡ position (λ p. p.shared && same p.name f) procs
 shared_procs_index procs f = position-map (λ q. q.shared && same q.name f) erased_proc procs
 
--- what is found behind parameters and locals
+-- what is found after parameters and locals
 pub variable_else : (m : TokenModuleFields) (p : TokenProc) (x : Name)
     → index_of (λ q. q.name) (erased_params p.params) x ≡ None
     → index_of (λ y. y) (erased_locals p.locals) x ≡ None
@@ -62,7 +62,7 @@ variable_else m p x none free =
     ∙ sym (ap (λ found. or_else found (param_at (erased_params p.params)) (
     or_else (index_of (λ y. y) (erased_locals p.locals) x) variable_of.Local there)) none)
 
--- and behind callbacks
+-- and after callbacks
 pub callee_else : (m : TokenModuleFields) (p : TokenProc) (f : Name)
     → callback_index (erased_params p.params) f ≡ None
     → item_callee (λ q. q.name) m.imports m.globals m.procs f ≡ callee_named (erased m) (erased_proc p) f
@@ -84,7 +84,7 @@ taken_else m p f plain global =
     ap is_some (sym (procs_index m.procs f)) ∙ sym (ap (λ b. b || there) global)
     ∙ sym (ap (λ b. b || is_there (λ g. g.name) m.globals f || there) plain)
 
--- what is passed on, behind callbacks and imports
+-- what is passed on, after callbacks and imports
 pub passed_else : (m : TokenModuleFields) (p : TokenProc) (f : Name)
     → callback_index (erased_params p.params) f ≡ None → index_of (λ i. i.name) m.imports f ≡ None
     → (found : Option ℕ) → position (λ q. q.shared && same q.name f) m.procs ≡ found

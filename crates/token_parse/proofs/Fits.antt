@@ -30,13 +30,13 @@ use Rattle.proc_grammar.specs.Grammar.{IsText, Taken}
 use Rattle.proc_grammar.proofs.Offers.{Limits, Keeps, KeepsTokens, spelled_within}
 use Rattle.token_parse.specs.TokenTrees.{token_trees, token_makes, param_tokens}
 
--- arguments behind so many registers
+-- arguments after so many registers
 abbrev ArgsWithin : ℕ → List TokenArg → Type 0
 ArgsWithin used args =
     (used + limits.arg_registers (erased_args (args_of args)) ≤ MOST_REGISTERS)
     × ArgsFit (erased_args (args_of args))
 
--- parameters behind others
+-- parameters after others
 abbrev registers_behind : ℕ → List Param → ℕ
 registers_behind used params = fold (λ n (p : Param). n + limits.param_registers p.arity) used params
 
@@ -45,7 +45,7 @@ ParamsWithin used params =
     (registers_behind used.slots (erased_params params) ≤ MOST_REGISTERS)
     × Each ParamFits (erased_params params)
 
--- locals behind others
+-- locals after others
 abbrev LocalsWithin : Taken → List TokenLocal → Type 0
 LocalsWithin used locals =
     (used.slots + length (erased_locals locals) ≤ MOST_LOCALS) × Each NameFits (erased_locals locals)

@@ -91,7 +91,7 @@ handed_over : token_meaning (k (make 0 0 t ∷ halt 0 0 used ∷ []) ∷ []) 64 
 unfolding k main use_one used t named found main_target linked variable_named callee_named
 handed_over = refl
 
--- make t; return use(token t, 5); main ended too, and fails behind that since nothing called it
+-- make t; return use(token t, 5); main ended too, and fails after that since nothing called it
 spent : List Stmt
 spent = make 0 0 t ∷ return 0 0 used ∷ []
 

@@ -96,7 +96,7 @@ abbrev pub lowered : TokenModuleFields → TokenProc → ℕ → tree.Block → 
 lowered m p n b = block_view (steps_of (erased m) (erased_proc p) n b)
 
 module _ (modules : List TokenModuleFields) where
-  -- ---- behind statements and arguments: no place has a closure pair that takes tokens
+  -- ---- after statements and arguments: no place has a closure pair that takes tokens
 
   abbrev pub RPlaces : Running → (List Value → Store → Comp) → plain.Next → Type 0
   RPlaces r k k' = (env : List Value) → ValuesTakeNone modules env → RStore r (k env) (k' env)

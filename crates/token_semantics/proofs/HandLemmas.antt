@@ -28,7 +28,7 @@ held n (Some m ∷ holds) = one n m + held n holds
 abbrev at : Holds → ℕ → Option ℕ
 at holds i = slice_index_or holds i None
 
--- a set has places behind those of the tokens
+-- a set has places after those of the tokens
 pub look : (holds : Holds) (rest : Full) (i : ℕ) → i < length holds
     → is_full (full_of holds ++ rest) i ≡ is_some (at holds i)
 look [] rest i h = absurd (omega (arith, h))

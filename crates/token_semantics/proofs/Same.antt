@@ -133,7 +133,7 @@ place_same r (Some i) k k' h = h i
 
 -- they are those of this set, of so many tokens, and hold what they got and didn't spend or hand on
 pub record HandsAre (size : ℕ) (s : Full) (hands : Hands) : Type 0 where
-  -- the places of the set behind those of the tokens
+  -- the places of the set after those of the tokens
   pub rest : Full
   pub full : full_of hands.holds ++ rest ≡ s
   pub long : length hands.holds ≡ size

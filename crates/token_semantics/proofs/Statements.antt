@@ -185,7 +185,7 @@ module _ (modules : List TokenModuleFields) (accepted : All IsAccepted modules) 
       -- ---- statements
 
       mutual
-        -- a statement, and what stands behind it
+        -- a statement, and what stands after it
         stmt_same : (x : Stmt) (s : Full) (after : After) → StmtGoes tokens x s after → StmtFits m p x
             → (r : Running) (n : ℕ) (back : Along) (back' : plain.Then) → RBack size r back back'
             → (k : Next) (b : tree.Block) (k' : plain.Next)

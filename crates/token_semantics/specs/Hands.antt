@@ -17,7 +17,7 @@ pub record Ledger : Type 0 where
   pub next : ℕ
   -- the numbers that were spent
   pub spent : List ℕ
-  -- what each procedure had that ended by `return` or behind its last statement, when it did
+  -- what each procedure had that ended by `return` or after its last statement, when it did
   pub ended : List Hands
 
 abbrev pub no_numbers : Ledger

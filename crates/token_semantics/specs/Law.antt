@@ -47,7 +47,7 @@ pub record AreSpent (t : TokensTold) (plain : Told) : Type 0 where
   pub told : t.told ≡ plain
   -- no number is spent twice
   pub once : (n : ℕ) → count n t.ledger.spent ≤ 1
-  -- of each procedure that ended by `return` or behind its last statement
+  -- of each procedure that ended by `return` or after its last statement
   pub settled : All (IsSettled t.ledger) t.ledger.ended
 
 abbrev pub TokensAreSpent : Type 0

@@ -49,11 +49,11 @@ Then = ℤ → Store → Comp
 abbrev pub Along : Type 0
 Along = Hands → ℤ → Store → Comp
 
--- what goes on behind arguments: the numbers that are handed over, and the values
+-- what goes on after arguments: the numbers that are handed over, and the values
 abbrev pub WithArgs : Type 0
 WithArgs = Hands → List ℕ → List Value → Store → Comp
 
--- what goes on behind a statement
+-- what goes on after a statement
 abbrev pub Next : Type 0
 Next = Hands → List Value → Store → Comp
 
@@ -104,12 +104,12 @@ resumed c part site base left v st =
     if bytes_eq part c.part && (site == c.site) && (base == c.base) && is_given left c.given
     then c.resume v st else fails))
 
--- ---- the end of a procedure, by `return` or behind its last statement
+-- ---- the end of a procedure, by `return` or after its last statement
 
 abbrev pub finish : ℕ → Then → Along
 finish need k hands v st = leave hands (ticks (1 + need) (k v st))
 
--- ---- the number of the next call, behind a statement
+-- ---- the number of the next call, after a statement
 
 abbrev pub behind : ℕ → Stmt → ℕ
 behind n (set at end x e) = n + calls (erased_expr e)
@@ -190,7 +190,7 @@ module _ (modules : List TokenModuleFields) where
         give_at (token_at s.tokens x) hands
         (λ m hands. args l s env n xs (λ hands ns vs. k hands (m ∷ ns) vs) hands st)
 
-  -- ---- statements: `back` is what `return` goes on with, `k` what stands behind
+  -- ---- statements: `back` is what `return` goes on with, `k` what stands after
 
   abbrev mutual
     pub stmt_of : Level → Scope → ℕ → Stmt → Along → Next → Next

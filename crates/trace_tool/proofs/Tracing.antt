@@ -12,7 +12,7 @@ use Rattle.outside_io.proofs.Offers.{pieces_none, pieces_then, pieces_fail, fail
 use Rattle.linked_starts.specs.Started.{StartSeen}
 use Rattle.overlay_machine.specs.declared.overlay.OEnd.{OEnd}
 use Rattle.overlay_machine.specs.declared.overlay.OStep.TheVariants.{Went, Halted, Failed}
-use Rattle.overlay_machine.specs.Step.{Ending, goes, halts, fails, overlay_step}
+use Rattle.overlay_machine.specs.Step.{Ending, goes, halts, fails, overlay_step, weight_of}
 use Rattle.overlay_machine.specs.Seen.{OverlaySeen, moved, next_by, next_overlay, ending_answer, end_answer}
 use Rattle.overlay_machine.specs.Seen.{answer_by, answer_of, IsOverlayOf}
 use Rattle.run_lines.specs.declared.run.RunEnd.{RunEnd}
@@ -51,6 +51,11 @@ pub went_weight : (o : OverlaySeen) (event : Option Event) → answer_of o ≡ W
     → (next_overlay o).weight ≡ weight_with o
 unfolding next_overlay answer_of
 went_weight o event a = weight_by_end o o.end event a
+
+-- the two weights, as the run has them, are within its limit
+pub fits_with : (limit : ℕ) (o : OverlaySeen) {sum next weight : ℕ} → sum ≡ o.weight
+    → next ≡ weight_of o.layout o.state → weight ≡ next → sum + weight ≤ limit → weight_with o ≤ limit
+fits_with limit o s n w le = omega (arith, s, n, w, le)
 
 -- no step adds more than its weight
 most_by_ending : (o : OverlaySeen) (e : Ending) → (moved e o).weight ≤ weight_with o
@@ -251,7 +256,7 @@ module _ (limit : ℕ) (o : OverlaySeen) (sink : SinkSeen) where
             (fail_more seen seen2 _ (pieces_of (traced limit s.0 next)) f)));
       }
 
-  -- a last line was written behind the others, or not
+  -- a last line was written after the others, or not
   ends : (now : OverlaySeen) (seen : SinkSeen) (new : OverlaySeen) (seen2 : SinkSeen) (line : List ℕ)
       (end result : RunEnd)
       → (g : Going now seen)

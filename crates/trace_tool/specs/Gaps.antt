@@ -25,7 +25,7 @@ IsGap sites g = All (λ s. has g (pos (last_word s)) ≡ false) sites
 abbrev pub AreWithin : Gap → Run → ℕ → Type 0
 AreWithin g r n = (k : ℕ) → k < n → within g.from g.to (plain k r) ≡ true
 
--- around an address, or right behind it
+-- around an address, or right after it
 abbrev pub IsAround : ℕ → Gap → Type 0
 IsAround a g = (g.from ≤ a + 1) × (a < g.to)
 
@@ -36,7 +36,7 @@ gap_address (negsuc n) = 0
 
 -- ---- between two sites
 
--- the address behind the site before a place
+-- the address after the site before a place
 abbrev pub behind : List Site → ℕ → ℕ
 behind sites zero = 0
 behind sites (suc k) = last_word (slice_index_or sites k no_site) + 1

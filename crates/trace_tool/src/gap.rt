@@ -35,7 +35,7 @@ fn last_word(site: &Site) -> u64
     u64::from(site.at) + u64::from(CALL_WORDS + RETURN_WORDS - 1)
 }
 
-// The address behind the site before a place, and 0 where there is none.
+// The address after the site before a place, and 0 where there is none.
 fn behind(sites: &[Site], place: usize) -> u64
     requires { place ≤ length sites.now }
     ensures { result ≡ behind sites.now place }
@@ -72,7 +72,7 @@ fn gap_in(sites: &[Site], at: u64) -> Gap
     }
 }
 
-/// The addresses around pc's, or right behind it, at which no site ends: found by halving. Where pc has
+/// The addresses around pc's, or right after it, at which no site ends: found by halving. Where pc has
 /// no address they are those around 0.
 #[inline(never)]
 #[tactic(auto, unfolding(crate::specs::Gaps::gap_address))]

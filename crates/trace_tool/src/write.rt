@@ -1,5 +1,5 @@
 //! The text of a line, written in pieces, one write for each: those of calls and returns in their head, each
-//! word behind a blank, and the newline, and every other line in one.
+//! word after a blank, and the newline, and every other line in one.
 ghost use Rattle.std.specs.Prelude.{◌≡◌, ◌+◌, ◌-◌, ◌^◌, ◌<◌, ◌≤◌, ◌++◌, List, [], ◌∷◌, length, codes};
 ghost use Rattle.std.specs.Prelude.{decimal};
 ghost use Rattle.arrayvec.specs.ArrayVec.{array_vec_len};
@@ -76,7 +76,7 @@ fn push_word<V: Shown>(head: &mut Head, view: &V, r: Reg)
     push_field(head, view.text(r).as_str().as_bytes());
 }
 
-// Appends the words of a0 to a3, each behind a blank.
+// Appends the words of a0 to a3, each after a blank.
 #[tactic(auto, unfolding(run_lines::specs::Texts::args_text))]
 fn push_args<V: Shown>(head: &mut Head, view: &V)
     requires { array_vec_len head.old + 516 ≤ ROOM }
@@ -163,7 +163,7 @@ pub(crate) fn write<S: Sink>(out: &mut S, piece: &[u8]) -> Result<(), Failed>
     out.write(piece)
 }
 
-// Writes a word's text as a piece, behind a blank.
+// Writes a word's text as a piece, after a blank.
 fn write_word<S: Sink>(out: &mut S, text: &[u8]) -> Result<(), Failed>
     requires { length text.now ≤ 128 }
     ensures { Writes (S.seen out.old) (field text.now ∷ []) result (S.seen out.new) }
@@ -392,7 +392,7 @@ fn write_pass<V: Shown, S: Sink>(start: &Start, view: &V, out: &mut S) -> Result
     }
 }
 
-// Writes what stands behind the line of an event.
+// Writes what stands after the line of an event.
 fn write_behind<V: Shown, S: Sink>(
     start: &Start,
     view: &V,

@@ -46,8 +46,12 @@ fn second_call_fails(rt: &impl Abort, files: &mut MemFiles) -> Result<(), AllocE
         files.put("b", b"y"),
     );
     assert_eq!(rt; calls, (Ok(1), Err(Failed), Ok(())));
-    assert_eq!(rt; files.counts().failed_puts(), 1);
-    assert_eq!(rt; files.counts().last_failed_put(), "b");
+    let counts = files.counts();
+    assert_eq!(rt;
+        (counts.reads(), counts.puts(), counts.failed_puts()),
+        (1, 2, 1)
+    );
+    assert_eq!(rt; counts.last_failed_put(), "b");
     Ok(())
 }
 

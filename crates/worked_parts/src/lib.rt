@@ -54,7 +54,7 @@ move t2 0
 xjmp c1 c2
 ";
 
-/// The return that stands behind a call. The part's instruction `fail` is at the label `stop`.
+/// The return that stands after a call. The part's instruction `fail` is at the label `stop`.
 pub const RETURN: &str = "\
 splice stk stk data
 getb t1 stk
@@ -139,7 +139,7 @@ fn push_piece(text: &mut String, piece: Piece) -> Result<(), AllocError>
     }
 }
 
-/// The text of some pieces, one behind the other; an error is refused memory.
+/// The text of some pieces, one after the other; an error is refused memory.
 pub fn text(alloc: Global, pieces: &[Piece]) -> Result<String, AllocError>
     ensures { IfOk result (λ t. string_bytes t ≡ pieces_text pieces.now) }
 {

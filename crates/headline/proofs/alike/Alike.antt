@@ -237,7 +237,7 @@ module _ (g : Link) (linked : Linked g) where
         ap (λ (r : Run). let w : Watched = record { run = r; inward = (watched l first j).inward } in w)
         (ran (fresh t) j ∙ at)
 
-    -- behind a matched point, the lines of so many instructions more
+    -- after a matched point, the lines of so many instructions more
     more : (j k : ℕ) (ls : List Line) (p : OState) → Reached l o j p → lines_of l first j ≡ ls
         → (ms : List Line)
         → ((u : State Word) (inward : Bool) → Invariant g p u → lines_of l (at_state u j inward) k ≡ ms)

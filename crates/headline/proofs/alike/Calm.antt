@@ -66,7 +66,7 @@ steps_to : (s t : State Word) (n : ℕ) (inward : Bool) → step_of id id s ≡ 
 unfolding next_state
 steps_to s t n inward e = ap (λ r. moved r (at_state s n inward).run) e
 
--- whether the last `xjmp` that went stood in trusted code stays behind a quiet one
+-- whether the last `xjmp` that went stood in trusted code stays after a quiet one
 pub quiet_next : (l : Layout) (s t : State Word) (n : ℕ) (inward : Bool) → IsQuiet l s
     → step_of id id s ≡ went t → watched_next l (at_state s n inward) ≡ at_state t (n + 1) inward
 quiet_next l s t n inward q e =

@@ -1,4 +1,4 @@
--- The word behind a call of a return pair: it is the first of a return, and touches no address of the stack.
+-- The word after a call of a return pair: it is the first of a return, and touches no address of the stack.
 use Rattle.std.proofs.Common.{◌≡◌, inl, inr, ℕ, ◌+◌, ◌-◌, ◌≤◌, ℤ, pos, negsuc, Some, None, refl, sym, ap, ◌∙◌}
 use Rattle.std.proofs.Common.{arith}
 use Rattle.std.specs.Prelude.{nat_le}

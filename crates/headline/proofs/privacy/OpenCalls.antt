@@ -63,7 +63,7 @@ module _ (parts : List PartSeen) (size : ℕ) (s : StartSeen)
   abbrev first : OState
   first = (overlay_at s).state
 
-  -- what is open behind n instructions is what the frames of the last matched point tell
+  -- what is open after n instructions is what the frames of the last matched point tell
   pub open_are : (n j : ℕ) (p : OState) → Matched s j p → j ≤ n → n < j + weight_of l p
       → open_behind [] (written s n) ≡ lines_told l p.frames
   open_are n j p reach le lt =
@@ -72,7 +72,7 @@ module _ (parts : List PartSeen) (size : ℕ) (s : StartSeen)
       ap (λ (r : Run). lines_of l (begun r) n) is ∙ agree.between j n told.0 p told.1 le lt in
       ap (open_behind []) same ∙ open_is [] _ told.0 (brackets j told.0 p told.1)
 
-  -- the instruction behind n others, from the last matched point on
+  -- the instruction after n others, from the last matched point on
   after_is : (n : ℕ) (v : State Word) → plain_run n s.state.maps ≡ went v → after s n ≡ v
   after_is n v e = ap (λ (r : Run). r.maps) (state_is s is alone runs n v e)
 

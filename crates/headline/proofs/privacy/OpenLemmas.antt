@@ -1,4 +1,4 @@
--- What is open behind lines is what their brackets leave open, and each ret line closes the newest.
+-- What is open after lines is what their brackets leave open, and each ret line closes the newest.
 use Rattle.std.proofs.Common.{◌≡◌, ℕ, Bool, List, [], ◌∷◌, ◌++◌, refl}
 use Rattle.cap_words.specs.declared.Word.{Word}
 use Rattle.overlay_machine.specs.Brackets.{Brackets, at_end, one_opens, one_closes}

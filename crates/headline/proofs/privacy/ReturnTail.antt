@@ -1,4 +1,4 @@
--- An `xjmp` of a return pair, and the ten words behind it, whatever they do: of the stack they touch the
+-- An `xjmp` of a return pair, and the ten words after it, whatever they do: of the stack they touch the
 -- first address of the newest frame alone, by the two instructions that read and wipe it.
 use Rattle.std.proofs.Common.{◌≡◌, inl, inr, ℕ, suc, ◌+◌, ◌<◌, ◌≤◌, ℤ, true, List, ◌∷◌, Option, Some, None}
 use Rattle.std.proofs.Common.{refl, sym, ap, ◌∙◌, subst, arith, eqb-true}
@@ -45,7 +45,7 @@ use Rattle.headline.proofs.privacy.TouchAt.{not_failed, first_step, untouched_at
 use Rattle.headline.proofs.privacy.SequencesSpare.{apart_spares, off_spares}
 use Rattle.headline.proofs.privacy.OwnReturn.{IsFirstUsed, own_only}
 
--- an address that an instruction behind an `xjmp` touches is the first of the newest frame, and the
+-- an address that an instruction after an `xjmp` touches is the first of the newest frame, and the
 -- instruction is the one of its site's return that loads it or that wipes it; the `xjmp` was of the pair of
 -- that frame's call, and stk was the stack below the frame
 pub record OwnTouch (l : Layout) (o : OState) (t v : State Word) (a word : ℕ) : Type 0 where
@@ -160,7 +160,7 @@ module _ (l : Layout) (r1 r2 : Reg) (o : OState) (t : State Word) (rd : AtReturn
     unfolding flat
     code_flat = ap (flat l o.frames) e1 ∙ ap Rattle.overlay_machine.specs.Flat.flat_code p.site_is
 
-    -- behind the `xjmp`
+    -- after the `xjmp`
     abbrev pub U : State Word
     U = s1 l r1 r2 o t rd m k i e1 S p.site_is code_opened p.call p.data_is F p.frame_is p.its_site
         (ap opened_of data_flat) data_flat p.same

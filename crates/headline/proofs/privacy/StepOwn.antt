@@ -50,7 +50,7 @@ module _ (g : Link) (linked : Linked g) (o : OState) (t : State Word) (inv : Inv
   abbrev here : (l.stack.base ≤ a) × (a ≤ l.stack.end) × (cell o.maps.cells a ≡ None)
   here = where_is g linked o t inv a w fa
 
-  -- an instruction behind so many others of the step
+  -- an instruction after so many others of the step
   module _ (i : ℕ) (v : State Word) (ran : run_of id id i t ≡ went v) (x : Touches id v a) where
     abbrev Own : Type 0
     Own = (word : ℕ) × (i ≡ suc word) × OwnTouch l o t v a word

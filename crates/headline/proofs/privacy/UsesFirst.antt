@@ -35,7 +35,7 @@ module _ (l : Layout) (r1 r2 : Reg) (o : OState) (t : State Word) (rd : AtReturn
     same = refl;
   }
 
-  -- the load of its return comes behind the `xjmp` and so many words
+  -- the load of its return comes after the `xjmp` and so many words
   pub uses_first : (v : State Word) × (run_of id id (1 + load_word) t ≡ went v) × Touches id v x.frame.base
   uses_first =
       let s = rd.frames x.frame x.older x.frames_are in

@@ -1,4 +1,4 @@
--- What is open behind the lines of a run: ranges that lie apart, in which each address has a cell.
+-- What is open after the lines of a run: ranges that lie apart, in which each address has a cell.
 use Rattle.std.proofs.Common.{◌≡◌, ℕ, ◌<◌, ◌≤◌, List, [], ◌∷◌, ◌++◌, Option, Some, None, refl}
 use Rattle.std.proofs.Common.{sym, ap, ◌∙◌, subst, arith, IsSome, is_some}
 use Rattle.std.specs.List.{Contains}
@@ -28,7 +28,7 @@ use Rattle.headline.proofs.Agreeing.{HaltsAlone, agrees}
 use Rattle.headline.proofs.privacy.OpenCalls.{open_are}
 use Rattle.headline.proofs.privacy.FramesTold.{frame_of_call}
 
--- lines behind others
+-- lines after others
 pub open_then : (opened : List LineTold) (xs ys : List Line)
     → open_behind opened (xs ++ ys) ≡ open_behind (open_behind opened xs) ys
 open_then opened [] ys = refl

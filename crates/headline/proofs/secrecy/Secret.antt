@@ -56,7 +56,7 @@ module _ (s : StartSeen) (calls : CallsAreKept s)
       abbrev apart : ℕ → Type 0
       apart = InRanges cs
 
-      -- the instruction behind n + k others doesn't use these ranges
+      -- the instruction after n + k others doesn't use these ranges
       no_use : (k : ℕ) (u : State Word) (q : Run) → StayOpen s n (suc k) cs
           → OfNoUse apart (plain (n + k) s.state) q
       no_use k u q h goes = (
@@ -94,7 +94,7 @@ module _ (s : StartSeen) (calls : CallsAreKept s)
 
       -- ---- lines
 
-      -- the run watched behind n + m instructions, and the other one
+      -- the run watched after n + m instructions, and the other one
       abbrev W : ℕ → Watched
       W m = watched l (begun s.state) (n + m)
 

@@ -1,4 +1,4 @@
--- The instance: its call stays open from behind its `xjmp` to the load of its return.
+-- The instance: its call stays open from after its `xjmp` to the load of its return.
 use Rattle.call_sequence.specs.declared.TheConstants.{CALL_WORDS}
 use Rattle.call_sequence.specs.Sequences.{load_word, wipe_word}
 use Rattle.std.proofs.Common.{◌≡◌, inl, inr, ℕ, zero, suc, ◌+◌, ◌-◌, ◌<◌, ◌≤◌, [], ◌∷◌, Some, None}
@@ -85,7 +85,7 @@ module _ (h : HoldsFor pair 4 (overlay_at start) start.state.maps) (alone : Halt
   after_is : (n : ℕ) (v : State Word) → plain_run n start.state.maps ≡ went v → after start n ≡ v
   after_is n v e = ap (λ (r : Run). r.maps) (state_is start fresh_is alone runs n v e)
 
-  -- at the call, and behind its `xjmp`
+  -- at the call, and after its `xjmp`
   before_call : (u : State Word) × (plain_run to_call start.state.maps ≡ went u) × Calm L (CALL_WORDS - 1) u
   before_call =
       let at = matched g h.linked o0 start.state.maps h.holds to_call o4

@@ -1,4 +1,4 @@
--- Each import names an entry of a part; its two words come behind those of the imports before.
+-- Each import names an entry of a part; its two words come after those of the imports before.
 use Rattle.std.proofs.Common.{◌≡◌, ◌+◌, length, sym, ap, ◌∙◌, arith}
 use Rattle.linked_starts.specs.Start.{from}
 use Rattle.linked_starts.proofs.Offers.{entry_kept, item_at, not_none, slots_end, slots_laid, slots_upto}

@@ -1,4 +1,4 @@
--- A site is listed behind those before it; where the part has no more, or isn't trusted, its sites are all
+-- A site is listed after those before it; where the part has no more, or isn't trusted, its sites are all
 -- listed.
 use Rattle.std.proofs.Common.{◌+◌, get_or, length, refl, sym, ap, ◌∙◌, arith, None}
 use Rattle.std.specs.Prelude.{slice_get}

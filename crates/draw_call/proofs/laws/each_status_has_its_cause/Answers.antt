@@ -1,4 +1,4 @@
-use Rattle.draw_call.proofs.Caused.{caused}
+use Rattle.draw_call.proofs.Due.{caused}
 use Rattle.draw_call.proofs.laws.each_status_has_its_cause.Goals as goal
 
 pub returns : goal.returns

@@ -7,12 +7,10 @@ use Rattle.draw_call.proofs.words.file_of.Goals as goal
 
 pub returns-in-Some : goal.returns-in-Some
 returns-in-Some c =
-    let f = found_of c.args.matches.now in
     c.new.ensures ∙ ap file_of (ap (option_map (λ w. w.now)) (sym c.in-Some.is) ∙ c.get_str.ensures
-    ∙ first_value-rows f c.args.option.now)
+    ∙ first_value-rows (found_of c.args.matches.now) c.args.option.now)
 
 pub returns-in-None : goal.returns-in-None
 returns-in-None c =
-    let f = found_of c.args.matches.now in
     ap file_of (ap (option_map (λ w. w.now)) (sym c.in-None.is) ∙ c.get_str.ensures
-    ∙ first_value-rows f c.args.option.now)
+    ∙ first_value-rows (found_of c.args.matches.now) c.args.option.now)

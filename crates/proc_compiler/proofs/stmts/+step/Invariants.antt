@@ -1,10 +1,9 @@
-use Rattle.std.proofs.Common.{◌≡◌, ◌≤◌, ◌+◌, ◌*◌, length, drop}
+use Rattle.std.proofs.Common.{◌≤◌, ◌+◌, ◌*◌, drop}
 use Rattle.proc_program.specs.Program.{step_size, block_size}
 use Rattle.proc_program.specs.StepView.{block_of}
-use Rattle.proc_program.specs.Calls.{block_calls}
-use Rattle.proc_templates.specs.Templates.{block_words, block_code}
+use Rattle.proc_templates.specs.Templates.{block_words}
 use Rattle.proc_templates.specs.Bounds.{BlockBound}
-use Rattle.proc_compiler.specs.Drafts.{with_items}
+use Rattle.proc_compiler.proofs.Loops.{Left}
 use Rattle.proc_compiler.proofs.stmts.+step.Given as goal
 
 abbrev pub decreases-step : goal.decreases-step
@@ -22,13 +21,7 @@ decreases-block l = 2 * block_size (block_of l.steps.now)
 -- what is written, and what is left to write
 abbrev pub invariant-block-loop-s : goal.invariant-block-loop-s
 invariant-block-loop-s l = record {
-  told : with_items (block_code l.f (block_of (drop l.s-index l.steps))) l.draft ≡ with_items
-      (block_code l.f (block_of l.steps)) l.fn.draft;
-  grown : length l.draft.laid.code + block_words
-      (block_of (drop l.s-index l.steps)) ≡ length l.fn.draft.laid.code + block_words (block_of l.steps);
-  sited : length l.draft.laid.sites + block_calls
-      (block_of (drop l.s-index l.steps)) ≡ length l.fn.draft.laid.sites + block_calls (block_of l.steps);
-  kept : l.draft.seals ≡ l.fn.draft.seals;
+  left : Left l.f (drop l.s-index l.steps) l.steps l.fn.draft l.draft;
   fits : BlockBound l.f (block_of (drop l.s-index l.steps));
   fewer : block_words (block_of (drop l.s-index l.steps)) ≤ block_words (block_of l.steps);
   smaller : block_size (block_of (drop l.s-index l.steps)) ≤ block_size (block_of l.steps);

@@ -1,19 +1,32 @@
-use Rattle.std.proofs.Common.{◌+◌, pos, [], sym, ap, ap₂, ◌∙◌, reverse}
+use Rattle.std.proofs.Common.{◌≡◌, ℕ, ◌+◌, pos, List, [], Option, Some, sym, ap, ap₂, ◌∙◌, reverse}
 use Rattle.std.specs.Option.{option_copied}
 use Rattle.std.specs.Prelude.{option_map}
+use Rattle.proc_program.specs.declared.program.Procedure.{Procedure}
 use Rattle.proc_program.specs.StepView.{block_of}
 use Rattle.proc_meaning.specs.declared.places.Run.{Run}
 use Rattle.proc_meaning.specs.declared.work.Now.TheVariants as now
 use Rattle.proc_meaning.specs.declared.work.Work.TheVariants.{Ends, Rest}
+use Rattle.proc_semantics.specs.declared.value.Target.{Target}
+use Rattle.proc_semantics.specs.declared.value.Register.{Register}
 use Rattle.proc_semantics.specs.Told.{ticks}
-use Rattle.proc_semantics.specs.Values.{taken}
-use Rattle.proc_semantics.specs.Meaning.{Next, block, body_of, finish, proc_of, with_place}
+use Rattle.proc_semantics.specs.Values.{World, Store, proc_at, taken}
+use Rattle.proc_semantics.specs.Meaning.{Then, Next, block, body_of, enough, finish, proc_of, with_place}
 use Rattle.proc_semantics.specs.Whole.{whole}
 use Rattle.proc_meaning.specs.Rest.{after, back, ended}
 use Rattle.proc_meaning.proofs.Works.{pushed, kept, reversed, as_many_as}
 use Rattle.proc_meaning.proofs.Endings.{after_ends, back_ends}
 use Rattle.proc_semantics.proofs.Offers.{recursive}
 use Rattle.proc_meaning.proofs.ends.begin.Goals as goal
+
+begun : (world : World) (t : Target) (left : Option ℕ) (rs : List Register) (k : Then) (st : Store)
+    (p : Procedure) {o : Option ℕ} → proc_at world t ≡ Some p → enough p.need left ≡ o
+    → (whole world).proc t left rs k st ≡ ticks (1 + p.need) (with_place o
+    (λ left. body_of world (whole world) t.home left p (taken [] p.callbacks rs) k st))
+begun world t left rs k st p at is =
+    (recursive world).procs t left rs k st
+    ∙ ap (λ q. proc_of world (whole world) t.home q left rs k st) at
+    ∙ ap (λ o. ticks (1 + p.need) (with_place o
+    (λ left. body_of world (whole world) t.home left p (taken [] p.callbacks rs) k st))) is
 
 pub returns-in_default-clause-same : goal.returns-in_default-clause-same
 returns-in_default-clause-same c st =
@@ -37,12 +50,7 @@ returns-clause-same c st =
     } in
     let f = r.frame in
     let one = c.push.new.self.items in
-    (recursive world).procs t left rs k st
-    ∙ ap (λ p. proc_of world (whole world) t.home p left rs k st)
-    (sym c.proc_at.ensures ∙ ap option_copied c.in-Some.is)
-    ∙ ap
-    (λ o. ticks (1 + p.need) (with_place o
-    (λ left. body_of world (whole world) t.home left p (taken [] p.callbacks rs) k st)))
+    begun world t left rs k st p (sym c.proc_at.ensures ∙ ap option_copied c.in-Some.is)
     (sym c.enough.ensures ∙ c.in-Some-enough.is)
     ∙ ap (λ o. ticks (1 + p.need) (body_of world (whole world) t.home words p o k st))
     (sym (c.in_ok-env.ensures ∙ ap (λ l. taken [] l rs) c.as_slice.ensures)
@@ -68,12 +76,7 @@ returns-in_default-enough-clause-same c st =
     let items = c.args.work.now.items in
     let k = ended world c.args.whence (reverse items) in let p = c.in-Some.proc.now in
     let n = c.sum-ticks.result in
-    (recursive world).procs t left rs k st
-    ∙ ap (λ p. proc_of world (whole world) t.home p left rs k st)
-    (sym c.proc_at.ensures ∙ ap option_copied c.in-Some.is)
-    ∙ ap
-    (λ o. ticks (1 + p.need) (with_place o
-    (λ left. body_of world (whole world) t.home left p (taken [] p.callbacks rs) k st)))
+    begun world t left rs k st p (sym c.proc_at.ensures ∙ ap option_copied c.in-Some.is)
     (sym c.enough.ensures ∙ c.in_default-enough.is)
     ∙ as_many_as p.need n _ c.sum-ticks.ensures
     ∙ ap (ticks n) (sym (kept world now.Fail items c.args.run.now st))
@@ -85,12 +88,7 @@ returns-in_default-2-clause-same c st =
     let items = c.args.work.now.items in
     let k = ended world c.args.whence (reverse items) in let p = c.in-Some.proc.now in
     let n = c.sum-ticks.result in
-    (recursive world).procs t left rs k st
-    ∙ ap (λ p. proc_of world (whole world) t.home p left rs k st)
-    (sym c.proc_at.ensures ∙ ap option_copied c.in-Some.is)
-    ∙ ap
-    (λ o. ticks (1 + p.need) (with_place o
-    (λ left. body_of world (whole world) t.home left p (taken [] p.callbacks rs) k st)))
+    begun world t left rs k st p (sym c.proc_at.ensures ∙ ap option_copied c.in-Some.is)
     (sym c.enough.ensures ∙ c.in-Some-enough.is)
     ∙ ap (λ o. ticks (1 + p.need) (body_of world (whole world) t.home c.in-Some-enough.words p o k st))
     (sym (c.in_ok-env.ensures ∙ ap (λ l. taken [] l rs) c.as_slice.ensures)

@@ -1,10 +1,9 @@
-use Rattle.std.proofs.Common.{◌≤◌, ◌+◌, sym, ◌∙◌, ap, subst, arith, ◌∷◌, drop}
+use Rattle.std.proofs.Common.{◌≤◌, ◌+◌, refl, subst, arith, ◌∷◌, drop}
 use Rattle.token_language.specs.Tree.{block_size}
 use Rattle.token_language.specs.StmtView.{block_of}
-use Rattle.proc_names.specs.Faults.{first, earlier}
 use Rattle.token_names.specs.TokenFaults.{stmt_faults, block_faults}
 use Rattle.proc_language.proofs.Offers.{drop_item}
-use Rattle.proc_names.proofs.Offers.{first_step}
+use Rattle.proc_names.proofs.Offers.{item_found}
 use Rattle.token_names.proofs.uses.+stmt.Goals as goal
 
 pub block_fault-loop-s-preserved : goal.block_fault-loop-s-preserved
@@ -14,17 +13,13 @@ block_fault-loop-s-preserved t c =
     let p = c.args.p.now in
     let s = c.s-item.result in
     let stmts = c.args.stmts.now in
-    let next = drop_item stmts i s c.loop-s-test.true c.s-item.is in
-    let found = c.loop-s.found in
     record {
-      told =
-          ap (λ f. earlier f (first (block_faults m p (block_of (drop (i + 1) stmts)))))
-          (c.earlier-found.ensures ∙ ap (earlier found) c.stmt_fault.ensures)
-          ∙ first_step found (stmt_faults m p s) (block_faults m p (block_of (drop (i + 1) stmts)))
-          ∙ ap (λ ss. earlier found (first (block_faults m p (block_of ss)))) (sym next)
-          ∙ c.loop-s.invariant.told;
+      told = item_found (λ ss. block_faults m p (block_of ss)) (stmt_faults m p s) stmts i s
+          c.loop-s.found c.loop-s-test.true c.s-item.is refl c.earlier-found.ensures c.stmt_fault.ensures
+          c.loop-s.invariant.told;
       smaller =
           let whole = block_size (block_of stmts) in
+          let next = drop_item stmts i s c.loop-s-test.true c.s-item.is in
           let h : block_size (block_of (s ∷ drop (i + 1) stmts)) ≤ whole =
           subst (λ ss. block_size (block_of ss) ≤ whole) next c.loop-s.invariant.smaller in
           omega (arith, h);

@@ -40,10 +40,8 @@ noted_turn-requires g c =
     let h = going_on c.args.start.now _ c.turns.done c.turns.start c.turns.inward _ c.turns.gap
     c.turns.invariant.1 c.turns.invariant.2 c.stretch-made.result.0 c.stretch-made.new.start
     c.stretch-made.ensures.within c.stretch-made.ensures.state (sym c.stretch-made.ensures.last ∙ e) in
-    let most = c.turns.invariant.0 in
-    let some = c.stretch-made.ensures.most in
     let lt : c.turns.done + c.stretch-made.result.0 < c.args.steps =
-    omega (arith, most, some, c.if-done-steps.false) in
+    omega (arith, c.turns.invariant.0, c.stretch-made.ensures.most, c.if-done-steps.false) in
     let few = h.gone.count in
     let room = c.requires.count in
     omega (arith, few, room, lt)
@@ -54,10 +52,8 @@ returns-then-ne-2 g c =
     let h = going_on c.args.start.now _ c.turns.done c.turns.start c.turns.inward _ c.turns.gap
     c.turns.invariant.1 c.turns.invariant.2 c.stretch-made.result.0 c.stretch-made.new.start
     c.stretch-made.ensures.within c.stretch-made.ensures.state (sym c.stretch-made.ensures.last ∙ e) in
-    let most = c.turns.invariant.0 in
-    let some = c.stretch-made.ensures.most in
     let lt : c.turns.done + c.stretch-made.result.0 < c.args.steps =
-    omega (arith, most, some, c.if-done-steps.false) in
+    omega (arith, c.turns.invariant.0, c.stretch-made.ensures.most, c.if-done-steps.false) in
     ends_early c.args.start.now _ (c.turns.done + c.stretch-made.result.0) c.args.steps
     c.stretch-made.new.start c.turns.inward _ c.noted_turn.new.start _ _ c.in-Ok.step _
     c.end_run-then-ne-2.result h lt
@@ -70,10 +66,8 @@ returns-in-Err g c =
     let h = going_on c.args.start.now _ c.turns.done c.turns.start c.turns.inward _ c.turns.gap
     c.turns.invariant.1 c.turns.invariant.2 c.stretch-made.result.0 c.stretch-made.new.start
     c.stretch-made.ensures.within c.stretch-made.ensures.state (sym c.stretch-made.ensures.last ∙ e) in
-    let most = c.turns.invariant.0 in
-    let some = c.stretch-made.ensures.most in
     let lt : c.turns.done + c.stretch-made.result.0 < c.args.steps =
-    omega (arith, most, some, c.if-done-steps.false) in
+    omega (arith, c.turns.invariant.0, c.stretch-made.ensures.most, c.if-done-steps.false) in
     line_fails c.args.start.now _ (c.turns.done + c.stretch-made.result.0) c.args.steps
     c.stretch-made.new.start c.turns.inward _ c.noted_turn.new.start _ h lt c.in-Err.ensures.state
     c.in-Err.ensures.line
@@ -90,10 +84,8 @@ turns-preserved g c =
     let h = going_on c.args.start.now _ c.turns.done c.turns.start c.turns.inward _ c.turns.gap
     c.turns.invariant.1 c.turns.invariant.2 c.stretch-made.result.0 c.stretch-made.new.start
     c.stretch-made.ensures.within c.stretch-made.ensures.state (sym c.stretch-made.ensures.last ∙ e) in
-    let most = c.turns.invariant.0 in
-    let some = c.stretch-made.ensures.most in
     let lt : c.turns.done + c.stretch-made.result.0 < c.args.steps =
-    omega (arith, most, some, c.if-done-steps.false) in (
+    omega (arith, c.turns.invariant.0, c.stretch-made.ensures.most, c.if-done-steps.false) in (
       omega (arith, lt),
       going_more c.args.start.now _ (c.turns.done + c.stretch-made.result.0) c.stretch-made.new.start
           c.turns.inward _ c.noted_turn.new.start c.noted_turn.new.inward _ h c.in-Ok.ensures.state
@@ -104,8 +96,6 @@ turns-preserved g c =
 
 pub turns-smaller : goal.turns-smaller
 turns-smaller g c =
-    let most = c.turns.invariant.0 in
-    let some = c.stretch-made.ensures.most in
     let lt : c.turns.done + c.stretch-made.result.0 < c.args.steps =
-    omega (arith, most, some, c.if-done-steps.false) in
+    omega (arith, c.turns.invariant.0, c.stretch-made.ensures.most, c.if-done-steps.false) in
     omega (arith, lt)

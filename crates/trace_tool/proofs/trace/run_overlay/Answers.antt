@@ -1,4 +1,4 @@
-use Rattle.std.proofs.Common.{rules, ◌≡◌, ◌≤◌, ◌<◌, ◌+◌, ◌∙◌, ap, arith, subst}
+use Rattle.std.proofs.Common.{rules, ◌≡◌, ◌<◌, ◌+◌, ◌∙◌, ap, arith, subst}
 use Rattle.overlay_machine.proofs.Offers.{weight_some}
 use Rattle.outside_io.specs.Writes.{AddsPieces, FailsAtPiece}
 use Rattle.overlay_machine.specs.declared.overlay.OStep.TheVariants.{Went}
@@ -8,8 +8,8 @@ use Rattle.run_lines.specs.Lines.{lines_for}
 use Rattle.run_lines.specs.Texts.{lines_pieces}
 use Rattle.run_lines.specs.EndLines.{running_text, halted_text, failed_text}
 use Rattle.run_lines.specs.Traces.{weight_with}
-use Rattle.trace_tool.proofs.Tracing.{went_weight, going_none, going_more, going_fails, ends_running}
-use Rattle.trace_tool.proofs.Tracing.{ends_halted, ends_failed, start_layout}
+use Rattle.trace_tool.proofs.Tracing.{went_weight, fits_with, going_none, going_more, going_fails}
+use Rattle.trace_tool.proofs.Tracing.{ends_running, ends_halted, ends_failed, start_layout}
 use Rattle.trace_tool.proofs.trace.run_overlay.Goals as goal
 
 pub loop-overlay-init : goal.loop-overlay-init
@@ -46,14 +46,8 @@ returns-then-sum-weight-clause-traces g c =
 
 pub loop-overlay-smaller : goal.loop-overlay-smaller
 loop-overlay-smaller g c =
-    let fits : weight_with c.loop-overlay.overlay ≤ c.args.steps =
-    omega (
-      arith,
-      c.if-sum-weight.false,
-      c.weight-sum.ensures,
-      c.next_weight.ensures,
-      c.from-weight.ensures,
-    ) in
+    let fits = fits_with c.args.steps c.loop-overlay.overlay c.weight-sum.ensures c.next_weight.ensures
+    c.from-weight.ensures c.if-sum-weight.false in
     let some = weight_some c.loop-overlay.overlay.layout c.loop-overlay.overlay.state in
     let went : answer_of c.loop-overlay.overlay ≡ Went c.in-Went.event = search rules in
     let more : c.step.new.self.weight ≡ weight_with c.loop-overlay.overlay =
@@ -63,14 +57,8 @@ loop-overlay-smaller g c =
 
 pub loop-overlay-preserved : goal.loop-overlay-preserved
 loop-overlay-preserved g c =
-    let fits : weight_with c.loop-overlay.overlay ≤ c.args.steps =
-    omega (
-      arith,
-      c.if-sum-weight.false,
-      c.weight-sum.ensures,
-      c.next_weight.ensures,
-      c.from-weight.ensures,
-    ) in
+    let fits = fits_with c.args.steps c.loop-overlay.overlay c.weight-sum.ensures c.next_weight.ensures
+    c.from-weight.ensures c.if-sum-weight.false in
     going_more c.args.steps c.args.overlay.now (g.S.Sink.seen c.args.out.now)
     c.loop-overlay.overlay _ c.in-Went.event c.step.new.self _ c.loop-overlay.invariant fits
     (search rules) c.step.ensures.after
@@ -83,14 +71,8 @@ loop-overlay-preserved g c =
 
 pub returns-in-Err-clause-traces : goal.returns-in-Err-clause-traces
 returns-in-Err-clause-traces g c =
-    let fits : weight_with c.loop-overlay.overlay ≤ c.args.steps =
-    omega (
-      arith,
-      c.if-sum-weight.false,
-      c.weight-sum.ensures,
-      c.next_weight.ensures,
-      c.from-weight.ensures,
-    ) in
+    let fits = fits_with c.args.steps c.loop-overlay.overlay c.weight-sum.ensures c.next_weight.ensures
+    c.from-weight.ensures c.if-sum-weight.false in
     going_fails c.args.steps c.args.overlay.now (g.S.Sink.seen c.args.out.now)
     c.loop-overlay.overlay _ c.in-Went.event c.step.new.self _ c.loop-overlay.invariant fits
     (search rules) c.step.ensures.after
@@ -103,14 +85,8 @@ returns-in-Err-clause-traces g c =
 
 pub returns-in-Halted-clause-traces : goal.returns-in-Halted-clause-traces
 returns-in-Halted-clause-traces g c =
-    let fits : weight_with c.loop-overlay.overlay ≤ c.args.steps =
-    omega (
-      arith,
-      c.if-sum-weight.false,
-      c.weight-sum.ensures,
-      c.next_weight.ensures,
-      c.from-weight.ensures,
-    ) in
+    let fits = fits_with c.args.steps c.loop-overlay.overlay c.weight-sum.ensures c.next_weight.ensures
+    c.from-weight.ensures c.if-sum-weight.false in
     let sum : c.weight-sum.result + c.from-weight.result ≡ weight_with c.loop-overlay.overlay =
     omega (arith, c.weight-sum.ensures, c.next_weight.ensures, c.from-weight.ensures) in
     ends_halted c.args.steps c.args.overlay.now (g.S.Sink.seen c.args.out.now)
@@ -121,14 +97,8 @@ returns-in-Halted-clause-traces g c =
 
 pub returns-in-Failed-clause-traces : goal.returns-in-Failed-clause-traces
 returns-in-Failed-clause-traces g c =
-    let fits : weight_with c.loop-overlay.overlay ≤ c.args.steps =
-    omega (
-      arith,
-      c.if-sum-weight.false,
-      c.weight-sum.ensures,
-      c.next_weight.ensures,
-      c.from-weight.ensures,
-    ) in
+    let fits = fits_with c.args.steps c.loop-overlay.overlay c.weight-sum.ensures c.next_weight.ensures
+    c.from-weight.ensures c.if-sum-weight.false in
     ends_failed c.args.steps c.args.overlay.now (g.S.Sink.seen c.args.out.now)
     c.loop-overlay.overlay _ c.step.new.self _ c.as_str-in-Failed.result.now c.finish-in-Failed.result
     c.loop-overlay.invariant fits (search rules) c.step.ensures.after

@@ -9,7 +9,7 @@ use Rattle.run_lines.specs.Lines.{Args, enter}
 use Rattle.run_lines.specs.Texts.{field, args_text, line_text}
 use Rattle.trace_tool.proofs.write.write_enter.Goals as goal
 
--- the pieces of the line, one behind the other
+-- the pieces of the line, one after the other
 pieces : (part export : List ℕ) (stk : Word) (args : Args) (back : FeedBack) (a b : List ℕ)
     {c d e f g h : List ℕ}
     → a ≡ codes "enter " → b ≡ a ++ part → c ≡ b ++ field export → d ≡ c ++ field (word_text_of stk)

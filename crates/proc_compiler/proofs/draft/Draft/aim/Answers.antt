@@ -5,13 +5,13 @@ use Rattle.lcm_isa.specs.declared.Operand.TheVariants.{Imm}
 use Rattle.lcm_isa.specs.declared.Instr.TheVariants.{Cca}
 use Rattle.proc_templates.specs.Items.{word_of}
 use Rattle.proc_compiler.specs.Drafts.{with_code}
-use Rattle.proc_compiler.proofs.Aimed.{aimed}
+use Rattle.proc_compiler.proofs.Aimed.{aims}
 use Rattle.proc_compiler.proofs.draft.Draft.aim.Goals as goal
 
-pub returns-clause-aimed : goal.returns-clause-aimed
-returns-clause-aimed c =
+pub returns : goal.returns
+returns c =
     let d = c.args.self.now in
-    aimed c.args.at c.args.far d c.replace.new.self
+    aims c.args.at c.args.far d c.replace.new.self
     (c.replace.ensures
     ∙ ap (λ z. with_code (slice_set d.laid.code (c.args.at + 1) (word_of (Cca T2 (Imm z)))) d)
     (to_z-of_z w32 c.args.far c.ranges.far))

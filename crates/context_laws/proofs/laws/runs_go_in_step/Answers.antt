@@ -1,5 +1,0 @@
-use Rattle.context_laws.proofs.Whole.{run_in_step as answer}
-use Rattle.context_laws.proofs.laws.runs_go_in_step.Goals as goal
-
-pub returns : goal.returns
-returns c = answer

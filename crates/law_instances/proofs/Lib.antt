@@ -1,0 +1,10 @@
+pub mod Teller
+pub mod Start
+pub mod Straight
+pub mod Counting
+pub mod Reported
+pub mod BlindRun
+pub mod Told
+pub mod CallRun
+pub mod SecretRun
+pub mod Callback

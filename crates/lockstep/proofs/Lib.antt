@@ -1,0 +1,10 @@
+pub mod Rows
+pub mod Outer
+pub mod Comes
+pub mod Step
+pub mod Counts
+pub mod Arrive
+pub mod Whole
+pub mod Contexts
+pub mod Itself
+pub mod Offers

@@ -1,0 +1,4 @@
+pub mod Related
+pub mod Lockstep
+pub mod Contexts
+pub mod Itself
