@@ -118,5 +118,5 @@ abbrev pub MakesAs : {A : Type 0}
     → Result A AsmFault → Draft → Input → Result ((A × Draft) × Input) AsmFault → Type 0
 MakesAs answer new left read = AnswersAs is_refusal (λ x. ((x, new), left)) answer read
 
-abbrev pub Makes : Result (Unit {0}) AsmFault → Draft → Input → Result (Draft × Input) AsmFault → Type 0
-Makes answer new left read = AnswersAs is_refusal (λ x. (new, left)) answer read
+abbrev pub MakesDraft : Result (Unit {0}) AsmFault → Draft → Input → Result (Draft × Input) AsmFault → Type 0
+MakesDraft answer new left read = AnswersAs is_refusal (λ x. (new, left)) answer read

@@ -17,7 +17,7 @@ ghost use Rattle.asm_draft.specs.Operands.{import_in, export_in, site_in, fail_i
 ghost use Rattle.asm_draft.specs.Operands.{operands_in};
 ghost use Rattle.asm_draft.specs.Lines.{label_in, label_if, is_code, instr_in, word_in, may_stand, item_in};
 ghost use Rattle.asm_draft.specs.Lines.{directive_from, directive_in, behind_label, line_in, MakesAs};
-ghost use Rattle.asm_draft.specs.Lines.{Makes};
+ghost use Rattle.asm_draft.specs.Lines.{MakesDraft};
 
 use crate::header::TextHeader;
 use crate::order::{may_follow, reaches_data, section_of};
@@ -205,7 +205,7 @@ impl<'a> Draft<'a> {
     // Takes a label and its colon.
     #[tactic(auto, unfolding(crate::specs::Lines::label_in))]
     fn label(&mut self, fields: &mut Fields<'a, '_>) -> Result<(), AsmFault>
-        ensures { Makes result self.new fields.new (label_in self.old fields.old) }
+        ensures { MakesDraft result self.new fields.new (label_in self.old fields.old) }
     {
         let at = fields.place();
         let name = fields.proper_name()?;
@@ -228,14 +228,14 @@ impl<'a> Draft<'a> {
     }
 
     fn label_if(&mut self, labelled: bool, fields: &mut Fields<'a, '_>) -> Result<(), AsmFault>
-        ensures { Makes result self.new fields.new (label_if labelled self.old fields.old) }
+        ensures { MakesDraft result self.new fields.new (label_if labelled self.old fields.old) }
     {
         if labelled { self.label(fields) } else { Ok(()) }
     }
 
     #[tactic(auto, unfolding(crate::specs::Lines::instr_in))]
     fn instr(&mut self, fields: &mut Fields<'a, '_>) -> Result<(), AsmFault>
-        ensures { Makes result self.new fields.new (instr_in self.old fields.old) }
+        ensures { MakesDraft result self.new fields.new (instr_in self.old fields.old) }
     {
         let at = fields.place();
         let name = fields.name()?;
@@ -256,7 +256,7 @@ impl<'a> Draft<'a> {
     // Takes a word that a directive writes, which stands at this place.
     #[tactic(auto, unfolding(crate::specs::Lines::word_in))]
     fn word(&mut self, at: u32, kind: WordKind, fields: &mut Fields<'a, '_>) -> Result<(), AsmFault>
-        ensures { Makes result self.new fields.new (word_in at kind self.old fields.old) }
+        ensures { MakesDraft result self.new fields.new (word_in at kind self.old fields.old) }
     {
         let Some(section) = section_of(self.last) else {
             return Err(AsmFault::Section(at));
@@ -326,7 +326,7 @@ impl<'a> Draft<'a> {
         at: u32,
         fields: &mut Fields<'a, '_>,
     ) -> Result<(), AsmFault>
-        ensures { Makes result self.new fields.new (import_in at self.old fields.old) }
+        ensures { MakesDraft result self.new fields.new (import_in at self.old fields.old) }
     {
         let part = name(alloc, fields)?;
         let name = name(alloc, fields)?;
@@ -342,7 +342,7 @@ impl<'a> Draft<'a> {
         at: u32,
         fields: &mut Fields<'a, '_>,
     ) -> Result<(), AsmFault>
-        ensures { Makes result self.new fields.new (export_in at self.old fields.old) }
+        ensures { MakesDraft result self.new fields.new (export_in at self.old fields.old) }
     {
         let name = name(alloc, fields)?;
         let offset = self.offset(Section::Code, fields)?;
@@ -358,7 +358,7 @@ impl<'a> Draft<'a> {
 
     #[tactic(auto, unfolding(crate::specs::Operands::site_in))]
     fn site(&mut self, at: u32, fields: &mut Fields<'a, '_>) -> Result<(), AsmFault>
-        ensures { Makes result self.new fields.new (site_in at self.old fields.old) }
+        ensures { MakesDraft result self.new fields.new (site_in at self.old fields.old) }
     {
         let site = self.offset(Section::Code, fields)?;
         self.tables.push_site(at, site)?;
@@ -367,7 +367,7 @@ impl<'a> Draft<'a> {
 
     #[tactic(auto, unfolding(crate::specs::Operands::fail_in))]
     fn fail(&mut self, fields: &mut Fields<'a, '_>) -> Result<(), AsmFault>
-        ensures { Makes result self.new fields.new (fail_in self.old fields.old) }
+        ensures { MakesDraft result self.new fields.new (fail_in self.old fields.old) }
     {
         let offset = self.offset(Section::Code, fields)?;
         self.tables.fail_at = Some(offset);
@@ -376,7 +376,7 @@ impl<'a> Draft<'a> {
 
     #[tactic(auto, unfolding(crate::specs::Operands::literal_in))]
     fn literal(&mut self, fields: &mut Fields<'a, '_>) -> Result<(), AsmFault>
-        ensures { Makes result self.new fields.new (literal_in self.old fields.old) }
+        ensures { MakesDraft result self.new fields.new (literal_in self.old fields.old) }
     {
         let offset = self.offset(Section::Code, fields)?;
         self.tables.literal_at = Some(offset);
@@ -385,7 +385,7 @@ impl<'a> Draft<'a> {
 
     #[tactic(auto, unfolding(crate::specs::Operands::row_in))]
     fn row(&mut self, at: u32, fields: &mut Fields<'a, '_>) -> Result<(), AsmFault>
-        ensures { Makes result self.new fields.new (row_in at self.old fields.old) }
+        ensures { MakesDraft result self.new fields.new (row_in at self.old fields.old) }
     {
         let offset = self.offset(Section::Code, fields)?;
         let kinds = self.kinds(fields)?;
@@ -401,7 +401,7 @@ impl<'a> Draft<'a> {
         item: ItemKind,
         fields: &mut Fields<'a, '_>,
     ) -> Result<(), AsmFault>
-        ensures { Makes result self.new fields.new (operands_in at item self.old fields.old) }
+        ensures { MakesDraft result self.new fields.new (operands_in at item self.old fields.old) }
     {
         match item {
             ItemKind::Name => self.header.name = name(alloc, fields)?,
@@ -440,7 +440,7 @@ impl<'a> Draft<'a> {
         item: ItemKind,
         fields: &mut Fields<'a, '_>,
     ) -> Result<(), AsmFault>
-        ensures { Makes result self.new fields.new (item_in at labelled item self.old fields.old) }
+        ensures { MakesDraft result self.new fields.new (item_in at labelled item self.old fields.old) }
     {
         if !self.may_stand(labelled, item) {
             return Err(AsmFault::Section(at));
@@ -457,7 +457,7 @@ impl<'a> Draft<'a> {
         labelled: bool,
         fields: &mut Fields<'a, '_>,
     ) -> Result<(), AsmFault>
-        ensures { Makes result self.new fields.new (directive_in labelled self.old fields.old) }
+        ensures { MakesDraft result self.new fields.new (directive_in labelled self.old fields.old) }
     {
         let at = fields.place();
         match directive_from(at, fields)? {
@@ -473,7 +473,7 @@ impl<'a> Draft<'a> {
         labelled: bool,
         fields: &mut Fields<'a, '_>,
     ) -> Result<(), AsmFault>
-        ensures { Makes result self.new fields.new (behind_label labelled self.old fields.old) }
+        ensures { MakesDraft result self.new fields.new (behind_label labelled self.old fields.old) }
     {
         if fields.is_name() {
             self.instr(fields)
@@ -489,7 +489,7 @@ impl<'a> Draft<'a> {
         alloc: Global,
         fields: &mut Fields<'a, '_>,
     ) -> Result<(), AsmFault>
-        ensures { Makes result self.new fields.new (line_in self.old fields.old) }
+        ensures { MakesDraft result self.new fields.new (line_in self.old fields.old) }
     {
         let labelled = fields.is_labelled();
         self.label_if(labelled, fields)?;

@@ -30,7 +30,8 @@ use Rattle.authority_report.specs.declared.reach.Reach.{Reach}
 use Rattle.place_sets.specs.Spans.{allows}
 use Rattle.authority_report.specs.Report.{told_authority, IsJust}
 use Rattle.authority_report.specs.SealRanges.{is_in}
-use Rattle.authority_report.specs.Found.{bared, gives, gives_seal, Adds, authority_of, IsSound, IsClosedBut}
+use Rattle.authority_report.specs.Found.{bared, gives, gives_seal, AddsWord, authority_of, IsSound}
+use Rattle.authority_report.specs.Found.{IsClosedBut}
 use Rattle.authority_report.proofs.ReachedWithin.{reached_within}
 
 or_right : (x y z : Bool) → z ≡ (x || y) → y ≡ true → z ≡ true
@@ -90,7 +91,7 @@ module _ (m : State Word) (o : Owner) where
 
 -- ---- more is found
 
-module _ (o : Owner) (f g : Found) (w : Word) (adds : Adds f w g) where
+module _ (o : Owner) (f g : Found) (w : Word) (adds : AddsWord f w g) where
   more_read : (a : ℕ) → has f.read a ≡ true → has g.read a ≡ true
   more_read a h = or_right _ _ _ (adds.read.taken a) h
 
@@ -116,7 +117,7 @@ given : (may : Bool) (base end a : ℕ) → may ≡ true → base ≤ a → a �
 given may base end a m low high = rw (m, le-leb base a low, le-leb a end high) refl
 
 module _ (o : Owner) (f g : Found) where
-  cap_added : (c : CapFields) → Adds f (Mem c) g → CapWithin (authority_of o g) c
+  cap_added : (c : CapFields) → AddsWord f (Mem c) g → CapWithin (authority_of o g) c
   cap_added c adds = record {
     read = λ m a low high. or_left _ _ _ (adds.read.taken a)
         (given (may_read c.perm) c.base c.end a m low high);
@@ -124,22 +125,22 @@ module _ (o : Owner) (f g : Found) where
     run = λ m a low high. or_left _ _ _ (adds.run a) (given (may_run c.perm) c.base c.end a m low high);
   }
 
-  seals_added : (q : SealFields) → Adds f (Seal q) g → SealsWithin (authority_of o g) q
+  seals_added : (q : SealFields) → AddsWord f (Seal q) g → SealsWithin (authority_of o g) q
   seals_added q adds n low high = or_left (gives_seal (Seal q) n) (has f.seals n) (has g.seals n)
       (adds.seals n) (rw (le-leb q.base n low, le-leb n q.end high) refl)
 
   -- a word that was added is found
-  pub word_added : (w : Word) → Adds f (bared o w) g → IsWithin (authority_of o g) w
+  pub word_added : (w : Word) → AddsWord f (bared o w) g → IsWithin (authority_of o g) w
   word_added (Int z) adds = tt
   word_added (Mem c) adds = cap_added c adds
   word_added (Seal q) adds = seals_added q adds
   word_added (Sealed n (MemIn c)) adds = λ e. cap_added c
-      (subst (λ b. Adds f (if b then Mem c else Int (pos 0)) g) e adds)
+      (subst (λ b. AddsWord f (if b then Mem c else Int (pos 0)) g) e adds)
   word_added (Sealed n (SealIn q)) adds = λ e. seals_added q
-      (subst (λ b. Adds f (if b then Seal q else Int (pos 0)) g) e adds)
+      (subst (λ b. AddsWord f (if b then Seal q else Int (pos 0)) g) e adds)
 
 module _ (m : State Word) (o : Owner) (f g : Found) (w : Word) (r : Reaches m o w)
-    (adds : Adds f (bared o w) g) where
+    (adds : AddsWord f (bared o w) g) where
   pub stays_sound : IsSound m o f → IsSound m o g
   stays_sound h = record {
     read = λ a e. elim (or_cases (gives may_read (bared o w) a) (has f.read a) (sym (adds.read.taken a)
@@ -194,7 +195,7 @@ module _ (m : State Word) (o : Owner) (f g : Found) (w : Word) (r : Reaches m o 
 abbrev pub AllLeft : Found → Type 0
 AllLeft f = (a : ℕ) → has f.read a ≡ true → is_left f.left.items a ≡ true
 
-all_left : (f g : Found) (w : Word) → Adds f w g → AllLeft f → AllLeft g
+all_left : (f g : Found) (w : Word) → AddsWord f w g → AllLeft f → AllLeft g
 all_left f g w adds h a e = elim (cases_Bool (has f.read a)) as (λ _. is_left g.left.items a ≡ true) [
   | inl before ↦ kept _ f.read f.left.items g.read g.left.items adds.read a (h a before)
   | inr new ↦ fresh _ f.read f.left.items g.read g.left.items adds.read a new e
@@ -215,7 +216,7 @@ sound_none m o f r w x s l = record {
 pub closed_begun : (m : State Word) (o : Owner) (z : ℤ) (f0 f1 f2 f3 : Found)
     → ((a : ℕ) → has f0.read a ≡ false) → ((a : ℕ) → has f0.write a ≡ false)
     → ((a : ℕ) → has f0.run a ≡ false) → ((a : ℕ) → has f0.seals a ≡ false) → f0.left.items ≡ []
-    → Adds f0 (Mem (whole_code o z)) f1 → Adds f1 (Mem (whole_data o)) f2 → Adds f2
+    → AddsWord f0 (Mem (whole_code o z)) f1 → AddsWord f1 (Mem (whole_data o)) f2 → AddsWord f2
     (bared o (reg m.regs Stk)) f3
     → IsClosedBut (λ a. false) m o f3
 closed_begun m o z f0 f1 f2 f3 r w x s l first second third = record {
@@ -276,7 +277,7 @@ module _ (m : State Word) (o : Owner) (f : Found) (at end : ℕ) (low : at ≤ e
       in_cell k.cap at w k.reached k.allowed k.low k.high there
 
   -- one that is, whose word was added
-  pub look_one : (g : Found) (w : Word) → cell m.cells at ≡ Some w → Adds f (bared o w) g
+  pub look_one : (g : Found) (w : Word) → cell m.cells at ≡ Some w → AddsWord f (bared o w) g
       → IsClosedBut (λ a. nat_le (at + 1) a && nat_le a end) m o g
   look_one g w there adds =
       let k = stays_closed m o f g w (at_reached w there) adds (λ a. nat_le at a && nat_le a end) h in

@@ -13,9 +13,9 @@ use Rattle.cap_words.specs.Stretch.{Stretch}
 use Rattle.seal_space.specs.Seals.{has_seal}
 use Rattle.place_sets.specs.declared.set.Stretch.{Stretch as FromTo}
 use Rattle.place_sets.specs.Takes.{is_left}
-use Rattle.place_sets.specs.Stretches.{IsStretch, AreApart as FromTosApart}
+use Rattle.place_sets.specs.Stretches.{IsStretch, AreStretches as FromTosApart}
 use Rattle.place_sets.proofs.Offers.{one_stretches}
-use Rattle.authority_report.specs.SealRanges.{is_in, IsRange, AreApart, range_of, Fits}
+use Rattle.authority_report.specs.SealRanges.{is_in, IsRange, AreRanges, range_of, Fits}
 
 -- ---- lists whose items are made from others
 
@@ -47,7 +47,7 @@ is_range : (s : FromTo) → IsStretch s → IsRange (range_of s)
 is_range s h = let some = h.some in let inside = h.inside in
     record { some = omega arith; inside = omega (arith, some, inside) }
 
-pub ranges_apart : (ss : List FromTo) → FromTosApart ss → AreApart (map range_of ss)
+pub ranges_apart : (ss : List FromTo) → FromTosApart ss → AreRanges (map range_of ss)
 ranges_apart ss t = record {
   each = All-map IsRange range_of ss (λ k d l. is_range (get_or ss k d) (t.each k d l));
   apart = pairs_map range_of (λ r q. r.base + r.count < q.base) ss (λ i j d lt l.
@@ -93,7 +93,7 @@ is_stretch : (r : Stretch) → IsRange r → IsStretch (stretch_of r)
 is_stretch r h = let some = h.some in let inside = h.inside in
     record { some = omega (arith, some); inside = omega (arith, some, inside) }
 
-stretches_apart : (rs : List Stretch) → AreApart rs → FromTosApart (map stretch_of rs)
+stretches_apart : (rs : List Stretch) → AreRanges rs → FromTosApart (map stretch_of rs)
 stretches_apart rs t = record {
   each = All-map IsStretch stretch_of rs (λ k d l. is_stretch (get_or rs k d) (t.each k d l));
   apart = pairs_map stretch_of (λ s q. s.end + 1 < q.base) rs (λ i j d lt l.
@@ -114,7 +114,7 @@ ranges_again (r ∷ rs) h =
     ∙ ap (λ xs. r ∷ xs) (ranges_again rs (all_rest IsRange r rs h))
 
 -- by their seals ranges are known
-pub one_ranges : (rs qs : List Stretch) → AreApart rs → AreApart qs → ((n : ℕ) → is_in rs n ≡ is_in qs n)
+pub one_ranges : (rs qs : List Stretch) → AreRanges rs → AreRanges qs → ((n : ℕ) → is_in rs n ≡ is_in qs n)
     → rs ≡ qs
 one_ranges rs qs t u same =
     let one = one_stretches (map stretch_of rs) (map stretch_of qs) (stretches_apart rs t)

@@ -24,7 +24,8 @@ use Rattle.lcm_machine.specs.Acts.{IsNext, GoesTo, JumpsUnder, May, MaySeal}
 use Rattle.lcm_machine.proofs.Offers.{step_keeps, look_memory, look_seals, after_went, does_as_it_may}
 use Rattle.lcm_machine.proofs.Offers.{writes_where_it_may}
 use Rattle.authority_report.specs.Within.{Authority, CapWithin, SealsWithin, IsWithin}
-use Rattle.authority_report.specs.Bounds.{Does, KeepsUnwritten, plain_run, StaysIn, RunsWithin, IsBounded}
+use Rattle.authority_report.specs.Bounds.{ActsWithin, KeepsUnwritten, plain_run, StaysIn, RunsWithin}
+use Rattle.authority_report.specs.Bounds.{IsBounded}
 use Rattle.authority_report.proofs.WithinClosed.{within_closed, mem_within, opened_within, content_within}
 
 pub writes_read : (q : Perm) → may_write q ≡ true → may_read q ≡ true
@@ -68,7 +69,7 @@ module _ (g : Authority) (s : State Word) (h : IsBounded g s) where
 
   -- ---- what one step does
 
-  pub does_on : Does g s
+  pub does_on : ActsWithin g s
   does_on =
       let d = does_as_it_may (λ w. w) (λ w. w) s in
       record {

@@ -7,16 +7,16 @@ use Rattle.lcm_machine.specs.Places.{reg}
 use Rattle.lcm_machine.specs.Cells.{cell}
 use Rattle.lcm_machine.specs.Row.{Outcome, went}
 use Rattle.lcm_machine.specs.Runs.{run_of}
-use Rattle.lcm_machine.specs.Acts.{GoesTo, Fetches, Loads, Stores, Empties, SealsBy, JumpsUnder}
+use Rattle.lcm_machine.specs.Acts.{GoesTo, Fetches, Loads, Stores, EmptiesCell, SealsBy, JumpsUnder}
 use Rattle.authority_report.specs.Within.{Authority, IsWithin}
 
 -- what a step of the plain machine does, an authority allows: the cells that it fetches, loads from, stores
 -- to and empties, and the seal by which it seals
-pub record Does (g : Authority) (t : State Word) : Type 0 where
+pub record ActsWithin (g : Authority) (t : State Word) : Type 0 where
   pub fetches : (a : ℕ) → Fetches (λ w. w) t a → g.run a ≡ true
   pub loads : (a : ℕ) → Loads (λ w. w) t a → g.read a ≡ true
   pub stores : (a : ℕ) → Stores (λ w. w) t a → g.write a ≡ true
-  pub empties : (a : ℕ) → Empties (λ w. w) (λ w. w) t a → g.write a ≡ true
+  pub empties : (a : ℕ) → EmptiesCell (λ w. w) (λ w. w) t a → g.write a ≡ true
   pub seals : (n : ℕ) → SealsBy (λ w. w) (λ w. w) t n → g.seal n ≡ true
 
 -- each cell that may not be written is as it was
@@ -37,7 +37,7 @@ StaysIn own n s =
 -- of a run from s that has come to t: its next step does no more than is allowed, and what may not be written
 -- is as at the start, now and after that step
 pub record StepWithin (g : Authority) (s t : State Word) : Type 0 where
-  pub does : Does g t
+  pub does : ActsWithin g t
   pub keeps : KeepsUnwritten g s t
   pub keeps_next : (u : State Word) → GoesTo (λ w. w) (λ w. w) t u → KeepsUnwritten g s u
 

@@ -49,7 +49,7 @@ gives_seal (Seal q) n = nat_le q.base n && nat_le n q.end
 gives_seal _ n = false
 
 -- what a word gives is added
-pub record Adds (f : Found) (w : Word) (g : Found) : Type 0 where
+pub record AddsWord (f : Found) (w : Word) (g : Found) : Type 0 where
   pub read : Takes (gives may_read w) f.read f.left.items g.read g.left.items
   pub write : (a : ℕ) → has g.write a ≡ (gives may_write w a || has f.write a)
   pub run : (a : ℕ) → has g.run a ≡ (gives may_run w a || has f.run a)

@@ -8,7 +8,7 @@ use Rattle.linked_starts.specs.Started.{StartSeen}
 use Rattle.place_sets.specs.Spans.{allows, AreTidy}
 use Rattle.authority_report.specs.declared.reach.Reach.{Reach}
 use Rattle.authority_report.specs.Reaches.{Allows, SealsWith, is_seal_of}
-use Rattle.authority_report.specs.SealRanges.{is_in, AreApart}
+use Rattle.authority_report.specs.SealRanges.{is_in, AreRanges}
 use Rattle.authority_report.specs.Within.{Authority}
 
 -- what a report tells, beside the seals that its part may open
@@ -33,7 +33,7 @@ pub record IsJust (m : State Word) (o : Owner) (g : Authority) : Type 0 where
 pub record IsReport (m : State Word) (o : Owner) (r : Reach) : Type 0 where
   pub just : IsJust m o (told_authority o r)
   pub spans : AreTidy r.spans
-  pub seals : AreApart r.seals
+  pub seals : AreRanges r.seals
 
 -- the owner of a part
 abbrev pub owner_of_part : List Owner → ℕ → Option Owner

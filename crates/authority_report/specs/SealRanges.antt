@@ -20,7 +20,7 @@ pub record IsRange (r : Stretch) : Type 0 where
   pub inside : r.base + r.count ≤ LAST_PLACE + 1
 
 -- maximal, disjoint, ascending: at least one seal lies between two
-pub record AreApart (ranges : List Stretch) : Type 0 where
+pub record AreRanges (ranges : List Stretch) : Type 0 where
   pub each : All IsRange ranges
   pub apart : AllPairs (λ r q. r.base + r.count < q.base) ranges
 

@@ -4,7 +4,7 @@ ghost use Rattle.cap_words.specs.declared.Word.TheVariants.{Mem as MemWord, Seal
 ghost use Rattle.place_sets.specs.Has.{has};
 ghost use Rattle.authority_report.specs.Reaches.{is_seal_of, whole_code, whole_data};
 ghost use Rattle.cap_words.specs.Face.{FaceInOrder, ContentInOrder};
-ghost use Rattle.authority_report.specs.Found.{bared, bare_word, opened_word, Adds, IsClosedBut, unread};
+ghost use Rattle.authority_report.specs.Found.{bared, bare_word, opened_word, AddsWord, IsClosedBut, unread};
 
 use cap_words::{CapFields, Content, Face, LAST_PLACE, Lin, Opened, Perm, SealFields, Word};
 use lcm_isa::Reg;
@@ -79,7 +79,7 @@ impl Found {
     /// Adds what a memory capability gives.
     pub(crate) fn add_memory(&mut self, c: CapFields) -> Result<(), AllocError>
         requires { c.end ≤ LAST_PLACE }
-        ensures { OnOk result (Adds self.old (MemWord c) self.new) }
+        ensures { OnOk result (AddsWord self.old (MemWord c) self.new) }
     {
         if c.perm.may_read() {
             self.read.take_all(c.base, c.end, &mut self.left)?;
@@ -96,7 +96,7 @@ impl Found {
     // Adds what a seal capability gives.
     fn add_seals(&mut self, q: SealFields)
         requires { q.end ≤ LAST_PLACE }
-        ensures { Adds self.old (SealWord q) self.new }
+        ensures { AddsWord self.old (SealWord q) self.new }
     {
         self.seals.add(q.base, q.end);
     }
@@ -104,7 +104,7 @@ impl Found {
     // Adds what a word gives that isn't sealed.
     fn add_bare(&mut self, face: Face) -> Result<(), AllocError>
         requires { FaceInOrder face }
-        ensures { OnOk result (Adds self.old (bare_word face) self.new) }
+        ensures { OnOk result (AddsWord self.old (bare_word face) self.new) }
     {
         match face {
             Face::Memory(c) => self.add_memory(c),
@@ -119,7 +119,7 @@ impl Found {
     // Adds what is under a seal, if it is an own one.
     fn add_opened(&mut self, opened: Opened, owner: &Owner) -> Result<(), AllocError>
         requires { ContentInOrder opened.content }
-        ensures { OnOk result (Adds self.old (opened_word owner.now opened) self.new) }
+        ensures { OnOk result (AddsWord self.old (opened_word owner.now opened) self.new) }
     {
         if !is_own(owner, opened.seal) {
             return Ok(());
@@ -135,7 +135,7 @@ impl Found {
 
     /// Adds what a word gives, under an own seal too.
     pub(crate) fn add(&mut self, word: &Word, owner: &Owner) -> Result<(), AllocError>
-        ensures { OnOk result (Adds self.old (bared owner.now word.now) self.new) }
+        ensures { OnOk result (AddsWord self.old (bared owner.now word.now) self.new) }
     {
         match word.opened() {
             Some(opened) => self.add_opened(opened, owner),

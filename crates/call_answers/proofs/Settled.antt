@@ -6,7 +6,8 @@ use Rattle.outside_io.specs.FilesSeen.{FilesSeen, KeepsOthers}
 use Rattle.outside_io.specs.Whole.{OnlyGave}
 use Rattle.call_answers.specs.Plans.{Reading, PlanOf, Reads, Ends, Made, whole as came_whole, too_long}
 use Rattle.call_answers.specs.Plans.{unread, Comes, Settles}
-use Rattle.call_answers.specs.Answers.{NewFile, AnswerWith, Program, OutsideWith, with_files, IsPut, Gives}
+use Rattle.call_answers.specs.Answers.{NewFile, AnswerWith, Program, OutsideWith, with_files, IsPut}
+use Rattle.call_answers.specs.Answers.{GivesAnswer}
 use Rattle.call_answers.specs.Answers.{whole, unput, unwritten, Answers, answer, nothing, IsComplete, Stay}
 use Rattle.call_answers.specs.Answers.{StayBut}
 use Rattle.call_answers.proofs.Follow.{only_same, only_again}
@@ -101,7 +102,7 @@ put_stays (Some f) old seen new e h = keeps_from old seen new f.name e h.others
 -- an answer leaves all files but the one that it puts
 pub stay_but : (p : Program) (old : OutsideWith p.Kept) (seen : FilesSeen) (a : AnswerWith p.Status p.Kept)
     (status : p.Status) (new : OutsideWith p.Kept) → Stay old.files seen
-    → Gives p (with_files old seen) a status new → StayBut a.file old.files new.files
+    → GivesAnswer p (with_files old seen) a status new → StayBut a.file old.files new.files
 stay_but p old seen a status new e (whole g) = put_stays a.file old.files seen new.files e g.put
 stay_but p old seen a status new e (unput f i w u l s) =
     subst (λ o. StayBut o old.files new.files) (sym i) (keeps_from old.files seen new.files f.name e w.others)
@@ -109,7 +110,8 @@ stay_but p old seen a status new e (unwritten h w l s) = put_stays a.file old.fi
 
 -- its status is the answer's, or tells that a write or a put failed
 pub ends_as : (p : Program) (old : OutsideWith p.Kept) (a : AnswerWith p.Status p.Kept) (status : p.Status)
-    (new : OutsideWith p.Kept) → Gives p old a status new → (status ≡ a.status) ⊎ (status ≡ p.write_fault)
+    (new : OutsideWith p.Kept) → GivesAnswer p old a status new → (status ≡ a.status)
+    ⊎ (status ≡ p.write_fault)
 ends_as p old a status new (whole g) = inl g.status_is
 ends_as p old a status new (unput f i w u l s) = inr s
 ends_as p old a status new (unwritten h w l s) = inr s

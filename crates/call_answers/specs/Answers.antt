@@ -65,13 +65,14 @@ pub record AnswersWhole {Status Kept : Type 0} (old : OutsideWith Kept) (a : Ans
 
 -- or its file could not be put, and nothing was written; or the sink failed at its text. Then nothing is
 -- handed over
-pub data Gives (p : Program) (old : OutsideWith p.Kept) (a : AnswerWith p.Status p.Kept) (status : p.Status)
+pub data GivesAnswer (p : Program) (old : OutsideWith p.Kept) (a : AnswerWith p.Status p.Kept)
+    (status : p.Status)
     (new : OutsideWith p.Kept) : Type 0 where
-  whole : AnswersWhole old a status new → Gives p old a status new
+  whole : AnswersWhole old a status new → GivesAnswer p old a status new
   unput : (file : NewFile) → a.file ≡ Some file → FailsToPut old.files new.files file.name
-      → new.sink ≡ old.sink → new.kept ≡ old.kept → status ≡ p.write_fault → Gives p old a status new
+      → new.sink ≡ old.sink → new.kept ≡ old.kept → status ≡ p.write_fault → GivesAnswer p old a status new
   unwritten : IsPut old.files a.file new.files → FailsToWrite old.sink a.text new.sink → new.kept ≡ old.kept
-      → status ≡ p.write_fault → Gives p old a status new
+      → status ≡ p.write_fault → GivesAnswer p old a status new
 
 -- memory was refused, with nothing put, nothing written and nothing handed over
 pub record GivesNothing (p : Program) (old : OutsideWith p.Kept) (status : p.Status)
@@ -86,7 +87,7 @@ pub record GivesNothing (p : Program) (old : OutsideWith p.Kept) (status : p.Sta
 pub data Answers (p : Program) (plan : PlanOf p.reading p.Task) (old : OutsideWith p.Kept) (status : p.Status)
     (new : OutsideWith p.Kept) : Type 0 where
   answer : (due : Result p.Task p.reading.Refusal) (a : AnswerWith p.Status p.Kept) (seen : FilesSeen)
-      → Comes plan old.files due seen → p.IsAnswerOf due a → Gives p (with_files old seen) a status new
+      → Comes plan old.files due seen → p.IsAnswerOf due a → GivesAnswer p (with_files old seen) a status new
       → Answers p plan old status new
   nothing : GivesNothing p old status new → Answers p plan old status new
 
@@ -117,7 +118,7 @@ IsComplete p plan old status new =
 -- an answer is given, or nothing is
 abbrev pub GivesOrNothing : (p : Program) → OutsideWith p.Kept → AnswerWith p.Status p.Kept → p.Status
     → OutsideWith p.Kept → Type 0
-GivesOrNothing p old a status new = Gives p old a status new ⊎ GivesNothing p old status new
+GivesOrNothing p old a status new = GivesAnswer p old a status new ⊎ GivesNothing p old status new
 
 -- a text was written and this status answered, or the sink failed
 abbrev pub WritesOrFails : (p : Program) → SinkSeen → List ℕ → p.Status → p.Status → SinkSeen → Type 0

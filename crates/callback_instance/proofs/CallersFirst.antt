@@ -37,7 +37,7 @@ use Rattle.proc_templates.specs.Compiled.{frame_of, laid_of, lay_proc, first_dat
 use Rattle.proc_templates.specs.Compiled.{component_of, compiled}
 use Rattle.source_laws.specs.Secrets.{still_there}
 use Rattle.lockstep.specs.Lockstep.{Round}
-use Rattle.context_laws.specs.Sources.{IsFirst}
+use Rattle.context_laws.specs.Sources.{IsFirstRound}
 use Rattle.same_meanings.specs.Observed.{by_number}
 use Rattle.same_meanings.proofs.Offers.{numbers_apart}
 use Rattle.context_laws.specs.Meanings.{SameMeaningsAreNotToldApart}
@@ -175,7 +175,7 @@ first = record {
   after = whole K S L (frame ∷ []) 1 called calls.0;
 }
 
-is_first : IsFirst says_start first
+is_first : IsFirstRound says_start first
 is_first = record {
   begins = refl;
   until = stays_until to_call.2 (still_there computed.begins);

@@ -14,7 +14,7 @@ use Rattle.same_meanings.specs.Observed.{by_number, MeanTheSame}
 use Rattle.source_starts.specs.Links.{overlay_link, first_state}
 use Rattle.lockstep.specs.Related.{Calls}
 use Rattle.lockstep.specs.Lockstep.{Round, SameCrossing}
-use Rattle.context_laws.specs.Sources.{NamesOf, IsFirst}
+use Rattle.context_laws.specs.Sources.{NamesOf, IsFirstRound}
 use Rattle.context_laws.specs.Meanings.{GoByNames, GoesInStep}
 use Rattle.context_instance.specs.Doubles.{named, g, exporting, module_t, LinksBeside}
 use Rattle.callback_instance.specs.CalledBack.{CallsWith}
@@ -46,13 +46,13 @@ pub record CallersLetGo : Type 0 where
   pub inside : is_inside (layout there.sources.start) (first_state there.sources.link) ≡ true
   pub inside_too : is_inside (layout there.sources_too.start) (first_state there.sources_too.link) ≡ true
   pub first : Round
-  pub lets_go : IsFirst there.sources.start first
+  pub lets_go : IsFirstRound there.sources.start first
   pub pair : Opened
   pub calls : CallsWith (layout there.sources.start) pair (pos 6) first
   pub names : NamesOf there.sources.link there.sources_too.link
   pub by_names : GoByNames by_number names
   pub first_too : Round
-  pub lets_go_too : IsFirst there.sources_too.start first_too
+  pub lets_go_too : IsFirstRound there.sources_too.start first_too
   pub in_both : Calls
   pub shows : SameCrossing (overlay_link there.sources.link) (overlay_link there.sources_too.link) names []
       first first_too in_both

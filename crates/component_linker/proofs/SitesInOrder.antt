@@ -10,7 +10,7 @@ use Rattle.std.proofs.lemmas.List.Elements.{Contains-get_or}
 use Rattle.linked_starts.specs.declared.owners.Site.{Site}
 use Rattle.linked_starts.specs.Parts.{PartSeen}
 use Rattle.linked_starts.specs.Linked.{AreClosed, AreSeparate}
-use Rattle.linked_starts.specs.Owners.{IsSite, AreSites, Follows, AreInOrder}
+use Rattle.linked_starts.specs.Owners.{IsSite, AreSites, IsNextSite, AreInOrder}
 use Rattle.linked_starts.proofs.Offers.{meet_not, one_site, part_at, site_in, sites_rise, up_to}
 
 module _ (parts : List PartSeen) (closed : AreClosed parts) where
@@ -137,7 +137,7 @@ module _ (parts : List PartSeen) (closed : AreClosed parts) where
 
     follows : (i j : ℕ) → AreSeparate parts → i < j → j < length sites
         → (get_or sites i d).part ≡ (get_or sites j d).part
-        → Follows (get_or sites i d) (get_or sites (i + 1) d)
+        → IsNextSite (get_or sites i d) (get_or sites (i + 1) d)
     follows i j separate lt inside same =
         let h = is_site i (omega (arith, lt, inside)) in
         let g = is_site (i + 1) (omega (arith, lt, inside)) in

@@ -9,7 +9,7 @@ ghost use Rattle.linked_starts.specs.Linked.{Linked};
 ghost use Rattle.linked_starts.specs.SealsApart.{PartsApart};
 ghost use Rattle.linked_starts.specs.Start.{IsStart};
 ghost use Rattle.linked_starts.specs.TrustedCode.{TrustedInCells};
-ghost use Rattle.linked_starts.specs.Answer.{Answers, AnswersPlaced};
+ghost use Rattle.linked_starts.specs.Answer.{AnswersParts, AnswersPlaced};
 
 use crate::imports::{l4, l5};
 use crate::part::Part;
@@ -126,7 +126,7 @@ fn link_placed(alloc: Global, parts: &PlacedParts, stack: u32) -> Result<Start, 
 /// the first place there. [`LinkFault::NoMemory`] where none is and memory was refused.
 pub fn link(alloc: Global, parts: &[Part], stack: u32) -> Result<Start, LinkFault>
     requires { length parts.now < 2 ^ 32 }
-    ensures { Answers parts.now stack result }
+    ensures { AnswersParts parts.now stack result }
 {
     match PlacedParts::of(parts, stack) {
         Ok(placed) => link_placed(alloc, &placed, stack),

@@ -18,7 +18,7 @@ use Rattle.linked_starts.specs.Regions.{in_regions}
 use Rattle.linked_starts.proofs.Offers.{in_regions_is, in_stretch, stretch_of}
 use Rattle.overlay_machine.specs.Link.{Link, IsTrusted, IsUntrusted, IsUsable, own_code, own_data, own_linear}
 use Rattle.overlay_machine.specs.Link.{the_stack, IsOpenAt, code_region, data_region, regions, ranges_of}
-use Rattle.overlay_machine.specs.Linked.{Linked}
+use Rattle.overlay_machine.specs.Linked.{IsLink}
 use Rattle.overlay_machine.proofs.Offers.{same_region}
 use Rattle.confinement.specs.Confined.{InCode, InPart}
 
@@ -85,7 +85,7 @@ range_code p a some y =
     in_regions_is a (region false (code_span p)) (code_region p)
     (in_stretch p.component.code_base (length p.component.code) false some) y.0 y.1
 
-module _ (g : Link) (linked : Linked g) where
+module _ (g : Link) (linked : IsLink g) where
   -- an address of no trusted part's code
   pub away : (a : ℕ) → ((p : PartSeen) → IsTrusted g p → ¬ (InCode p a)) → IsOpenAt g a
   away a h p ip =

@@ -31,7 +31,7 @@ use Rattle.overlay_machine.specs.Step.{case_fetched, case_of, weight_by, weight_
 use Rattle.overlay_machine.specs.Flat.{IsFlat}
 use Rattle.overlay_machine.specs.Agree.{Looks, HasSite, ReadyFor, AtSite, AtEntry, AtReturn}
 use Rattle.overlay_machine.specs.Link.{Link, IsTrusted, IsOpenAt, ranges_of}
-use Rattle.overlay_machine.specs.Linked.{Linked}
+use Rattle.overlay_machine.specs.Linked.{IsLink}
 use Rattle.overlay_machine.specs.Safe.{IsSafe}
 use Rattle.overlay_machine.specs.Invariant.{Invariant}
 use Rattle.overlay_machine.proofs.Offers.{View, at_entry, in_part, failing, out, view, looks, ready, flat-mem}
@@ -42,7 +42,7 @@ use Rattle.confinement.proofs.Pairs.{of_pair}
 use Rattle.confinement.proofs.Returning.{in_site}
 use Rattle.confinement.proofs.Calling.{onto_return}
 
-module _ (g : Link) (linked : Linked g) (o : OState) (t : State Word) (inv : Invariant g o t) where
+module _ (g : Link) (linked : IsLink g) (o : OState) (t : State Word) (inv : Invariant g o t) where
   abbrev l : Layout
   l = g.layout
 

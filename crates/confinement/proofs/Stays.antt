@@ -31,7 +31,7 @@ use Rattle.linked_starts.proofs.Offers.{own_code as own_code_word, own_data as o
 use Rattle.linked_starts.proofs.Offers.{are_linked, stack_is, in_stretch, whole, listed_at}
 use Rattle.overlay_machine.specs.Link.{Link, IsTrusted, IsUntrusted, IsUsable, own_code, own_data, own_linear}
 use Rattle.overlay_machine.specs.Link.{the_stack, code_region, data_region, stack_region}
-use Rattle.overlay_machine.specs.Linked.{Linked}
+use Rattle.overlay_machine.specs.Linked.{IsLink}
 use Rattle.overlay_machine.proofs.Offers.{any_is, any_of}
 use Rattle.authority_report.specs.Within.{Authority, CapWithin, IsWithin}
 use Rattle.authority_report.specs.Bounds.{IsBounded}
@@ -125,7 +125,7 @@ may_be_written parts a none = by_test (is_trusted_code parts a) refl
         let k = and_parts _ _ x.2 in
         absurd (none x.0 (x.1, k.0) k.1)
 
-module _ (g : Link) (linked : Linked g) where
+module _ (g : Link) (linked : IsLink g) where
   abbrev auth : Authority
   auth = all_but_code g.parts
 

@@ -22,7 +22,7 @@ use Rattle.overlay_machine.specs.Words.{look}
 use Rattle.overlay_machine.specs.State.{OpenFrame, OState, Cells, framed}
 use Rattle.overlay_machine.specs.Brackets.{frame_told}
 use Rattle.overlay_machine.specs.Link.{Link}
-use Rattle.overlay_machine.specs.Linked.{Linked}
+use Rattle.overlay_machine.specs.Linked.{IsLink}
 use Rattle.overlay_machine.specs.Safe.{IsSafeCap, IsSafe}
 use Rattle.overlay_machine.specs.Invariant.{FramesLie, Invariant}
 use Rattle.overlay_machine.proofs.Offers.{below_all, contains_first, contains_rest, lies_of, has_word}
@@ -121,7 +121,7 @@ site_there l i s e = let x = site_at l i s e in (x.0, x.1, ap site_or x.1, x.2)
 -- ---- registers
 
 -- an address to which a register leads that is safe is within a safe capability
-pub held : (g : Link) (linked : Linked g) (o : OState) (t : State Word) (inv : Invariant g o t) (r : Reg)
+pub held : (g : Link) (linked : IsLink g) (o : OState) (t : State Word) (inv : Invariant g o t) (r : Reg)
     → IsSafe g o.frames (reg o.maps.regs r) → (a : ℕ) → target_of (faces id t r) ≡ Some a
     → (c : CapFields) × IsSafeCap g o.frames c × (c.base ≤ a) × (a ≤ c.end)
 unfolding faces

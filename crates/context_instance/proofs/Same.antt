@@ -19,7 +19,7 @@ use Rattle.proc_semantics.specs.Marked.{Whence, Frame, Thing}
 use Rattle.proc_semantics.specs.Marked as tagged
 use Rattle.same_meanings.specs.Same.{wait_at, tracing, Behaviour, behaviour, Sides, SameBehaviour}
 use Rattle.same_meanings.specs.Same.{SameRefined}
-use Rattle.same_meanings.specs.Straight.{Outcome, Gives, GoesOn, with_some, followed, body_outcome}
+use Rattle.same_meanings.specs.Straight.{Completion, Gives, GoesOn, with_some, followed, body_outcome}
 use Rattle.same_meanings.specs.Straight.{SameOutcome, both_break, both_give, SameValue, SameValues, a_number}
 use Rattle.same_meanings.specs.Straight.{a_closure, an_other, no_values, and_value, SameStraight}
 use Rattle.same_meanings.proofs.Offers.{any_feed, tick, both_deeper, ticks, both_place, both_wipe}
@@ -75,7 +75,7 @@ number_same zero _ _ (and_value v m) = by _ _ v
 number_same (suc i) _ _ (and_value {vs = vs} {ws = ws} v m) = number_same i vs ws m
 
 -- with a sum
-abbrev gives : Option ℤ → Store → Outcome
+abbrev gives : Option ℤ → Store → Completion
 gives o st =
     followed (followed (with_some o (λ v. Gives v st)) (λ env st. GoesOn env st)) (λ env st. Gives (pos 0) st)
 
@@ -90,7 +90,7 @@ unfolding variable_named
 sums_gives env st = refl
 
 -- a sum that is given ends a procedure, whatever stands after
-gives_first : (o : Option ℤ) (st : Store) (f : List Value → Store → Outcome)
+gives_first : (o : Option ℤ) (st : Store) (f : List Value → Store → Completion)
     → followed (followed (followed (with_some o (λ v. Gives v st)) (λ env st. GoesOn env st)) f)
     (λ env st. Gives (pos 0) st) ≡ gives o st
 gives_first None st f = refl

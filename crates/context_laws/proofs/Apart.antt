@@ -13,7 +13,7 @@ use Rattle.source_starts.specs.Words.{SourcesTellWords}
 use Rattle.source_starts.specs.Wiped.{WipedCellsAreTold}
 use Rattle.lockstep.specs.Related.{SameNames}
 use Rattle.lockstep.specs.Lockstep.{Round}
-use Rattle.context_laws.specs.Sources.{Beside, IsFirst}
+use Rattle.context_laws.specs.Sources.{Beside, IsFirstRound}
 use Rattle.context_laws.specs.Meanings.{GoByNames, DoesTheSameBy, DoesTheSame, SameMeaningsGoInStep}
 use Rattle.context_laws.specs.Meanings.{SameMeaningsAreNotToldApart}
 use Rattle.context_laws.proofs.Sources.{StartsAgree}
@@ -31,7 +31,7 @@ pub mean_back : (calls : CallNames) (w v : World) (n m : ℕ) → n ≡ m → Me
 mean_back calls w v n m e same = subst (MeanTheSame (swapped calls) v w) e (same.1, same.0)
 
 -- trusted code runs first where it lets go for the first time
-inside_first : (a : LinkedStart) (r : Round) → IsFirst a.start r
+inside_first : (a : LinkedStart) (r : Round) → IsFirstRound a.start r
     → is_inside (layout a.start) (first_state a.link) ≡ true
 inside_first a r first =
     sym (ap (is_inside (layout a.start)) first.begins)

@@ -21,7 +21,7 @@ use Rattle.linked_starts.proofs.Offers.{stack_bases, stack_fits, stack_is, regio
 use Rattle.linked_starts.proofs.Offers.{listed_at}
 use Rattle.overlay_machine.specs.Link.{Link, IsTrusted, IsUntrusted, IsUsable, own_code, own_data, own_linear}
 use Rattle.overlay_machine.specs.Link.{the_stack, regions, ranges_of, stack_region, code_region, data_region}
-use Rattle.overlay_machine.specs.Linked.{Linked}
+use Rattle.overlay_machine.specs.Linked.{IsLink}
 use Rattle.overlay_machine.proofs.Offers.{index_of, any_of}
 use Rattle.template_runs.specs.Public.{IsFreeAt}
 use Rattle.source_starts.specs.Links.{overlay_link}
@@ -75,7 +75,7 @@ no_linear p is t some =
     is.rules 12 0 (c12 p.component) (ap (λ b. rule (rules_c p.component b) 12) t)
     (omega arith, lt-ltb 0 p.component.linear.count (omega (arith, some)))
 
-module _ (g : Link) (linked : Linked g) (a : ℕ) (free : IsFreeAt g a) where
+module _ (g : Link) (linked : IsLink g) (a : ℕ) (free : IsFreeAt g a) where
   module _ (r : Region) (low : r.base ≤ a) (high : a ≤ r.end) where
     used : (runs : Bool) → IsUsable g r runs → IsUsed g a
     used runs v = record { area = r; runs = runs; usable = v; low = low; high = high }
@@ -147,7 +147,7 @@ module _ (g : Link) (linked : Linked g) (a : ℕ) (free : IsFreeAt g a) where
 
 -- ---- and so of the other
 
-module _ (g h : Link) (lg : Linked g) (lh : Linked h) (beside : AreBeside g h)
+module _ (g h : Link) (lg : IsLink g) (lh : IsLink h) (beside : AreBeside g h)
     (stacks : g.layout.stack ≡ h.layout.stack) where
   usable_too : (r : Region) (runs : Bool) → IsUsable g r runs → IsUsable h r runs
   usable_too r _ (own_code p _ u m) = own_code p r ((beside p).0 u) m

@@ -12,7 +12,7 @@ use Rattle.overlay_machine.specs.declared.words.OWord.TheVariants.{Plain}
 use Rattle.overlay_machine.specs.State.{OpenFrame, OState, frame_of}
 use Rattle.overlay_machine.specs.Step.{goes, overlay_step}
 use Rattle.overlay_machine.specs.Link.{Link}
-use Rattle.overlay_machine.specs.Linked.{Linked}
+use Rattle.overlay_machine.specs.Linked.{IsLink}
 use Rattle.overlay_machine.specs.Runs.{Reached, goes_on}
 use Rattle.run_lines.specs.Layout.{layout}
 use Rattle.run_lines.specs.Cuts.{Matched}
@@ -27,7 +27,7 @@ use Rattle.source_starts.specs.Links.{first_state}
 use Rattle.source_starts.specs.Sources.{LinkedSources, SourcesLeaveNothing}
 use Rattle.lockstep.specs.Related.{SameNames, Calls, SameWord, ours, code_halves, data_halves, ret_codes}
 use Rattle.lockstep.specs.Related.{ret_datas, CellPair}
-use Rattle.lockstep.specs.Lockstep.{Round, IsRound, SameCrossing, by_call, by_leave, SameWiped, Holds}
+use Rattle.lockstep.specs.Lockstep.{Round, IsRound, SameCrossing, by_call, by_leave, SameWiped, HoldsAlong}
 use Rattle.lockstep.proofs.Offers.{step_rises, until_reached, in_region_of}
 use Rattle.context_laws.proofs.Open.{CallsAlike, step_kept, until_kept, calls_more}
 use Rattle.context_laws.proofs.History.{AllAlike, all_more}
@@ -42,8 +42,8 @@ zero_same g h names cs _ _ (data_halves x y t) = (λ e. cc, λ e. cc)
 zero_same g h names cs _ _ (ret_codes i j t) = (λ e. cc, λ e. cc)
 zero_same g h names cs _ _ (ret_datas i j t) = (λ e. cc, λ e. cc)
 
-module _ (g h : Link) (names : SameNames g h) (og oh : OState) (hg : Holds g og)
-    (hh : Holds h oh) where
+module _ (g h : Link) (names : SameNames g h) (og oh : OState) (hg : HoldsAlong g og)
+    (hh : HoldsAlong h oh) where
   -- both wipe the same cells
   module _ (cs : Calls) (a b : Round)
       (cells : (x : ℕ) → IsFreeAt g x
@@ -144,7 +144,8 @@ module _ (g h : Link) (names : SameNames g h) where
   calls_behind cs _ a b (by_leave d top sl tl a0 newest) al = al
 
 -- a call that was open before a round is open since
-pub open_since : (g : Link) (linked : Linked g) (o : OState) (holds : Holds g o) (i n : ℕ) (f : OpenFrame)
+pub open_since : (g : Link) (linked : IsLink g) (o : OState) (holds : HoldsAlong g o) (i n : ℕ)
+    (f : OpenFrame)
     (r : Round) → Reached g.layout o i r.before → IsRound g.layout r → n < r.before.calls
     → frame_of r.after.frames n ≡ Some f → frame_of r.before.frames n ≡ Some f
 open_since g linked o holds i n f r reached ir lt e =

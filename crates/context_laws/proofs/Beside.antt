@@ -18,7 +18,7 @@ use Rattle.trusted_border.specs.declared.layout.Layout.{Layout}
 use Rattle.trusted_border.specs.declared.layout.SiteCode.{SiteCode}
 use Rattle.trusted_border.specs.Layout.{site_code, code_in}
 use Rattle.overlay_machine.specs.Link.{Link, IsTrusted}
-use Rattle.overlay_machine.specs.Linked.{Linked}
+use Rattle.overlay_machine.specs.Linked.{IsLink}
 use Rattle.overlay_machine.specs.Names.{NamesTold, SiteTold}
 use Rattle.overlay_machine.specs.Safe.{IsOpenSeal}
 use Rattle.lcm_machine.specs.declared.cells.Span.{Span}
@@ -162,7 +162,7 @@ module _ (begin : StartsBegin) (a : LinkedSources) where
   abbrev K : Link
   K = overlay_link a.link
 
-  linked : Linked K
+  linked : IsLink K
   linked = linked_is begin a.linked
 
   abbrev P : List PartSeen

@@ -3,7 +3,7 @@ use Rattle.std.proofs.Common.{◌≡◌, ℕ, List, ◌++◌, map, sym, subst}
 use Rattle.overlay_machine.specs.declared.words.OWord.{OWord}
 use Rattle.overlay_machine.specs.State.{OState}
 use Rattle.overlay_machine.specs.Link.{Link}
-use Rattle.overlay_machine.specs.Linked.{Linked}
+use Rattle.overlay_machine.specs.Linked.{IsLink}
 use Rattle.overlay_machine.specs.Names.{NamesTold}
 use Rattle.overlay_machine.specs.Starting.{StartsBegin}
 use Rattle.overlay_machine.proofs.Offers.{starts_tell_names}
@@ -20,7 +20,7 @@ use Rattle.source_starts.specs.Links.{overlay_link, first_state}
 use Rattle.source_starts.specs.Sources.{LinkedSources, world_of, SourcesLeaveNothing, SourcesDoWhatTheyMean}
 use Rattle.source_starts.specs.Words.{SourcesTellWords}
 use Rattle.source_starts.specs.Wiped.{WipedCellsAreTold}
-use Rattle.lockstep.specs.Lockstep.{Holds, Tidies}
+use Rattle.lockstep.specs.Lockstep.{HoldsAlong, Tidies}
 use Rattle.context_laws.proofs.Sources.{StartsAgree, linked_is, holds_is, tidies_is}
 
 -- what came in, and its items
@@ -84,16 +84,16 @@ module _ (it : TwoLinks) where
   abbrev pub W' : World
   W' = world_of it.other
 
-  pub lg : Linked G
+  pub lg : IsLink G
   lg = linked_is it.begin it.one.linked
 
-  pub lh : Linked H
+  pub lh : IsLink H
   lh = linked_is it.begin it.other.linked
 
-  pub hg : Holds G O
+  pub hg : HoldsAlong G O
   hg = holds_is it.agree it.one.linked
 
-  pub hh : Holds H O'
+  pub hh : HoldsAlong H O'
   hh = holds_is it.agree it.other.linked
 
   pub tg : Tidies G O

@@ -22,7 +22,7 @@ use Rattle.overlay_machine.specs.State.{OpenFrame, OState}
 use Rattle.overlay_machine.specs.Flat.{flat, flat_code, flat_data, flat_range}
 use Rattle.overlay_machine.specs.Events.{step_event}
 use Rattle.overlay_machine.specs.Link.{Link}
-use Rattle.overlay_machine.specs.Linked.{Linked}
+use Rattle.overlay_machine.specs.Linked.{IsLink}
 use Rattle.overlay_machine.specs.Safe.{IsOpenSeal, IsMet}
 use Rattle.overlay_machine.proofs.Offers.{map_get}
 use Rattle.run_lines.specs.Layout.{part_name, site_of}
@@ -35,7 +35,7 @@ use Rattle.proc_semantics.specs.Marked.{Arg, Number, OfPair, Event, Calls, Leave
 use Rattle.source_laws.specs.Seen.{Back, Shown, Went, handed, left_with, shown_of, event_outs, call_shown}
 use Rattle.source_laws.specs.Seen.{args_shown, arg_shown, left_shown}
 use Rattle.source_laws.specs.Wiped.{low_of}
-use Rattle.lockstep.specs.Related.{SameNames, RunsOutside, Calls as Pairs, SameWord, ours, code_halves}
+use Rattle.lockstep.specs.Related.{SameNames, StandsOutside, Calls as Pairs, SameWord, ours, code_halves}
 use Rattle.lockstep.specs.Related.{data_halves, ret_codes, ret_datas}
 use Rattle.lockstep.specs.Lockstep.{Round, SameCrossing}
 use Rattle.lockstep.specs.Lockstep as spec
@@ -189,7 +189,7 @@ calls_same calls {name = name} {name' = name'} part site base low m n xs part' s
     }
 
 module _ (g h : Link) (names : SameNames g h) {calls : CallNames} (by_names : GoByNames calls names)
-    (lg : Linked g) (lh : Linked h) (cs : Pairs) (name name' : Whence → Name) (word word' : Whence → OWord)
+    (lg : IsLink g) (lh : IsLink h) (cs : Pairs) (name name' : Whence → Name) (word word' : Whence → OWord)
     (back back' : ℕ → Back)
     (word_same : (w v : Whence) → name w ≡ name' v → SameWord g h names cs (word w) (word' v))
     (back_same : (k : ℕ) → BackAlike g h names cs (back k) (back' k)) where
@@ -221,7 +221,7 @@ module _ (g h : Link) (names : SameNames g h) {calls : CallNames} (by_names : Go
       ap (λ z. record e { seal = z }) s ∙ ap (λ z. record e { seal = d.seal; code = z }) k
       ∙ ap (λ z. record { seal = d.seal; code = d.code; half = z }) m
 
-  module _ (a b : Round) (oa : RunsOutside g a.after) (ob : RunsOutside h b.after)
+  module _ (a b : Round) (oa : StandsOutside g a.after) (ob : StandsOutside h b.after)
       (sa : HasSites g a.after.frames)
       (sb : HasSites h b.after.frames) (ma : (d : Reg) → IsMet g a.after.frames (reg a.after.maps.regs d))
       (mb : (d : Reg) → IsMet h b.after.frames (reg b.after.maps.regs d)) where

@@ -2,7 +2,7 @@
 use Rattle.std.proofs.Common.{◌≤◌, ℕ, [], sym, ◌∙◌, subst, arith}
 use Rattle.lcm_machine.specs.Cells.{cell}
 use Rattle.overlay_machine.specs.Link.{Link}
-use Rattle.overlay_machine.specs.Linked.{Linked}
+use Rattle.overlay_machine.specs.Linked.{IsLink}
 use Rattle.overlay_machine.specs.Runs.{Reached, goes_on}
 use Rattle.overlay_machine.specs.Starting.{StartsBegin}
 use Rattle.run_lines.specs.Cuts.{Matched}
@@ -11,9 +11,9 @@ use Rattle.template_runs.specs.Border.{IsTidied}
 use Rattle.source_laws.specs.Secrets as secrets
 use Rattle.source_starts.specs.Links.{overlay_link, first_state}
 use Rattle.source_starts.specs.Sources.{LinkedStart, LinkedSources, SourcesLeaveNothing}
-use Rattle.lockstep.specs.Related.{RunsOutside, Calls, SameWord, CellPair}
+use Rattle.lockstep.specs.Related.{StandsOutside, Calls, SameWord, CellPair}
 use Rattle.lockstep.specs.Lockstep.{Round, SameCrossing, by_call, by_leave, AreBelow}
-use Rattle.context_laws.specs.Sources.{IsFirst, FirstArrivalsAlike, WholeRunsInStep}
+use Rattle.context_laws.specs.Sources.{IsFirstRound, FirstArrivalsAlike, WholeRunsInStep}
 use Rattle.lockstep.proofs.Offers.{call_new, until_reached, arrive_alike, runs_outside, below_new}
 use Rattle.lockstep.proofs.Offers.{newest_below}
 use Rattle.context_laws.proofs.Sources.{StartsAgree, sources_in_step, linked_is, holds_is}
@@ -21,14 +21,14 @@ use Rattle.context_laws.proofs.Starts.{start_cells_alike, placed_alike}
 use Rattle.context_laws.proofs.Mains.{outside_main, same_first}
 
 -- sources tidy where they let go for the first time
-tidied_first : SourcesLeaveNothing → (a : LinkedSources) (r : Round) → IsFirst a.start r
+tidied_first : SourcesLeaveNothing → (a : LinkedSources) (r : Round) → IsFirstRound a.start r
     → IsTidied (overlay_link a.link) r.before r.after
 tidied_first leaves a r f =
     ((leaves a).shows r.before r.last r.after
     (record { came = secrets.begins f.begins; until = f.until; steps = f.lets; gone = f.gone })).cells
 
 -- so many instructions lead to where they do, and no number of a call was taken back since
-arrives : StartsBegin → StartsAgree → (a : LinkedStart) (r : Round) → IsFirst a.start r
+arrives : StartsBegin → StartsAgree → (a : LinkedStart) (r : Round) → IsFirstRound a.start r
     → (n : ℕ) × Matched a.start n r.last × (r.before.calls ≤ r.last.calls)
 arrives begin agree a r f =
     until_reached (overlay_link a.link) (linked_is begin a) (first_state a.link) (holds_is agree a) r.before
@@ -50,10 +50,10 @@ module _ (begin : StartsBegin) (agree : StartsAgree) (leaves : SourcesLeaveNothi
       h : Link
       h = overlay_link b.link
 
-      lg : Linked g
+      lg : IsLink g
       lg = linked_is begin a.linked
 
-      lh : Linked h
+      lh : IsLink h
       lh = linked_is begin b.linked
 
       last_r : (n : ℕ) × Matched a.start n r.last × (r.before.calls ≤ r.last.calls)
@@ -68,11 +68,11 @@ module _ (begin : StartsBegin) (agree : StartsAgree) (leaves : SourcesLeaveNothi
       after_t : (n : ℕ) × Matched b.start n t.after
       after_t = (_, goes_on last_t.1 ft.lets)
 
-      outside_r : RunsOutside g r.after
+      outside_r : StandsOutside g r.after
       outside_r =
           runs_outside g (first_state a.link) (holds_is agree a.linked) after_r.0 r.after after_r.1 fr.gone
 
-      outside_t : RunsOutside h t.after
+      outside_t : StandsOutside h t.after
       outside_t =
           runs_outside h (first_state b.link) (holds_is agree b.linked) after_t.0 t.after after_t.1 ft.gone
 

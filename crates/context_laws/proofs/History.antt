@@ -16,7 +16,7 @@ use Rattle.overlay_machine.specs.State.{OpenFrame, OState}
 use Rattle.overlay_machine.specs.Step.{own_stack, if_own}
 use Rattle.overlay_machine.specs.Events.{step_event}
 use Rattle.overlay_machine.specs.Link.{Link}
-use Rattle.overlay_machine.specs.Linked.{Linked}
+use Rattle.overlay_machine.specs.Linked.{IsLink}
 use Rattle.overlay_machine.specs.Names.{NamesTold}
 use Rattle.run_lines.specs.Views.{flat_view}
 use Rattle.source_events.specs.declared.Item.{Item}
@@ -134,7 +134,7 @@ module _ (g h : Link) (names : SameNames g h) where
 
   -- ---- a step by which code outside comes in
 
-  module _ (lg : Linked g) (lh : Linked h) (tg : NamesTold g.parts g.layout) (th : NamesTold h.parts h.layout)
+  module _ (lg : IsLink g) (lh : IsLink h) (tg : NamesTold g.parts g.layout) (th : NamesTold h.parts h.layout)
       (cs : Calls) (o q p r : OState) (n : Newest g h names cs o.frames p.frames) where
     same_own : (w v : OWord) → SameWord g h names cs w v
         → if_own g.layout (memory_in (face_of (look w))) ≡ if_own h.layout (memory_in (face_of (look v)))

@@ -10,7 +10,7 @@ use Rattle.trusted_border.specs.declared.events.Event.{Event}
 use Rattle.overlay_machine.specs.State.{OState}
 use Rattle.overlay_machine.specs.Step.{goes, overlay_step}
 use Rattle.overlay_machine.specs.Link.{Link, IsUntrusted}
-use Rattle.overlay_machine.specs.Linked.{Linked}
+use Rattle.overlay_machine.specs.Linked.{IsLink}
 use Rattle.overlay_machine.specs.Runs.{Reached, goes_on}
 use Rattle.overlay_machine.specs.Starting.{StartsBegin}
 use Rattle.run_lines.specs.Layout.{layout}
@@ -35,8 +35,8 @@ use Rattle.source_laws.specs.Secrets.{Until}
 use Rattle.source_laws.specs.Secrets as secrets
 use Rattle.source_starts.specs.Links.{overlay_link, first_state}
 use Rattle.source_starts.specs.Sources.{LinkedSources, SourcesLeaveNothing}
-use Rattle.lockstep.specs.Related.{RunsOutside}
-use Rattle.lockstep.specs.Lockstep.{Holds}
+use Rattle.lockstep.specs.Related.{StandsOutside}
+use Rattle.lockstep.specs.Lockstep.{HoldsAlong}
 use Rattle.context_laws.specs.Ends.{SameResult}
 use Rattle.lockstep.proofs.Offers.{until_reached, runs_outside, opened_open}
 use Rattle.context_laws.proofs.Sources.{StartsAgree, linked_is, holds_is}
@@ -69,16 +69,16 @@ let_out begin agree leaves a q m u e out = by shown.2
     K : Link
     K = overlay_link a.link
 
-    linked : Linked K
+    linked : IsLink K
     linked = linked_is begin a.linked
 
-    holds : Holds K (first_state a.link)
+    holds : HoldsAlong K (first_state a.link)
     holds = holds_is agree a.linked
 
     shown : Shows K.layout q m
     shown = first_shows leaves a q m u e out
 
-    runs : RunsOutside K m
+    runs : StandsOutside K m
     runs =
         let o = first_state a.link in
         let r = until_reached K linked o holds o q 0 Reached.begins u in

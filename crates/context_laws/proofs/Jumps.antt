@@ -30,7 +30,7 @@ use Rattle.trusted_border.specs.Reaches.{jump_plan, plan_goes}
 use Rattle.overlay_machine.specs.State.{OpenFrame}
 use Rattle.overlay_machine.specs.Flat.{flat_code, flat_range}
 use Rattle.overlay_machine.specs.Link.{Link, IsTrusted}
-use Rattle.overlay_machine.specs.Linked.{Linked}
+use Rattle.overlay_machine.specs.Linked.{IsLink}
 use Rattle.overlay_machine.specs.Safe.{IsOpenSeal}
 use Rattle.lockstep.specs.Related.{SameNames, IsOurs}
 
@@ -158,7 +158,7 @@ module _ (g h : Link) (names : SameNames g h) where
         → jumps (Some (ret_opened u)) (Some (frame_opened e u)) ≡ true
         → Jump (Some (ret_opened s)) (Some (frame_opened f s)) (Some (ret_opened u)) (Some (frame_opened e u))
 
-  module _ (lg : Linked g) (lh : Linked h) where
+  module _ (lg : IsLink g) (lh : IsLink h) where
     runs_code : (x : Exported) → x.part.trusted ≡ true → can (MemC (code_of x)) ≡ true
     runs_code x t = rw t refl
 

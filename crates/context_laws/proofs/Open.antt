@@ -12,14 +12,14 @@ use Rattle.overlay_machine.specs.State.{OpenFrame, OState, frame_of}
 use Rattle.overlay_machine.specs.Step.{goes, overlay_step}
 use Rattle.overlay_machine.specs.Flat.{flat}
 use Rattle.overlay_machine.specs.Link.{Link}
-use Rattle.overlay_machine.specs.Linked.{Linked}
+use Rattle.overlay_machine.specs.Linked.{IsLink}
 use Rattle.overlay_machine.specs.Runs.{Reached}
 use Rattle.overlay_machine.specs.Safe.{IsMet}
 use Rattle.overlay_machine.proofs.Offers.{frame_in, stays_open}
 use Rattle.source_laws.specs.Secrets.{Until, still_there, one_more}
 use Rattle.lockstep.specs.Related.{SameNames, Calls, AreCalls, SameWord, ours, code_halves, data_halves}
 use Rattle.lockstep.specs.Related.{ret_codes, ret_datas}
-use Rattle.lockstep.specs.Lockstep.{Holds}
+use Rattle.lockstep.specs.Lockstep.{HoldsAlong}
 use Rattle.lockstep.proofs.Offers.{until_reached}
 use Rattle.context_laws.proofs.Jumps.{Flat, f_ours, f_code, f_data, f_ret, f_frame}
 
@@ -30,7 +30,7 @@ HasSites k fs = (n : ℕ) (f : OpenFrame) → frame_of fs n ≡ Some f → (s : 
 
 -- ---- one run
 
-module _ (g : Link) (linked : Linked g) (o : OState) (holds : Holds g o) where
+module _ (g : Link) (linked : IsLink g) (o : OState) (holds : HoldsAlong g o) where
   pub has_sites : (i : ℕ) (q : OState) → Reached g.layout o i q → HasSites g q.frames
   has_sites i q r n f e =
       let k = (holds i q r).1.frames_fit f (frame_in q.frames n f e).0 in (k.code, k.code_is)

@@ -38,11 +38,11 @@ use Rattle.source_laws.specs.Seen.{Shown, Back}
 use Rattle.source_laws.specs.Seen as seen
 use Rattle.source_laws.specs.Trace as lines
 use Rattle.source_laws.specs.Trace.{weighed}
-use Rattle.source_laws.specs.Words.{Tells, none_yet, and_then}
+use Rattle.source_laws.specs.Words.{RunTells, none_yet, and_then}
 use Rattle.source_laws.specs.Wiped as since
 use Rattle.source_laws.specs.Wiped.{TellsSince, last_outside}
 use Rattle.source_laws.specs.Sources as sources
-use Rattle.source_laws.specs.Sources.{Shows, MeansAlways, MeansAt}
+use Rattle.source_laws.specs.Sources.{RunShows, MeansAlways, MeansAt}
 use Rattle.source_laws.specs.Secrets.{Until, still_there, one_more}
 use Rattle.source_laws.proofs.Offers.{outs_line, things_item, map-both}
 
@@ -112,7 +112,7 @@ module _ (l : Layout) where
 
   -- the same, with the state in which code outside ran last
   pub tells_of : (s : OState) (es : List Shown) (is : List (Thing OWord Back)) (b p : OState)
-      → TellsSince l s es is b p → Tells l s es is p
+      → TellsSince l s es is b p → RunTells l s es is p
   tells_of s _ _ _ _ since.none_yet = none_yet
   tells_of s _ _ _ q (since.and_then {es = es} {is = is} {b = b} {p = p} t e) =
       and_then (tells_of s es is b p t) e
@@ -142,17 +142,17 @@ module _ (l : Layout) where
   -- ---- what a source is shown
 
   pub shows_of : (s : OState) (es : List Shown) (is : List (Thing OWord Back)) (p : OState)
-      → Tells l s es is p → (j n : ℕ) × Shows l s j n (map (λ x. x.event) es) (map (λ x. x.item) is) p
+      → RunTells l s es is p → (j n : ℕ) × RunShows l s j n (map (λ x. x.event) es) (map (λ x. x.item) is) p
   shows_of s _ _ _ none_yet = (0, 0, sources.none_yet)
   shows_of s _ _ q (and_then {es = es} {is = is} {p = p} t e) =
       let k = shows_of s es is p t in (
         _,
         _,
-        subst (λ z. Shows l s (k.0 + weight_of l p) (k.1 + weighed (is_inside l p) (weight_of l p)) z
+        subst (λ z. RunShows l s (k.0 + weight_of l p) (k.1 + weighed (is_inside l p) (weight_of l p)) z
             (map (λ x. x.item) (is ++ seen.event_items l q (step_event l p q))) q)
             (ap (λ z. map (λ x. x.event) es ++ z) (sym (outs_line l q (step_event l p q)))
             ∙ sym (map-both (λ x. x.event) es (seen.event_outs l q (step_event l p q))))
-            (subst (λ z. Shows l s (k.0 + weight_of l p) (k.1 + weighed (is_inside l p) (weight_of l p))
+            (subst (λ z. RunShows l s (k.0 + weight_of l p) (k.1 + weighed (is_inside l p) (weight_of l p))
             (map (λ x. x.event) es ++ lines.event_outs l (flat_view l q) (step_event l p q)) z q)
             (ap (λ z. map (λ x. x.item) is ++ z)
             (sym (things_item l q (lines.event_items l (flat_view l q) (step_event l p q))))
@@ -224,7 +224,7 @@ module _ (l : Layout) where
   lines_calm q (Some (Left p)) c = absurd c
 
   far_shows : (s : OState) (es : List OutLine) (is : List Item) (p q : OState) (n j w : ℕ) → Far p n q
-      → Shows l s j w es is p → (i v : ℕ) × Shows l s i v es is q × (n ≤ v)
+      → RunShows l s j w es is p → (i v : ℕ) × RunShows l s i v es is q × (n ≤ v)
   far_shows s es is p _ _ j w (here i) t = (j, w, t, omega arith)
   far_shows s es is p m _ j w (more {n = n} {q = q} f e i) t =
       let k = far_shows s es is p q n j w f t in
@@ -236,9 +236,9 @@ module _ (l : Layout) where
       let far = k.3 in (
         _,
         _,
-        subst (λ z. Shows l s (k.0 + weight_of l q) (k.1 + weighed (is_inside l q) (weight_of l q)) z is m)
+        subst (λ z. RunShows l s (k.0 + weight_of l q) (k.1 + weighed (is_inside l q) (weight_of l q)) z is m)
             (ap (λ z. es ++ z) c.0 ∙ append-nil es)
-            (subst (λ z. Shows l s (k.0 + weight_of l q) (k.1 + weighed (is_inside l q) (weight_of l q))
+            (subst (λ z. RunShows l s (k.0 + weight_of l q) (k.1 + weighed (is_inside l q) (weight_of l q))
             (es ++ lines.event_outs l (flat_view l m) (step_event l q m)) z m)
             (ap (λ z. is ++ z) c.1 ∙ append-nil is) (sources.and_then k.2 e)),
         omega (arith, up, one, far),
@@ -273,14 +273,14 @@ module _ (world : World) (size : ℕ) (s : StartSeen) (means : MeansAlways world
   Items is = map (λ (x : Thing OWord Back). x.item) is
 
   -- what the meaning says so many steps later
-  said_at : (es : List Shown) (is : List (Thing OWord Back)) (p : OState) → Tells L O es is p → (n : ℕ)
+  said_at : (es : List Shown) (is : List (Thing OWord Back)) (p : OState) → RunTells L O es is p → (n : ℕ)
       (q : OState) → Far L p n q → (v : ℕ) × MeansAt world size L v (Outs es) (Items is) q × (n ≤ v)
   said_at es is p t n q f =
       let k = shows_of L O es is p t in
       let z = far_shows L O (Outs es) (Items is) p q n k.0 k.1 f k.2 in
       (z.1, means z.0 z.1 (Outs es) (Items is) q z.2, z.3)
 
-  pub goes_out : (es : List Shown) (is : List (Thing OWord Back)) (p : OState) → Tells L O es is p
+  pub goes_out : (es : List Shown) (is : List (Thing OWord Back)) (p : OState) → RunTells L O es is p
       → is_inside L p ≡ true → TellsMore es is
       → (q m : OState) × Until L p q × (overlay_step L q ≡ goes m) × (is_inside L m ≡ false)
   goes_out es is p t i told = by (fate L p (told.0 * 200 + 1) i)
@@ -326,7 +326,7 @@ module _ (world : World) (size : ℕ) (s : StartSeen) (means : MeansAlways world
     to_fail : (q : OState) → Until L p q → overlay_step L q ≡ fails → e ≡ Fails → ComesTo p e
 
   -- where it doesn't let go
-  pub comes_to : (es : List Shown) (is : List (Thing OWord Back)) (p : OState) → Tells L O es is p
+  pub comes_to : (es : List Shown) (is : List (Thing OWord Back)) (p : OState) → RunTells L O es is p
       → is_inside L p ≡ true → (e : End) → EndsSo is e → (e ≡ OutOfFuel → ⊥)
       → ((q m : OState) → Until L p q → overlay_step L q ≡ goes m → is_inside L m ≡ false → ⊥) → ComesTo p e
   comes_to es is p t i e so some never = by (fate L p (so.0 * 200 + 1) i)

@@ -17,14 +17,14 @@ use Rattle.linked_starts.specs.LinkedStarts.{IsLinkedStart}
 use Rattle.overlay_machine.specs.declared.words.OWord.TheVariants.{Plain}
 use Rattle.overlay_machine.specs.Copies.{plain_regs}
 use Rattle.overlay_machine.specs.Link.{Link}
-use Rattle.overlay_machine.specs.Linked.{Linked}
+use Rattle.overlay_machine.specs.Linked.{IsLink}
 use Rattle.overlay_machine.specs.Starting.{StartsBegin, AgreesFromStart}
 use Rattle.source_laws.specs.Secrets.{comes}
 use Rattle.source_starts.specs.Links.{overlay_link, first_state}
 use Rattle.source_starts.specs.Sources.{LinkedStart, LinkedSources, SourcesLeaveNothing}
 use Rattle.source_starts.proofs.Offers.{held_at}
 use Rattle.lockstep.specs.Related.{IsOurs, SameWord, ours}
-use Rattle.lockstep.specs.Lockstep.{Holds, Tidies}
+use Rattle.lockstep.specs.Lockstep.{HoldsAlong, Tidies}
 use Rattle.context_laws.specs.Sources.{SourcesInStep, SourcesAgainstContexts, StartsAlike}
 use Rattle.lockstep.proofs.Offers.{run_in_step, no_context_tells}
 
@@ -32,10 +32,10 @@ abbrev pub StartsAgree : Type 0
 StartsAgree = (parts : List PartSeen) (size : ℕ) (s : StartSeen) → IsLinkedStart parts size s
     → AgreesFromStart parts size s
 
-pub linked_is : StartsBegin → (a : LinkedStart) → Linked (overlay_link a.link)
+pub linked_is : StartsBegin → (a : LinkedStart) → IsLink (overlay_link a.link)
 linked_is begin a = (held_at begin a).linked
 
-pub holds_is : StartsAgree → (a : LinkedStart) → Holds (overlay_link a.link) (first_state a.link)
+pub holds_is : StartsAgree → (a : LinkedStart) → HoldsAlong (overlay_link a.link) (first_state a.link)
 holds_is agree a j p r =
     let m = (agree (placed a.parts a.size) a.size a.start a.is_start).matched j p r in (m.0, m.2)
 

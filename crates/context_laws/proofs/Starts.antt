@@ -20,7 +20,7 @@ use Rattle.linked_starts.proofs.Offers.{listed_at, OwnWord, own_code, own_data}
 use Rattle.overlay_machine.specs.declared.words.OWord.{OWord}
 use Rattle.overlay_machine.specs.declared.words.OWord.TheVariants.{Plain}
 use Rattle.overlay_machine.specs.Link.{Link, IsTrusted, IsUntrusted}
-use Rattle.overlay_machine.specs.Linked.{Linked}
+use Rattle.overlay_machine.specs.Linked.{IsLink}
 use Rattle.overlay_machine.specs.Safe.{IsOpenSeal}
 use Rattle.overlay_machine.specs.Starting.{overlay_at, StartsBegin}
 use Rattle.overlay_machine.proofs.Offers.{contains_first, contains_rest, is_overlay, start_word_is}
@@ -36,7 +36,7 @@ use Rattle.context_laws.proofs.Sources.{starts_alike}
 use Rattle.context_laws.proofs.OneAt.{OneAt, one_at, given_alone}
 
 -- a trusted part has no word at an address that is free
-part_none : (g : Link) (linked : Linked g) (parts : List PartSeen) (a : ℕ) (p : PartSeen) → IsTrusted g p
+part_none : (g : Link) (linked : IsLink g) (parts : List PartSeen) (a : ℕ) (p : PartSeen) → IsTrusted g p
     → IsFreeAt g a → part_word parts a p ≡ None
 unfolding part_word
 part_none g linked parts a p ip free = by _ refl
@@ -65,7 +65,7 @@ part_none g linked parts a p ip free = by _ refl
               apart p.component.data_base (length p.component.data_words) 0 f.0 lt (free.1 p ip))
         ]
 
-module _ (g h : Link) (names : SameNames g h) (lg : Linked g) (lh : Linked h) where
+module _ (g h : Link) (names : SameNames g h) (lg : IsLink g) (lh : IsLink h) where
   abbrev W : Word → Word → Type 0
   W w v = SameWord g h names [] (Plain w) (Plain v)
 
@@ -153,7 +153,7 @@ module _ (g h : Link) (names : SameNames g h) (lg : Linked g) (lh : Linked h) wh
         (λ w e. own_ours p w (own_data p (lg.parts p u.0) o w e)))))
 
     -- the part of a word that is there
-    untrusted_of : (k : Link) (linked : Linked k) → IsFreeAt k a → (p : PartSeen) (w : Word)
+    untrusted_of : (k : Link) (linked : IsLink k) → IsFreeAt k a → (p : PartSeen) (w : Word)
         → Contains k.parts p → part_word k.parts a p ≡ Some w → IsUntrusted k p
     untrusted_of k linked f p w m e = (m, by p.trusted refl)
       where

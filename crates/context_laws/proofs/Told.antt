@@ -26,7 +26,7 @@ use Rattle.overlay_machine.specs.Words.{look}
 use Rattle.overlay_machine.specs.State.{OState}
 use Rattle.overlay_machine.specs.Events.{step_event, entered_event, shown_word}
 use Rattle.overlay_machine.specs.Link.{Link, ranges_of}
-use Rattle.overlay_machine.specs.Linked.{Linked}
+use Rattle.overlay_machine.specs.Linked.{IsLink}
 use Rattle.overlay_machine.specs.Names.{NamesTold, PartNamed, EntryNamed}
 use Rattle.overlay_machine.specs.Safe.{IsOpenSeal, IsMet}
 use Rattle.overlay_machine.proofs.Offers.{entry_begins, crossing_code_is as code_is, index_of}
@@ -54,7 +54,7 @@ use Rattle.context_laws.proofs.Open.{CallsAlike, HasSites, flat_same}
 
 -- ---- one link
 
-module _ (k : Link) (linked : Linked k) (told : NamesTold k.parts k.layout) where
+module _ (k : Link) (linked : IsLink k) (told : NamesTold k.parts k.layout) where
   -- an export of a trusted part, and what lines call it
   module _ (x : Exported) (ix : IsExport k x) where
     pub place : (n : ℕ) × (slice_get k.parts n ≡ Some x.part)
@@ -129,7 +129,7 @@ module _ (k : Link) (linked : Linked k) (told : NamesTold k.parts k.layout) wher
 -- ---- two links
 
 module _ (g h : Link) (names : SameNames g h) {calls : CallNames} (by_names : GoByNames calls names)
-    (lg : Linked g) (lh : Linked h) (tg : NamesTold g.parts g.layout) (th : NamesTold h.parts h.layout) where
+    (lg : IsLink g) (lh : IsLink h) (tg : NamesTold g.parts g.layout) (th : NamesTold h.parts h.layout) where
   int_same : (w v : Word) → Flat g h names w v → integer_in w ≡ integer_in v
   int_same _ _ (f_ours w o) = refl
   int_same _ _ (f_code x y t) = refl

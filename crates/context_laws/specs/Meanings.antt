@@ -24,7 +24,7 @@ use Rattle.source_starts.specs.Links.{Linking, overlay_link, first_state}
 use Rattle.source_starts.specs.Sources.{LinkedSources, world_of}
 use Rattle.lockstep.specs.Related.{SameNames, Calls}
 use Rattle.lockstep.specs.Lockstep.{Round, Path, SameCrossing, InStep}
-use Rattle.context_laws.specs.Sources.{NamesOf, Beside, SameImported, IsFirst}
+use Rattle.context_laws.specs.Sources.{NamesOf, Beside, SameImported, IsFirstRound}
 
 -- ---- names of exports and sites
 
@@ -83,7 +83,7 @@ pub record DoesTheSameBy (calls : CallNames) (a b : Linking) (names : NamesOf a 
   pub first : is_inside (layout a.start) (first_state a) ≡ is_inside (layout b.start) (first_state b)
   pub begins : is_inside (layout a.start) (first_state a) ≡ false
       → GoesInStep calls names [] (first_state a) (first_state b)
-  pub lets_go : (r : Round) → IsFirst a.start r → (t : Round) × IsFirst b.start t × (cs : Calls)
+  pub lets_go : (r : Round) → IsFirstRound a.start r → (t : Round) × IsFirstRound b.start t × (cs : Calls)
       × SameCrossing (overlay_link a) (overlay_link b) names [] r t cs
       × GoesInStep calls names cs r.after t.after
 

@@ -97,7 +97,7 @@ PlacedStartsAlike =
 -- ---- where main is trusted
 
 -- from the start on trusted code has control, and then lets go for the first time
-pub record IsFirst (s : StartSeen) (r : Round) : Type 0 where
+pub record IsFirstRound (s : StartSeen) (r : Round) : Type 0 where
   pub begins : r.before ≡ (overlay_at s).state
   pub until : Until (layout s) r.before r.last
   pub lets : overlay_step (layout s) r.last ≡ goes r.after
@@ -109,7 +109,7 @@ abbrev pub FirstArrivalsAlike : Type 0
 FirstArrivalsAlike =
     (a b : LinkedSources) (names : NamesOf a.link b.link)
     → AreBeside (overlay_link a.link) (overlay_link b.link) → ImportTheSame names
-    → (r t : Round) → IsFirst a.start r → IsFirst b.start t → (cs : Calls)
+    → (r t : Round) → IsFirstRound a.start r → IsFirstRound b.start t → (cs : Calls)
     → SameCrossing (overlay_link a.link) (overlay_link b.link) names [] r t cs
     → SameWiped (overlay_link a.link) r t
     → Alike (overlay_link a.link) (overlay_link b.link) names cs r.after t.after

@@ -8,7 +8,7 @@ use Rattle.run_audit.specs.Laws.{TracesAreFound, FaultsAreFound}
 use Rattle.run_picture.specs.declared.fault.DrawFault.TheVariants as fault
 use Rattle.run_picture.specs.Picture.{drawn, drawn_if, is_too_long}
 use Rattle.call_answers.specs.Plans.{whole, too_long, unread, Comes}
-use Rattle.call_answers.specs.Answers.{answer, nothing, with_files, Gives, StayBut}
+use Rattle.call_answers.specs.Answers.{answer, nothing, with_files, GivesAnswer, StayBut}
 use Rattle.call_answers.proofs.Offers.{comes_contents, ends_as, stay_but}
 use Rattle.draw_call.specs.declared.words.DrawCall.{DrawCall}
 use Rattle.draw_call.specs.declared.refusal.DrawRefusal.{DrawRefusal}
@@ -42,7 +42,7 @@ module _ (traces : TracesAreFound) (faults : FaultsAreFound) where
         due,
         seen,
         is_due asked old.files seen due c,
-        subst (λ b. Gives (stk_draw (out_of asked)) (with_files old seen) b status new) x g,
+        subst (λ b. GivesAnswer (stk_draw (out_of asked)) (with_files old seen) b status new) x g,
       )
 
   -- ---- files that stay
@@ -63,8 +63,8 @@ module _ (traces : TracesAreFound) (faults : FaultsAreFound) where
   others_stay asked old status new (answer due a seen c x g) =
       let p = stk_draw (out_of asked) in
       let b = answer_to (out_of asked) due in
-      let given : Gives p (with_files old seen) b status new =
-      subst (λ d. Gives p (with_files old seen) d status new) x g in
+      let given : GivesAnswer p (with_files old seen) b status new =
+      subst (λ d. GivesAnswer p (with_files old seen) d status new) x g in
       let stays = due_stays asked old.files seen new.files due (is_due asked old.files seen due c)
       (stay_but p old seen b status new (comes_contents (plan_in asked) old.files seen due c) given) in
       elim (ends_as p (with_files old seen) b status new given)

@@ -13,7 +13,7 @@ use Rattle.run_picture.specs.declared.fault.DrawFault.TheVariants as fault
 use Rattle.run_picture.specs.Picture.{drawn, is_too_long, picture}
 use Rattle.call_answers.specs.Plans.{Reading, PlanOf, Reads, Ends, Made}
 use Rattle.call_answers.specs.Answers.{AnswerWith, Program, OutsideWith, outside, with_files}
-use Rattle.call_answers.specs.Answers.{Answers, Gives, GivesNothing, Stay}
+use Rattle.call_answers.specs.Answers.{Answers, GivesAnswer, GivesNothing, Stay}
 use Rattle.draw_call.specs.declared.words.DrawCall.{DrawCall}
 use Rattle.draw_call.specs.declared.refusal.DrawRefusal.{DrawRefusal}
 use Rattle.draw_call.specs.declared.refusal.DrawRefusal.TheVariants as refusal
@@ -138,7 +138,7 @@ Cause asked old status new =
     let program = stk_draw (out_of asked) in
     GivesNothing program old status new
     ⊎ ((due : Result (List ℕ) DrawRefusal) × (seen : FilesSeen) × IsDue asked old.files due seen
-    × Gives program (with_files old seen) (answer_to (out_of asked) due) status new)
+    × GivesAnswer program (with_files old seen) (answer_to (out_of asked) due) status new)
 
 -- ---- files that stay
 

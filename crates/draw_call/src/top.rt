@@ -1,6 +1,6 @@
 //! The call.
 ghost use Rattle.std.specs.Prelude.{◌<◌, [], length, Some, Ok, Err};
-ghost use Rattle.call_answers.specs.Answers.{Gives, WritesOrFails};
+ghost use Rattle.call_answers.specs.Answers.{GivesAnswer, WritesOrFails};
 ghost use Rattle.command_words.specs.Texts.{texts};
 ghost use Rattle.draw_call.specs.Words.{call_in};
 ghost use Rattle.draw_call.specs.Answers.{DrawAnswers, answer_to, stk_draw, seen_by};
@@ -27,7 +27,7 @@ fn say<S: Sink>(out: &mut S, line: &str, status: DrawStatus) -> DrawStatus
 
 // Tells of a refusal.
 fn refuse<S: Sink>(why: DrawRefusal, out: &mut S) -> DrawStatus
-    ensures { (name : _) (files : _) → Gives (stk_draw name) (seen_by files (S.seen out.old))
+    ensures { (name : _) (files : _) → GivesAnswer (stk_draw name) (seen_by files (S.seen out.old))
         (answer_to name (Err why)) result (seen_by files (S.seen out.new)) }
 {
     say(out, refusal_line(why).as_str(), refusal_ends(why))
@@ -40,7 +40,7 @@ fn give<F: Files, S: Sink>(
     files: &mut F,
     out: &mut S,
 ) -> DrawStatus
-    ensures { Gives (stk_draw name.now) (seen_by (F.seen files.old) (S.seen out.old))
+    ensures { GivesAnswer (stk_draw name.now) (seen_by (F.seen files.old) (S.seen out.old))
         (answer_to name.now (Ok svg.now)) result (seen_by (F.seen files.new) (S.seen out.new)) }
 {
     match files.put(name.as_str(), svg.as_slice()) {

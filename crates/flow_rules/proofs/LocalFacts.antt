@@ -8,9 +8,9 @@ use Rattle.call_sequence.specs.declared.TheConstants.{SITE_WORDS, ENTRY_WORDS}
 use Rattle.flow_rules.specs.Kinds.{Row, clean_row}
 use Rattle.flow_rules.specs.Places.{begins_entry, begins_site, declared}
 use Rattle.flow_rules.specs.declared.flow.Walk.TheVariants.{Before as before}
-use Rattle.flow_rules.specs.Walk.{Comes, RowAt, site_ready}
+use Rattle.flow_rules.specs.Walk.{Arrives, RowAt, site_ready}
 use Rattle.flow_rules.specs.Verdict.{IsKept}
-use Rattle.flow_rules.specs.Local.{Leads, Judged}
+use Rattle.flow_rules.specs.Local.{LeadsTo, Judged}
 use Rattle.flow_rules.proofs.Walks.{ListsKept, leads, word_judged, site_leads, entry_goes}
 use Rattle.flow_rules.proofs.Placed.{placed_lists}
 
@@ -22,7 +22,8 @@ module _ (c : ComponentFields) (fits : IsComponent c) (kept : IsKept c) where
   row_within o r (inl h) = let l : o + ENTRY_WORDS ≤ length c.code = (placed.entries o h.0).0 in omega arith
   row_within o r (inr h) = by_declared (declared c o) refl h.1.0 h.1.1 h.1.2
     where
-      by_declared : (d : Option Row) → declared c o ≡ d → (current : Option Row) → Comes c (before o current)
+      by_declared : (d : Option Row) → declared c o ≡ d → (current : Option Row)
+          → Arrives c (before o current)
           → option_or d current ≡ Some r → o < length c.code
       by_declared (Some d) e current h k = (placed.rows o d e).0
       by_declared None e None h k = cc
@@ -33,8 +34,8 @@ module _ (c : ComponentFields) (fits : IsComponent c) (kept : IsKept c) where
   word_flows o r ne ns h = word_judged c kept.walked placed o r (row_within o r h) ne ns h
 
   pub site_flows : (o : ℕ) (r : Row) → begins_site c o ≡ true → RowAt c o r → (site_ready r ≡ true)
-      × Leads c (o + SITE_WORDS) clean_row
+      × LeadsTo c (o + SITE_WORDS) clean_row
   site_flows o r e h = site_leads c kept.walked o r (row_within o r h) (placed.sites o e).1 e h
 
-  pub entry_flows : (o : ℕ) → begins_entry c o ≡ true → Leads c (o + ENTRY_WORDS) clean_row
+  pub entry_flows : (o : ℕ) → begins_entry c o ≡ true → LeadsTo c (o + ENTRY_WORDS) clean_row
   entry_flows o e = entry_goes c kept.walked placed o e

@@ -20,7 +20,7 @@ use Rattle.flow_rules.specs.Kinds.{Row, entry_row, clean_row}
 use Rattle.flow_rules.specs.Lists.{lists}
 use Rattle.flow_rules.specs.Places.{begins_entry, begins_site, declared}
 use Rattle.flow_rules.specs.Walk.{instr_at, keep, comes_in, site_ready, good_target, flow_of, after_flow}
-use Rattle.flow_rules.specs.Walk.{at_row, past, at_word, at_entry, at_end, next_from, next, walk, Comes}
+use Rattle.flow_rules.specs.Walk.{at_row, past, at_word, at_entry, at_end, next_from, next, walk, Arrives}
 use Rattle.flow_rules.specs.Verdict.{IsFirstOfFlow, found_by, flow_answer}
 use Rattle.flow_rules.proofs.Walks.{stays}
 
@@ -121,7 +121,7 @@ module _ (c : ComponentFields) where
   ends (Before o current) h = let past_end : nat_lt o (length c.code) ≡ false =
       grind (arith, nat_tests) in rw past_end (ends_there current)
 
-  comes_to : (w : Walk) → next c w ≡ w → Comes c w → walk c (suc (length c.code)) ≡ w
+  comes_to : (w : Walk) → next c w ≡ w → Arrives c w → walk c (suc (length c.code)) ≡ w
   comes_to w stops h =
       let n = suc (length c.code) in
       let m : h.0 + n ≡ n + h.0 = omega arith in

@@ -8,25 +8,26 @@ use Rattle.component_file.specs.Limits.{IsComponent}
 use Rattle.flow_rules.specs.Kinds.{Row}
 use Rattle.flow_rules.specs.Places.{begins_entry, is_inside, declared}
 use Rattle.flow_rules.specs.declared.flow.Walk.TheVariants.{Before as before}
-use Rattle.flow_rules.specs.Walk.{Comes, RowAt}
+use Rattle.flow_rules.specs.Walk.{Arrives, RowAt}
 use Rattle.flow_rules.specs.Verdict.{IsKept}
 use Rattle.flow_rules.proofs.Walks.{one_current, no_row_inside}
 use Rattle.flow_rules.proofs.Placed.{placed_lists, inside_is}
 
 module _ (c : ComponentFields) where
   -- where the walk never comes there is no row
-  pub no_row : (o : ℕ) → begins_entry c o ≡ false → ((z : Option Row) → Comes c (before o z) → ⊥) → (r : Row)
+  pub no_row : (o : ℕ) → begins_entry c o ≡ false → ((z : Option Row) → Arrives c (before o z) → ⊥)
+      → (r : Row)
       → RowAt c o r → ⊥
   no_row o ne none r (inl h) = let f : true ≡ false = sym h.0 ∙ ne in cc
   no_row o ne none r (inr h) = none h.1.0 h.1.1
 
   pub row_is : (o : ℕ) (current : Option Row) (r : Option Row) → begins_entry c o ≡ false
-      → Comes c (before o current) → r ≡ option_or (declared c o) current → IfSome r (λ row. RowAt c o row)
+      → Arrives c (before o current) → r ≡ option_or (declared c o) current → IfSome r (λ row. RowAt c o row)
   row_is o current None ne h e = tt
   row_is o current (Some row) ne h e = inr (ne, (current, h, sym e))
 
   pub row_none : (o : ℕ) (current : Option Row) (r : Option Row) → begins_entry c o ≡ false
-      → Comes c (before o current) → r ≡ option_or (declared c o) current
+      → Arrives c (before o current) → r ≡ option_or (declared c o) current
       → IfNone r ((row : Row) → RowAt c o row → ⊥)
   row_none o current (Some row) ne h e = tt
   row_none o current None ne h e = by_row

@@ -27,7 +27,7 @@ use Rattle.component_file.specs.Limits.{IsComponent}
 use Rattle.flow_rules.specs.Verdict.{IsKept}
 use Rattle.flow_rules.specs.Places.{begins_entry, begins_site}
 use Rattle.flow_rules.specs.Walk.{instr_in, instr_at, RowAt}
-use Rattle.flow_rules.specs.Local.{Leads}
+use Rattle.flow_rules.specs.Local.{LeadsTo}
 use Rattle.flow_rules.specs.Holds.{Ranges, part_stack_cap, code_at, Up, HasKinds, PcAt, SafeCells, SameOthers}
 use Rattle.flow_rules.proofs.Fitting.{row_fits}
 use Rattle.flow_rules.proofs.LocalFacts.{word_flows}
@@ -71,7 +71,7 @@ module _ {W : Type 0} (look : W → Word) (plain : Word → W) (look_plain : (x 
         None None
         → Next s s'
 
-  stands_of : (s' : State W) (o : ℕ) (r : Row) → Leads c o r → PcAt look part o s'.regs
+  stands_of : (s' : State W) (o : ℕ) (r : Row) → LeadsTo c o r → PcAt look part o s'.regs
       → HasKinds look Safe Has part r s'.regs → StandsAt s' o
   stands_of s' o r l p f = record {
     there = l.there;
@@ -137,15 +137,15 @@ module _ {W : Type 0} (look : W → Word) (plain : Word → W) (look_plain : (x 
   -- where it lands there is a row
   landed : (i : Instr) (next : Word) (s s' : State W)
       → fetch (faces look s Pc) (cell_faces look s) ≡ some i next
-      → (o : ℕ) (r : Row) (t : Option ℕ) (a : Option Row) → ((q : Row) → a ≡ Some q → Leads c (o + 1) q)
-      → ((p : ℕ) → t ≡ Some p → (c.fail_at ≡ Some p) ⊎ Leads c p r)
+      → (o : ℕ) (r : Row) (t : Option ℕ) (a : Option Row) → ((q : Row) → a ≡ Some q → LeadsTo c (o + 1) q)
+      → ((p : ℕ) → t ≡ Some p → (c.fail_at ≡ Some p) ⊎ LeadsTo c p r)
       → Lands look plain look_plain Safe Has Open part safe_int safe_stk open_data open_stack i o r s s' t a
       → Next s s'
   landed i next s s' got o r t (Some q) on jumps (lands_on p f) =
       to_row (o + 1) (stands_of s' (o + 1) q (on q refl) p f)
   landed i next s s' got o r (Some t) a on jumps (lands_at p f) = by_jump (jumps t refl)
     where
-      by_jump : (c.fail_at ≡ Some t) ⊎ Leads c t r → Next s s'
+      by_jump : (c.fail_at ≡ Some t) ⊎ LeadsTo c t r → Next s s'
       by_jump (inl e) = to_fail t e p
       by_jump (inr l) = to_row t (stands_of s' t r l p f)
   landed i next s s' got o r None None on jumps

@@ -22,8 +22,8 @@ use Rattle.call_sequence.specs.declared.TheConstants.{SITE_WORDS, ENTRY_WORDS}
 use Rattle.flow_rules.specs.Places.{begins_entry, begins_site, declared}
 use Rattle.flow_rules.specs.Walk.{instr_at, keep, comes_in, site_ready, goes_into, good_target, flow_of}
 use Rattle.flow_rules.specs.Walk.{after_flow, at_row, past, at_word, at_entry, at_end, next_from, next, walk}
-use Rattle.flow_rules.specs.Walk.{Comes, RowAt}
-use Rattle.flow_rules.specs.Local.{Leads, JumpsTo, Judged}
+use Rattle.flow_rules.specs.Walk.{Arrives, RowAt}
+use Rattle.flow_rules.specs.Local.{LeadsTo, JumpsTo, Judged}
 
 kind_below_self : (k : Kind) → kind_below k k ≡ true
 kind_below_self kind.Any = refl
@@ -126,15 +126,15 @@ module _ (c : ComponentFields) where
   stays w n (suc k) s e = let m : suc k + n ≡ suc (k + n) =
       omega arith in rw m (ap (next c) (stays w n k s e) ∙ s)
 
-  one_end : (w v : Walk) → next c w ≡ w → next c v ≡ v → Comes c w → Comes c v → w ≡ v
+  one_end : (w v : Walk) → next c w ≡ w → next c v ≡ v → Arrives c w → Arrives c v → w ≡ v
   one_end w v s t h k =
       let m : k.0 + h.0 ≡ h.0 + k.0 = omega arith in
       sym (stays w h.0 k.0 s h.1) ∙ ap (walk c) m ∙ stays v k.0 h.0 t k.1
 
-  pub not_broken : Comes c ended → (rule p : ℕ) → Comes c (broken rule p) → ⊥
+  pub not_broken : Arrives c ended → (rule p : ℕ) → Arrives c (broken rule p) → ⊥
   not_broken h rule p k = let e : ended ≡ broken rule p = one_end ended (broken rule p) refl refl h k in cc
 
-  pub comes_next : (w : Walk) → Comes c w → Comes c (next c w)
+  pub comes_next : (w : Walk) → Arrives c w → Arrives c (next c w)
   comes_next w h = (suc h.0, ap (next c) h.1)
 
   -- ---- which offsets the walk comes to
@@ -150,13 +150,13 @@ module _ (c : ComponentFields) where
 
   -- the walk comes to the offset, or over it
   data Passes (t : ℕ) : Type 0 where
-    comes : {cur : Option Row} → Comes c (before t cur) → Passes t
+    comes : {cur : Option Row} → Arrives c (before t cur) → Passes t
     over : {cur : Option Row} (start size : ℕ) → ((begins_entry c start ≡ true) × (size ≡ ENTRY_WORDS))
-        ⊎ ((begins_site c start ≡ true) × (size ≡ SITE_WORDS)) → Comes c (before (start + size) cur)
+        ⊎ ((begins_site c start ≡ true) × (size ≡ SITE_WORDS)) → Arrives c (before (start + size) cur)
         → start < t → t < start + size → Passes t
 
-  module _ (walked : Comes c ended) where
-    from_here : (t : ℕ) (w : Walk) → Onward t w → Comes c w → Passes (suc t)
+  module _ (walked : Arrives c ended) where
+    from_here : (t : ℕ) (w : Walk) → Onward t w → Arrives c w → Passes (suc t)
     from_here t (broken rule p) breaks_off h = absurd (not_broken walked rule p h)
     from_here t ended x h = elim x [ ]
     from_here t (before o cur) (by_word ne ns) h = comes (let e : t + 1 ≡ suc t = omega arith in rw e at h)
@@ -178,10 +178,10 @@ module _ (c : ComponentFields) where
     passes zero le = comes {cur = None} (0, refl)
     passes (suc t) le = passes_next t (omega arith) (passes t (omega arith))
 
-    pub reaches : (t : ℕ) → t ≤ length c.code → (Inside t → ⊥) → (cur : Option Row) × Comes c (before t cur)
+    pub reaches : (t : ℕ) → t ≤ length c.code → (Inside t → ⊥) → (cur : Option Row) × Arrives c (before t cur)
     reaches t le out = by_pass (passes t le)
       where
-        by_pass : Passes t → (cur : Option Row) × Comes c (before t cur)
+        by_pass : Passes t → (cur : Option Row) × Arrives c (before t cur)
         by_pass (comes {cur} h) = (cur, h)
         by_pass (over start size q h a b) =
             absurd (out (record { start = start; size = size; seq = q; after = a; before_end = b }))
@@ -197,14 +197,15 @@ module _ (c : ComponentFields) where
     pub rows : (t : ℕ) (d : Row) → declared c t ≡ Some d → (t < length c.code) × (begins_entry c t ≡ false)
         × (Inside t → ⊥)
 
-  module _ (walked : Comes c ended) where
-    kept : (rule p : ℕ) (b : Bool) (w : Walk) → Comes c (keep rule p b w) → (b ≡ true) × Comes c w
+  module _ (walked : Arrives c ended) where
+    kept : (rule p : ℕ) (b : Bool) (w : Walk) → Arrives c (keep rule p b w) → (b ≡ true) × Arrives c w
     unfolding keep
     kept rule p true w h = (refl, h)
     kept rule p false w h = absurd (not_broken walked rule p h)
 
     leads_row : (o : ℕ) (r : Row) → o < length c.code → begins_entry c o ≡ false → (d : Option Row)
-        → declared c o ≡ d → Comes c (before o (Some r)) → Comes c (at_word c o d (Some r)) → Leads c o r
+        → declared c o ≡ d → Arrives c (before o (Some r)) → Arrives c (at_word c o d (Some r))
+        → LeadsTo c o r
     unfolding at_word
     leads_row o r lt ne (Some d) e h k = record {
       there = d;
@@ -220,18 +221,18 @@ module _ (c : ComponentFields) where
     }
 
     -- a row that is current leads on
-    pub leads : (o : ℕ) (r : Row) → Comes c (before o (Some r)) → Leads c o r
+    pub leads : (o : ℕ) (r : Row) → Arrives c (before o (Some r)) → LeadsTo c o r
     unfolding next_from
     leads o r h = by_place (nat_lt o (length c.code)) refl (next_step h)
       where
-        next_step : Comes c (before o (Some r)) → Comes c (next_from c o (Some r))
+        next_step : Arrives c (before o (Some r)) → Arrives c (next_from c o (Some r))
         next_step h = comes_next (before o (Some r)) h
 
         by_entry : o < length c.code → (b : Bool) → begins_entry c o ≡ b
-            → Comes c
+            → Arrives c
             (if b then keep 8 o (row_below r entry_row)
             (before (o + ENTRY_WORDS) (Some clean_row)) else at_word c o (declared c o) (Some r))
-            → Leads c o r
+            → LeadsTo c o r
         by_entry lt true e k =
             record {
               there = entry_row;
@@ -242,13 +243,14 @@ module _ (c : ComponentFields) where
             }
         by_entry lt false e k = leads_row o r lt e (declared c o) refl h k
 
-        by_place : (b : Bool) → nat_lt o (length c.code) ≡ b → Comes c (next_from c o (Some r)) → Leads c o r
+        by_place : (b : Bool) → nat_lt o (length c.code) ≡ b → Arrives c (next_from c o (Some r))
+            → LeadsTo c o r
         by_place true e k = by_entry (ltb-true o (length c.code) e) (begins_entry c o) refl (rw e at k)
         by_place false e k = absurd (not_broken walked 9 (length c.code) (rw e at k))
 
     -- where a row is declared or current, its word is judged by it
     judged_by : (o : ℕ) (r : Row) (d cur : Option Row) → option_or d cur ≡ Some r
-        → Comes c (at_word c o d cur) → Comes c (at_row c o r)
+        → Arrives c (at_word c o d cur) → Arrives c (at_row c o r)
     unfolding at_word
     judged_by o r (Some d) cur e k = let m : d ≡ r =
         cc in rw m at ((kept 8 o (comes_in cur d) (at_row c o d) k).1)
@@ -256,23 +258,23 @@ module _ (c : ComponentFields) where
     judged_by o r None None e k = cc
 
     judged : (o : ℕ) (r : Row) → o < length c.code → begins_entry c o ≡ false → (cur : Option Row)
-        → Comes c (before o cur) → option_or (declared c o) cur ≡ Some r → Comes c (at_row c o r)
+        → Arrives c (before o cur) → option_or (declared c o) cur ≡ Some r → Arrives c (at_row c o r)
     unfolding next_from
     judged o r lt ne cur h e =
-        let k : Comes c (next_from c o cur) = comes_next (before o cur) h in
+        let k : Arrives c (next_from c o cur) = comes_next (before o cur) h in
         judged_by o r (declared c o) cur e (rw (lt-ltb o (length c.code) lt, ne) at k)
 
     by_row : (o : ℕ) (r : Row) → o < length c.code → begins_entry c o ≡ false → RowAt c o r
-        → Comes c (at_row c o r)
+        → Arrives c (at_row c o r)
     by_row o r lt ne (inl h) = let f : true ≡ false = sym h.0 ∙ ne in cc
     by_row o r lt ne (inr h) = judged o r lt ne h.1.0 h.1.1 h.1.2
 
     -- an entry leads over its words
     pub entry_leads : (o : ℕ) → o < length c.code → begins_entry c o ≡ true → (cur : Option Row)
-        → Comes c (before o cur) → Leads c (o + ENTRY_WORDS) clean_row
+        → Arrives c (before o cur) → LeadsTo c (o + ENTRY_WORDS) clean_row
     unfolding next_from
     entry_leads o lt e cur h =
-        let k : Comes c (next_from c o cur) = comes_next (before o cur) h in
+        let k : Arrives c (next_from c o cur) = comes_next (before o cur) h in
         leads (o + ENTRY_WORDS)
         clean_row
         (kept 8 o (comes_in cur entry_row) (before (o + ENTRY_WORDS) (Some clean_row))
@@ -280,7 +282,7 @@ module _ (c : ComponentFields) where
 
     -- a site at which a row is current is ready, and leads over its words
     pub site_leads : (o : ℕ) (r : Row) → o < length c.code → begins_entry c o ≡ false → begins_site c o ≡ true
-        → RowAt c o r → (site_ready r ≡ true) × Leads c (o + SITE_WORDS) clean_row
+        → RowAt c o r → (site_ready r ≡ true) × LeadsTo c (o + SITE_WORDS) clean_row
     unfolding at_row
     site_leads o r lt ne e h =
         let k = kept 10 o (site_ready r) (before (o + SITE_WORDS) (Some clean_row))
@@ -334,20 +336,21 @@ module _ (c : ComponentFields) where
           by_fail false e g = by_entry (begins_entry c t) (row_below r entry_row) refl refl g
 
       -- each entry leads over its words, whoever comes to it
-      pub entry_goes : (o : ℕ) → begins_entry c o ≡ true → Leads c (o + ENTRY_WORDS) clean_row
+      pub entry_goes : (o : ℕ) → begins_entry c o ≡ true → LeadsTo c (o + ENTRY_WORDS) clean_row
       entry_goes o e =
           let at = lists.entries o e in
           let l : o + ENTRY_WORDS ≤ length c.code = at.0 in
           let come = reaches walked o (omega arith) at.2 in
           entry_leads o (omega arith) e come.0 come.1
 
-      leads_after : (o : ℕ) (after : Option Row) → Comes c (before (o + 1) after) → (q : Row) → after ≡ Some q
-          → Leads c (o + 1) q
+      leads_after : (o : ℕ) (after : Option Row) → Arrives c (before (o + 1) after) → (q : Row)
+          → after ≡ Some q
+          → LeadsTo c (o + 1) q
       leads_after o after k q e =
-          leads (o + 1) q (let P : Option Row → Type 0 = λ x. Comes c (before (o + 1) x) in subst P e k)
+          leads (o + 1) q (let P : Option Row → Type 0 = λ x. Arrives c (before (o + 1) x) in subst P e k)
 
       by_flow : (o : ℕ) (r : Row) (i : Instr) (f : Flow) → instr_at c o ≡ Some i → flow i o r ≡ f
-          → Comes c (after_flow c o r f) → Judged c o r
+          → Arrives c (after_flow c o r f) → Judged c o r
       by_flow o r i (breaks rule) e g k = absurd (not_broken walked rule o k)
       by_flow o r i (flows None after) e g k = record {
         instr = i;
@@ -371,7 +374,7 @@ module _ (c : ComponentFields) where
           }
 
       by_instr : (o : ℕ) (r : Row) (i : Option Instr) → instr_at c o ≡ i
-          → Comes c (after_flow c o r (flow_of i o r)) → Judged c o r
+          → Arrives c (after_flow c o r (flow_of i o r)) → Judged c o r
       by_instr o r None e k = absurd (not_broken walked 5 o k)
       by_instr o r (Some i) e k = by_flow o r i (flow i o r) e refl k
 
@@ -412,7 +415,7 @@ module _ (c : ComponentFields) where
       let e : m ≡ suc (m - suc n) + n = omega arith in
       rises_more a x n (m - suc n) b y h (ap (walk c) (sym e) ∙ k)
 
-  pub one_current : (o : ℕ) (cur cur' : Option Row) → Comes c (before o cur) → Comes c (before o cur')
+  pub one_current : (o : ℕ) (cur cur' : Option Row) → Arrives c (before o cur) → Arrives c (before o cur')
       → cur ≡ cur'
   one_current o cur cur' h k = elim (order h.0 k.0) as (λ _. cur ≡ cur') [
     | inl lt ↦ absurd (let g : o < o = later h.0 k.0 o o cur cur' lt h.1 k.1 in omega arith)
@@ -434,8 +437,8 @@ module _ (c : ComponentFields) where
     ]
   ]
 
-  pub passed_over : (a b o : ℕ) (x y z : Option Row) → Comes c (before a x) → next_from c a x ≡ before b y
-      → a < o → o < b → Comes c (before o z) → ⊥
+  pub passed_over : (a b o : ℕ) (x y z : Option Row) → Arrives c (before a x) → next_from c a x ≡ before b y
+      → a < o → o < b → Arrives c (before o z) → ⊥
   passed_over a b o x y z h step low high k =
       let l : h.0 < k.0 = past_step h.0 a o k.0 x z h.1 low k.1 in
       let there : walk c (suc h.0) ≡ before b y = ap (next c) h.1 ∙ step in
@@ -450,7 +453,7 @@ module _ (c : ComponentFields) where
       ]
 
   pub none_behind : (a o : ℕ) (x z : Option Row) (w : Walk) → next c w ≡ w → (w ≡ before o z → ⊥)
-      → Comes c (before a x) → next_from c a x ≡ w → a < o → Comes c (before o z) → ⊥
+      → Arrives c (before a x) → next_from c a x ≡ w → a < o → Arrives c (before o z) → ⊥
   none_behind a o x z w still other h step low k =
       let l : h.0 < k.0 = past_step h.0 a o k.0 x z h.1 low k.1 in
       let there : walk c (suc h.0) ≡ w = ap (next c) h.1 ∙ step in
@@ -469,9 +472,9 @@ module _ (c : ComponentFields) where
 
   -- ---- the walk comes to no offset inside a sequence
 
-  module _ (walked : Comes c ended) (lists : ListsKept) where
+  module _ (walked : Arrives c ended) (lists : ListsKept) where
     over_sequence : (o : ℕ) (i : Inside o) (cur : Option Row) (w : Walk) → next_from c i.start cur ≡ w
-        → Onward i.start w → Comes c w → (q : Option Row)
+        → Onward i.start w → Arrives c w → (q : Option Row)
         × (next_from c i.start cur ≡ before (i.start + i.size) q)
     over_sequence o i cur (broken rule p) e breaks_off k = absurd (not_broken walked rule p k)
     over_sequence o i cur ended e x k = elim x [ ]
@@ -507,7 +510,7 @@ module _ (c : ComponentFields) where
         by_seq (inr h) = let at = lists.sites i.start h.0 in let l : i.start + SITE_WORDS ≤ length c.code =
             at.0 in (omega arith, at.2)
 
-    pub none_inside : (o : ℕ) → Inside o → (cur : Option Row) → Comes c (before o cur) → ⊥
+    pub none_inside : (o : ℕ) → Inside o → (cur : Option Row) → Arrives c (before o cur) → ⊥
     none_inside o i cur h =
         let at = starts o i in
         let l : i.start < length c.code = at.0 in

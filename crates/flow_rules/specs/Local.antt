@@ -8,7 +8,7 @@ use Rattle.flow_rules.specs.Flow.{flow}
 use Rattle.flow_rules.specs.Walk.{instr_at, RowAt}
 
 -- the offset lies in the code and has a row, and this row is below it
-pub record Leads (c : ComponentFields) (o : ℕ) (r : Row) : Type 0 where
+pub record LeadsTo (c : ComponentFields) (o : ℕ) (r : Row) : Type 0 where
   pub there : Row
   pub inside : o < length c.code
   pub row : RowAt c o there
@@ -16,7 +16,7 @@ pub record Leads (c : ComponentFields) (o : ℕ) (r : Row) : Type 0 where
 
 -- where a jump goes: to the `fail`, or to a row that this one is below
 abbrev pub JumpsTo : ComponentFields → Row → ℕ → Type 0
-JumpsTo c r t = (c.fail_at ≡ Some t) ⊎ Leads c t r
+JumpsTo c r t = (c.fail_at ≡ Some t) ⊎ LeadsTo c t r
 
 -- a word with this row is an instruction whose kinds fit it: the row after it leads to the next word,
 -- and the row leads to where it may jump
@@ -26,5 +26,5 @@ pub record Judged (c : ComponentFields) (o : ℕ) (r : Row) : Type 0 where
   pub after : Option Row
   pub stands : instr_at c o ≡ Some instr
   pub flow_is : flow instr o r ≡ flows target after
-  pub leads_on : (q : Row) → after ≡ Some q → Leads c (o + 1) q
+  pub leads_on : (q : Row) → after ≡ Some q → LeadsTo c (o + 1) q
   pub jumps : (t : ℕ) → target ≡ Some t → JumpsTo c r t

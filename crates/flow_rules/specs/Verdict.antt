@@ -10,19 +10,19 @@ use Rattle.flow_rules.specs.declared.flow.Walk.{Walk}
 use Rattle.flow_rules.specs.declared.flow.Walk.TheVariants.{Before as before, Ended as ended}
 use Rattle.flow_rules.specs.declared.flow.Walk.TheVariants.{Broken as broken}
 use Rattle.flow_rules.specs.Lists.{lists}
-use Rattle.flow_rules.specs.Walk.{Comes, walk}
+use Rattle.flow_rules.specs.Walk.{Arrives, walk}
 
 -- no rule of the flow is broken: the lists keep theirs, and the walk comes to its end
 pub record IsKept (c : ComponentFields) : Type 0 where
   pub placed : NoneBroken (lists c)
-  pub walked : Comes c ended
+  pub walked : Arrives c ended
 
 -- the lists keep their rules, and the walk breaks one there
 pub record BreaksOff (c : ComponentFields) (b : Broken) : Type 0 where
   pub placed : NoneBroken (lists c)
   pub number : ℕ
   pub place : ℕ
-  pub comes : Comes c (broken number place)
+  pub comes : Arrives c (broken number place)
   pub reported : b ≡ broken_at K number place
 
 -- that no rule is broken, or the first that is: the lists come before the walk
@@ -32,9 +32,9 @@ IsFirstOfFlow c (Err b) = IsFirst (broken_at K) (lists c) b ⊎ BreaksOff c b
 
 -- what the walk comes to
 abbrev pub WalksTo : ComponentFields → Result (Unit {0}) Broken → Type 0
-WalksTo c (Ok u) = Comes c ended
+WalksTo c (Ok u) = Arrives c ended
 WalksTo c (Err b) =
-    (number : ℕ) × (place : ℕ) × Comes c (broken number place) × (b ≡ broken_at K number place)
+    (number : ℕ) × (place : ℕ) × Arrives c (broken number place) × (b ≡ broken_at K number place)
 
 -- ---- the same as a function
 

@@ -119,8 +119,8 @@ walk c zero = before 0 None
 walk c (suc n) = next c (walk c n)
 
 -- the walk comes here
-abbrev pub Comes : ComponentFields → Walk → Type 0
-Comes c w = (n : ℕ) × (walk c n ≡ w)
+abbrev pub Arrives : ComponentFields → Walk → Type 0
+Arrives c w = (n : ℕ) × (walk c n ≡ w)
 
 -- the row at an offset: at an entry's first word the entry's, elsewhere the one that is current
 -- when the walk comes here, once a declared row here has become the current one
@@ -128,4 +128,4 @@ abbrev pub RowAt : ComponentFields → ℕ → Row → Type 0
 RowAt c o r =
     ((begins_entry c o ≡ true) × (r ≡ entry_row))
     ⊎ ((begins_entry c o ≡ false)
-    × ((current : Option Row) × Comes c (before o current) × (option_or (declared c o) current ≡ Some r)))
+    × ((current : Option Row) × Arrives c (before o current) × (option_or (declared c o) current ≡ Some r)))

@@ -9,7 +9,7 @@ ghost use Rattle.flow_rules.specs.Kinds.{Row, clean_row};
 ghost use Rattle.flow_rules.specs.Places.{begins_entry, begins_site, is_inside};
 ghost use Rattle.flow_rules.specs.Walk.{RowAt, site_ready};
 ghost use Rattle.flow_rules.specs.Verdict.{IsKept};
-ghost use Rattle.flow_rules.specs.Local.{Leads, Judged};
+ghost use Rattle.flow_rules.specs.Local.{LeadsTo, Judged};
 
 /// In code that keeps K, words with rows, outside sequences, are instructions that fit them and lead to rows
 /// that allow their outcome.
@@ -25,13 +25,14 @@ pub fn words_flow()
 /// leaves.
 pub fn sites_flow()
     ensures { (c : ComponentFields) → IsComponent c → IsKept c → (o : ℕ) (r : Row)
-        → begins_site c o ≡ true → RowAt c o r → (site_ready r ≡ true) × Leads c (o + SITE_WORDS) clean_row }
+        → begins_site c o ≡ true → RowAt c o r → (site_ready r ≡ true)
+        × LeadsTo c (o + SITE_WORDS) clean_row }
 {}
 
 /// In code that keeps K, the row after an entry allows what the entry leaves.
 pub fn entries_flow()
     ensures { (c : ComponentFields) → IsComponent c → IsKept c → (o : ℕ)
-        → begins_entry c o ≡ true → Leads c (o + ENTRY_WORDS) clean_row }
+        → begins_entry c o ≡ true → LeadsTo c (o + ENTRY_WORDS) clean_row }
 {}
 
 /// An offset has one row at most and, in code that keeps K, none inside a sequence.

@@ -6,8 +6,8 @@ use Rattle.linked_starts.specs.Started.{StartSeen}
 use Rattle.linked_starts.specs.Standing.{placed}
 use Rattle.run_lines.specs.Cuts.{StopsAreCuts}
 use Rattle.headline.specs.Headline.{HeadlineHolds}
-use Rattle.full_abstraction.specs.Contexts.{Context, plugged, LinksTo, Observation, OnPlain, OnOverlay}
-use Rattle.full_abstraction.specs.Abstraction.{Shows, RunsShowTheSame, IsFullyAbstractForAny}
+use Rattle.full_abstraction.specs.Contexts.{Context, plugged, PlugsTo, Observation, OnPlain, OnOverlay}
+use Rattle.full_abstraction.specs.Abstraction.{CanShow, RunsShowTheSame, IsFullyAbstractForAny}
 use Rattle.full_abstraction.specs.Abstraction.{IsFullyAbstractInAll}
 use Rattle.full_abstraction.proofs.Observed.{on_overlay, on_plain}
 
@@ -18,7 +18,7 @@ show_the_same head stops parts size s is seen =
 
 module _ (same : RunsShowTheSame) where
   in_context : (c : Context) (parts : List PartSeen) (s : StartSeen) (seen : Observation)
-      → LinksTo c parts s → OnPlain s seen ↔ OnOverlay s seen
+      → PlugsTo c parts s → OnPlain s seen ↔ OnOverlay s seen
   in_context c parts s seen is = same (plugged c parts) c.size s is seen
 
   pub for_any : IsFullyAbstractForAny
@@ -37,7 +37,7 @@ module _ (same : RunsShowTheSame) where
 
   -- with parts in it a context shows the same on both machines
   there : (c : Context) (seen : Observation) (parts : List PartSeen)
-      → Shows OnPlain c seen parts ↔ Shows OnOverlay c seen parts
+      → CanShow OnPlain c seen parts ↔ CanShow OnOverlay c seen parts
   there c seen parts = (
     λ x. (x.0, x.1, (in_context c parts x.0 seen x.1).0 x.2),
     λ x. (x.0, x.1, (in_context c parts x.0 seen x.1).1 x.2),

@@ -28,7 +28,7 @@ use Rattle.flow_rules.specs.Places.{begins_entry, begins_site, declared}
 use Rattle.flow_rules.specs.Flow.{flow, ask}
 use Rattle.flow_rules.specs.Lists.{k1, k2, k3, k4, lists, entry_is_bad}
 use Rattle.flow_rules.specs.declared.flow.Walk.TheVariants.{Ended as ended}
-use Rattle.flow_rules.specs.Walk.{instr_at, keep, site_ready, at_row, past, at_word, next_from, Comes}
+use Rattle.flow_rules.specs.Walk.{instr_at, keep, site_ready, at_row, past, at_word, next_from, Arrives}
 use Rattle.linked_starts.specs.Parts.{PartSeen, IsPart}
 use Rattle.linked_starts.specs.Pairs.{NoneIsBroken, IsFirstBrokenIn, BrokenIn, by_part}
 use Rattle.linked_starts.specs.Links.{rules_l, rule_at, l1, l2, l3, l4, l5, l6, l7, l8, l9, l10}
@@ -120,7 +120,7 @@ lists_kept b (suc (suc (suc zero))) i t e h = third b t i (let q : k3 (entered b
 lists_kept b (suc (suc (suc (suc zero)))) i t e h = others_kept b 3 i t e h
 lists_kept b (suc (suc (suc (suc (suc n))))) i t e h = cc
 
-walked : (b : Bool) → Comes (entered b) ended
+walked : (b : Bool) → Arrives (entered b) ended
 unfolding next_from at_word at_row past keep begins_entry begins_site declared site_ready flow ask kind_of
     set_kind instr_at decode_of candidate table all_with number_of entry_code
 walked true = (9, refl)

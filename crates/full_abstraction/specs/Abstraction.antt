@@ -5,7 +5,7 @@ use Rattle.std.specs.List.{list_all}
 use Rattle.linked_starts.specs.Parts.{PartSeen}
 use Rattle.linked_starts.specs.Started.{StartSeen}
 use Rattle.linked_starts.specs.LinkedStarts.{IsStartOf}
-use Rattle.full_abstraction.specs.Contexts.{Context, LinksTo, Observation, halting, failing, OnPlain}
+use Rattle.full_abstraction.specs.Contexts.{Context, PlugsTo, Observation, halting, failing, OnPlain}
 use Rattle.full_abstraction.specs.Contexts.{OnOverlay}
 
 -- ---- contextual equivalence
@@ -14,18 +14,18 @@ use Rattle.full_abstraction.specs.Contexts.{OnOverlay}
 abbrev pub Equivalent : (StartSeen → Observation → Type 0) → (Context → Bool) → Observation → List PartSeen
     → List PartSeen → Type 0
 Equivalent On kind seen ts us =
-    (c : Context) → kind c ≡ true → (s t : StartSeen) → LinksTo c ts s → LinksTo c us t
+    (c : Context) → kind c ≡ true → (s t : StartSeen) → PlugsTo c ts s → PlugsTo c us t
     → On s seen ↔ On t seen
 
 -- a context links with parts, and shows it
-abbrev pub Shows : (StartSeen → Observation → Type 0) → Context → Observation → List PartSeen → Type 0
-Shows On c seen parts = (s : StartSeen) × LinksTo c parts s × On s seen
+abbrev pub CanShow : (StartSeen → Observation → Type 0) → Context → Observation → List PartSeen → Type 0
+CanShow On c seen parts = (s : StartSeen) × PlugsTo c parts s × On s seen
 
 -- the same of all contexts of the kind: one that doesn't link shows nothing
 abbrev pub EquivalentInAll : (StartSeen → Observation → Type 0) → (Context → Bool) → Observation
     → List PartSeen → List PartSeen → Type 0
 EquivalentInAll On kind seen ts us =
-    (c : Context) → kind c ≡ true → Shows On c seen ts ↔ Shows On c seen us
+    (c : Context) → kind c ≡ true → CanShow On c seen ts ↔ CanShow On c seen us
 
 -- ---- kinds of contexts
 
@@ -72,8 +72,8 @@ pub record ToldApart : Type 0 where
   pub other_trusted : other.trusted ≡ true
   pub one_start : StartSeen
   pub other_start : StartSeen
-  pub one_links : LinksTo context (one ∷ []) one_start
-  pub other_links : LinksTo context (other ∷ []) other_start
+  pub one_links : PlugsTo context (one ∷ []) one_start
+  pub other_links : PlugsTo context (other ∷ []) other_start
   pub halts : OnPlain one_start halting
   pub fails : OnPlain other_start failing
   pub on_plain : Equivalent OnPlain untrusted halting (one ∷ []) (other ∷ []) → ⊥

@@ -28,8 +28,8 @@ abbrev pub plugged : Context → List PartSeen → List PartSeen
 plugged c parts = c.before ++ (parts ++ c.after)
 
 -- with these parts in it, a context links to a start
-abbrev pub LinksTo : Context → List PartSeen → StartSeen → Type 0
-LinksTo c parts s = IsStartOf (plugged c parts) c.size s
+abbrev pub PlugsTo : Context → List PartSeen → StartSeen → Type 0
+PlugsTo c parts s = IsStartOf (plugged c parts) c.size s
 
 -- ---- what is observed
 

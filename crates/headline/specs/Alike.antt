@@ -10,7 +10,7 @@ use Rattle.trusted_border.specs.declared.layout.Layout.{Layout}
 use Rattle.overlay_machine.specs.State.{OState}
 use Rattle.overlay_machine.specs.Step.{weight_of}
 use Rattle.overlay_machine.specs.Link.{Link}
-use Rattle.overlay_machine.specs.Linked.{Linked}
+use Rattle.overlay_machine.specs.Linked.{IsLink}
 use Rattle.overlay_machine.specs.Invariant.{Invariant}
 use Rattle.overlay_machine.specs.Starting.{overlay_at}
 use Rattle.run_lines.specs.Layout.{layout}
@@ -34,7 +34,7 @@ pub record LinesAgree (l : Layout) (o : OState) (t : State Word) : Type 0 where
 -- so it is where the invariant holds
 abbrev pub LinkedLinesAgree : Type 0
 LinkedLinesAgree =
-    (g : Link) (o : OState) (t : State Word) → Linked g → Invariant g o t → LinesAgree g.layout o t
+    (g : Link) (o : OState) (t : State Word) → IsLink g → Invariant g o t → LinesAgree g.layout o t
 
 -- and so it is from every linked start
 abbrev pub StartLinesAgree : Type 0

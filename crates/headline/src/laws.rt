@@ -6,7 +6,7 @@ ghost use Rattle.linked_starts.specs.Parts.{PartSeen};
 ghost use Rattle.overlay_machine.specs.State.{OState};
 ghost use Rattle.overlay_machine.specs.Seen.{OverlaySeen};
 ghost use Rattle.overlay_machine.specs.Link.{Link};
-ghost use Rattle.overlay_machine.specs.Linked.{Linked};
+ghost use Rattle.overlay_machine.specs.Linked.{IsLink};
 ghost use Rattle.overlay_machine.specs.Invariant.{Invariant};
 ghost use Rattle.overlay_machine.specs.Keeping.{HoldsFor};
 ghost use Rattle.headline.specs.Brackets.{LinesAreBracketed, TraceIsBracketed, CallsArePrivate};
@@ -26,7 +26,7 @@ use run_lines::laws::traces_tell_steps;
 /// closes it. The lines of a run of the overlay so lead from the frames that are open at first to those that
 /// are open then, and so do those that a trace writes.
 pub fn lines_are_bracketed()
-    ensures steps { (g : Link) (o : OState) (t : State Word) → Linked g → Invariant g o t
+    ensures steps { (g : Link) (o : OState) (t : State Word) → IsLink g → Invariant g o t
         → LinesAreBracketed g.layout o }
     ensures traces { (parts : List PartSeen) (size : ℕ) (o : OverlaySeen) (t : State Word)
         → HoldsFor parts size o t → TraceIsBracketed o }
@@ -38,7 +38,7 @@ pub fn lines_are_bracketed()
 /// From the plain state after the call's `xjmp` on, that is so up to each matched point at which no ret line
 /// has closed the call line.
 pub fn call_lines_are_private()
-    ensures { (g : Link) (o : OState) (t : State Word) → Linked g → Invariant g o t
+    ensures { (g : Link) (o : OState) (t : State Word) → IsLink g → Invariant g o t
         → CallsArePrivate g.layout o t }
 {}
 

@@ -8,7 +8,7 @@ ghost use Rattle.image_loader.specs.declared.fault.ImageFault.TheVariants.{NoMem
 ghost use Rattle.image_loader.specs.declared.reading.Image.{Image};
 ghost use Rattle.image_loader.specs.Image.{IsImage, image_bytes, SpellsImage};
 ghost use Rattle.image_loader.specs.Reading.{image_of};
-ghost use Rattle.image_loader.specs.Answer.{LinksRead, Loads};
+ghost use Rattle.image_loader.specs.Answer.{LinksRead, LoadsImage};
 
 /// Each image has one spelling, of no other, and none begins another.
 pub fn one_spelling()
@@ -24,7 +24,7 @@ pub fn spelling_is_read()
 /// A written image is loaded as `link` answers of it, unless memory is refused.
 pub fn what_was_written_is_linked()
     ensures { (i : Image) (answer : Result StartSeen ImageFault) → IsImage i →
-        Loads (image_bytes i) answer → LinksRead (Ok i) answer ⊎ (answer ≡ Err NoMemory) }
+        LoadsImage (image_bytes i) answer → LinksRead (Ok i) answer ⊎ (answer ≡ Err NoMemory) }
 {}
 
 /// Bytes after an image's spelling are `Trailing`, at the first of them.

@@ -3,11 +3,11 @@ ghost use Rattle.std.specs.Prelude.{◌≡◌, ◌<◌, ◌^◌, ◌⊎◌, leng
 ghost use Rattle.linked_starts.specs.Standing.{placed};
 ghost use Rattle.linked_starts.specs.Pairs.{NoneIsBroken};
 ghost use Rattle.linked_starts.specs.Links.{rules_of_link};
-ghost use Rattle.linked_starts.specs.Answer.{Answers};
+ghost use Rattle.linked_starts.specs.Answer.{AnswersParts};
 ghost use Rattle.image_loader.specs.declared.fault.ImageFault.TheVariants.{NoMemory};
 ghost use Rattle.image_loader.specs.declared.reading.Image.{Image};
 ghost use Rattle.image_loader.specs.Image.{SpellsImage};
-ghost use Rattle.image_loader.specs.Answer.{Loads};
+ghost use Rattle.image_loader.specs.Answer.{LoadsImage};
 
 use crate::fault::ImageFault;
 use crate::reading::whole;
@@ -28,13 +28,13 @@ pub fn load_image(alloc: Global, bytes: &[u8]) -> Result<Start, ImageFault>
     requires { length bytes.now < 2 ^ 32 }
     // What is loaded is an image, and what linking answers of its parts.
     ensures found { IfOk result (λ s.
-        (i : Image) × SpellsImage bytes.now i × Answers i.parts i.stack (Ok s)) }
+        (i : Image) × SpellsImage bytes.now i × AnswersParts i.parts i.stack (Ok s)) }
     // An image whose parts keep the rules L is loaded, unless memory is refused.
     ensures only { (i : Image) → SpellsImage bytes.now i →
         NoneIsBroken (rules_of_link (placed i.parts i.stack) i.stack) →
         IsOk result ⊎ (result ≡ Err NoMemory) }
     // Which fault it is.
-    ensures exact { Loads bytes.now result }
+    ensures exact { LoadsImage bytes.now result }
 {
     let image = whole(alloc, bytes)?;
     let start = link(alloc, image.parts.as_slice(), image.stack)?;

@@ -21,7 +21,7 @@ use Rattle.proc_semantics.specs.Marked.{Thing, Arg, Number, OfPair, Event, Whenc
 use Rattle.template_runs.specs.Border.{Opened, code_word, zero, ShowsCall, ShowsBy, by_call, by_leave}
 use Rattle.source_laws.specs.Seen.{Back, Shown, arg_shown, event_outs, event_items}
 use Rattle.source_laws.specs.Secrets.{LetsGo, comes, Until, still_there, one_more}
-use Rattle.source_laws.specs.Words.{Tells, none_yet, and_then}
+use Rattle.source_laws.specs.Words.{RunTells, none_yet, and_then}
 use Rattle.source_starts.specs.PlainWords.{CallTold}
 use Rattle.source_starts.specs.Shown.{SourcesShowNothingElse}
 use Rattle.lockstep.specs.Lockstep.{Round, IsRound, Path}
@@ -36,7 +36,7 @@ record Shows (s : StartSeen) (q : OState) : Type 0 where
   pub reached : Reached (layout s) (overlay_at s).state at q
   pub es : List Shown
   pub is : List (Thing OWord Back)
-  pub tells : Tells (layout s) (overlay_at s).state es is q
+  pub tells : RunTells (layout s) (overlay_at s).state es is q
 
 module _ (s : StartSeen) where
   first_shows : Shows s (overlay_at s).state

@@ -7,7 +7,7 @@ use Rattle.run_lines.specs.Layout.{layout}
 use Rattle.proc_semantics.specs.Marked.{Thing, Number}
 use Rattle.source_laws.specs.Seen.{Back, Shown}
 use Rattle.source_laws.specs.Secrets.{LetsGo}
-use Rattle.source_laws.specs.Words.{Tells, word_from}
+use Rattle.source_laws.specs.Words.{RunTells, word_from}
 use Rattle.source_starts.specs.Links.{first_state}
 use Rattle.source_starts.specs.Sources.{LinkedSources, world_of}
 use Rattle.source_starts.specs.Words.{slots_of}
@@ -26,7 +26,7 @@ pub record CallbackTold : Type 0 where
       ≡ Some (Called false run.calls.frame.site run.calls.frame.base run.calls.frame.end)
   pub es : List Shown
   pub is : List (Thing OWord Back)
-  pub tells : Tells (layout sources.start) (first_state sources.link) es is run.first.last
+  pub tells : RunTells (layout sources.start) (first_state sources.link) es is run.first.last
   -- So, under every large enough fuel, the event of the refined meaning is this call. It tells the words with
   -- which code outside entered, in a1 and a2, as the pair that is called, and 6 as the first argument.
   pub told : PlainCallTold (slots_of sources.modules sources.link) (world_of sources) sources.size

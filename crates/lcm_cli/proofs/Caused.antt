@@ -46,7 +46,7 @@ use Rattle.lcm_cli.specs.Answers.{tells, refused, IsAnswerOf, read_in, stk}
 use Rattle.lcm_cli.specs.Causes.{IsTurn, IsUnread, IsLong, IsUndecoded, IsUncompiled, IsUnassembled}
 use Rattle.lcm_cli.specs.Causes.{IsUnloaded, IsUnscripted, IsUnaudited, IsUnmade, Breaks, CameOf, RanTo}
 use Rattle.debug_tool.specs.Replies.{debug_text}
-use Rattle.lcm_cli.specs.Causes.{TracedTo, MeantTo, IsAtRest, PutsFile, Tells, out_name, Wrote, IsUnfed}
+use Rattle.lcm_cli.specs.Causes.{TracedTo, MeantTo, IsAtRest, PutsFile, TellsText, out_name, Wrote, IsUnfed}
 use Rattle.lcm_cli.specs.Bytes.{bytes_of}
 use Rattle.lcm_cli.specs.Causes.{Causes, Promised}
 use Rattle.lcm_cli.proofs.Making.{came_of}
@@ -98,7 +98,7 @@ Caused asked read old new status.Done =
     RanTo asked read old.files new.files (λ step. step ≡ Halted)
     ⊎ (TracedTo asked read old.files new.files run_end.Halted
     ⊎ (PutsFile asked read old.files new.files
-    ⊎ (Tells asked read old.files new.files ⊎ MeantTo asked read old.files new.files IsAtRest)))
+    ⊎ (TellsText asked read old.files new.files ⊎ MeantTo asked read old.files new.files IsAtRest)))
 Caused asked read old new status.MachineFailed =
     RanTo asked read old.files new.files (λ step. (cause : FailCause) × (at : ℤ) × (step ≡ Failed cause at))
     ⊎ (TracedTo asked read old.files new.files run_end.Failed

@@ -21,7 +21,7 @@ use Rattle.proc_names.specs.NameFaults.{name_faults}
 use Rattle.proc_names.specs.Calls.{module_calls}
 use Rattle.proc_program.specs.declared.program.Program.{Program}
 use Rattle.proc_program.specs.Calls.{part_calls}
-use Rattle.proc_program.specs.Limits.{IsPart}
+use Rattle.proc_program.specs.Limits.{IsProgram}
 use Rattle.proc_program.specs.Lower.{part_of}
 use Rattle.proc_templates.specs.Compiled.{code_words, data_count, component_of, compiled}
 use Rattle.proc_templates.specs.Kept.{FitsComponent, NamesDiffer}
@@ -37,7 +37,7 @@ pub record LimitLaws : Type 0 where
   pub limits : (d : Dialect) (text : List ℕ) (m : ModuleFields) → module_in d text ≡ Ok m → IsModule m
   pub resolved : (d : Dialect) (text : List ℕ) (m : ModuleFields) → module_in d text ≡ Ok m
       → name_faults m ≡ []
-  pub programs : (m : ModuleFields) → IsModule m → IsPart (part_of m)
+  pub programs : (m : ModuleFields) → IsModule m → IsProgram (part_of m)
   pub calls : (m : ModuleFields) → part_calls (part_of m) ≡ module_calls m
   pub differ : (m : ModuleFields) → name_faults m ≡ [] → NamesDiffer (part_of m).procs
   pub components : (m : Program) → FitsComponent m → NamesDiffer m.procs

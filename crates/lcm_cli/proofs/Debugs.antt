@@ -29,7 +29,7 @@ use Rattle.linked_starts.specs.LinkedStarts.{IsStartOf}
 use Rattle.lcm_cli.specs.declared.ready.ReadyTask.TheVariants as ready
 use Rattle.lcm_cli.specs.ReadyTasks.{FollowsTask}
 use Rattle.lcm_cli.specs.Commands.{Task, Debug, debug_plan}
-use Rattle.link_tool.specs.Linked.{linked_in}
+use Rattle.link_tool.specs.Linked.{linked_plan}
 use Rattle.lcm_cli.specs.Debugs.{unscripted, script_at}
 use Rattle.lcm_cli.specs.Bytes.{ComesOf}
 use Rattle.lcm_cli.specs.Causes.{AreLast, Breaks, IsUnloaded}
@@ -63,7 +63,7 @@ module _ (l : Linked) (script : List ℕ) where
   pub debug_reasoned : Reasoned (Some (asked.Debug l script)) (debug_plan l script)
   unfolding debug_plan
   debug_reasoned =
-      reasoned_bind the_command (linked_in l) (behind script)
+      reasoned_bind the_command (linked_plan l) (behind script)
       (in_reasoned the_command (λ d text f e. e) l refl)
       (λ i. reasoned_bind the_command (script_at script (length i.parts)) _ (script_reasoned (length i.parts))
       (λ lines. reasoned_made the_command (Debug i lines)))
@@ -94,26 +94,26 @@ never_behind why h script i =
     never_bind (script_at script (length i.parts)) _ why (never_script why h script (length i.parts))
     (λ lines. not_made (Debug i lines) why)
 
-never_in : (why : Refusal) → Foreign why → ((name : List ℕ) → Never (linked_in (what.Image name)) why)
-    → (l : Linked) → Never (linked_in l) why
+never_in : (why : Refusal) → Foreign why → ((name : List ℕ) → Never (linked_plan (what.Image name)) why)
+    → (l : Linked) → Never (linked_plan l) why
 never_in why h image (what.Parts words size) = never_linked why h words size
 never_in why h image (what.Image name) = image name
 
 pub never_debug : (why : Refusal) → NotOfScript why → Foreign why
-    → ((name : List ℕ) → Never (linked_in (what.Image name)) why) → (l : Linked) (script : List ℕ)
+    → ((name : List ℕ) → Never (linked_plan (what.Image name)) why) → (l : Linked) (script : List ℕ)
     → Never (debug_plan l script) why
 unfolding debug_plan
 never_debug why s h image l script =
-    never_bind (linked_in l) (behind script) why (never_in why h image l) (never_behind why s script)
+    never_bind (linked_plan l) (behind script) why (never_in why h image l) (never_behind why s script)
 
 -- where its script is not why it ends, what links is
 ends_first : (l : Linked) (script : List ℕ) (read : List (List ℕ)) (old new : FilesSeen) (why : Refusal)
     → NotOfScript why → ComesOf (debug_plan l script) read old (Err why) new
-    → ComesOf (linked_in l) read old (Err why) new
+    → ComesOf (linked_plan l) read old (Err why) new
 unfolding debug_plan
 ends_first l script read old new why s h =
-    elim (split_of (linked_in l) (behind script) read old new (Err why) h)
-    as (λ _. ComesOf (linked_in l) read old (Err why) new) [
+    elim (split_of (linked_plan l) (behind script) read old new (Err why) h)
+    as (λ _. ComesOf (linked_plan l) read old (Err why) new) [
       | inl k ↦ absurd (never_behind why s script k.0 k.1 new k.5.0)
       | inr k ↦ (let e = same_err why k.0 k.2 in rw (← e) k.1)
     ]
@@ -147,7 +147,7 @@ pub record DebugCame (l : Linked) (script : List ℕ) (read : List (List ℕ)) (
   pub image : ImageSeen
   pub before : List (List ℕ)
   pub mid : FilesSeen
-  pub came : ComesOf (linked_in l) before old (Ok image) mid
+  pub came : ComesOf (linked_plan l) before old (Ok image) mid
   pub text : List ℕ
   pub read_is : AreLast read before text
   pub script_came : GivesWhole mid script LONGEST_FILE text new
@@ -170,7 +170,7 @@ settled_script i text =
 module _ (l : Linked) (script : List ℕ) (read : List (List ℕ)) (old : FilesSeen) (t : Task)
     (new : FilesSeen) where
   came_by : (i : ImageSeen) (mid : FilesSeen) (front : List (List ℕ)) (text : List ℕ)
-      → AreLast read front text → ComesOf (linked_in l) front old (Ok i) mid
+      → AreLast read front text → ComesOf (linked_plan l) front old (Ok i) mid
       → GivesWhole mid script LONGEST_FILE text new
       → (r : Result (List Line) ScriptFault) → scripted text ≡ r
       → Comes (by_script i r) new (Ok t) new → DebugCame l script read old t new
@@ -189,7 +189,7 @@ module _ (l : Linked) (script : List ℕ) (read : List (List ℕ)) (old : FilesS
   came_by i mid front text q c w (Err f) e h = absurd (let k = h.0 in cc)
 
   came_behind : (i : ImageSeen) (mid : FilesSeen) (front back : List (List ℕ)) → read ≡ front ++ back
-      → ComesOf (linked_in l) front old (Ok i) mid → ComesOf (behind script i) back mid (Ok t) new
+      → ComesOf (linked_plan l) front old (Ok i) mid → ComesOf (behind script i) back mid (Ok t) new
       → DebugCame l script read old t new
   unfolding script_at
   came_behind i mid front back q c h =
@@ -200,7 +200,7 @@ module _ (l : Linked) (script : List ℕ) (read : List (List ℕ)) (old : FilesS
   pub debug_came : ComesOf (debug_plan l script) read old (Ok t) new → DebugCame l script read old t new
   unfolding debug_plan
   debug_came h =
-      elim (split_of (linked_in l) (behind script) read old new (Ok t) h)
+      elim (split_of (linked_plan l) (behind script) read old new (Ok t) h)
       as (λ _. DebugCame l script read old t new) [
         | inl k ↦ came_behind k.0 k.1 k.2 k.3 k.6 k.4 k.5
         | inr k ↦ absurd (let e = k.2 in cc)
@@ -222,7 +222,8 @@ few_owners parts size start is =
     omega (arith, count, few)
 
 module _ (l : Linked) (script : List ℕ) (i : ImageSeen) (start : StartSeen) (index : ℕ)
-    (old mid new : FilesSeen) (c : Comes (linked_in l) old (Ok i) mid) (is : IsStartOf i.parts i.stack start)
+    (old mid new : FilesSeen) (c : Comes (linked_plan l) old (Ok i) mid)
+    (is : IsStartOf i.parts i.stack start)
     (e : index ≡ length start.owners) where
   pub debug_follows : (lines : List Line) → Comes (script_at script index) mid (Ok lines) new
       → FollowsTask (debug_plan l script) old (Ok (ready.Debug start lines)) new
@@ -232,7 +233,7 @@ module _ (l : Linked) (script : List ℕ) (i : ImageSeen) (start : StartSeen) (i
       subst (λ n. Comes (script_at script n) mid (Ok lines) new) (e ∙ count_of i.parts i.stack start is) s
       in (
         Debug i lines,
-        comes_bind (linked_in l) (behind script) old mid new i (Ok (Debug i lines)) c
+        comes_bind (linked_plan l) (behind script) old mid new i (Ok (Debug i lines)) c
             (comes_made (script_at script (length i.parts)) (λ x. Debug i x) mid new lines k),
         (i, refl, is),
       )
@@ -243,5 +244,5 @@ module _ (l : Linked) (script : List ℕ) (i : ImageSeen) (start : StartSeen) (i
   debug_stops s h =
       let k : Follows (script_at script (length i.parts)) mid (Err s) new =
       subst (λ n. Follows (script_at script n) mid (Err s) new) (e ∙ count_of i.parts i.stack start is) h in
-      follows_bind (linked_in l) (behind script) old mid new i (Err s) c
+      follows_bind (linked_plan l) (behind script) old mid new i (Err s) c
       (follows_end (script_at script (length i.parts)) (λ x. Made (Debug i x)) mid new s k)

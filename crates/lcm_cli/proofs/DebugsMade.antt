@@ -12,7 +12,7 @@ use Rattle.file_plans.specs.declared.refusal.Refusal.{Refusal}
 use Rattle.refusal_lines.specs.declared.status.Status.{Status}
 use Rattle.refusal_lines.specs.declared.status.Status.TheVariants as status
 use Rattle.lcm_cli.specs.Commands.{Task, Debug, plan_in, debug_plan}
-use Rattle.lcm_cli.specs.Bytes.{ComesOf, Makes}
+use Rattle.lcm_cli.specs.Bytes.{ComesOf, ComesBy}
 use Rattle.call_answers.specs.Answers.{with_files, AnswersWhole, Answers}
 use Rattle.lcm_cli.specs.Answers.{Answer, Outside, writes, IsAnswerOf, read_in, stk}
 use Rattle.lcm_cli.specs.Causes.{IsRunStatus, DebugGiven}
@@ -22,7 +22,7 @@ use Rattle.lcm_cli.proofs.RunsMade.{StartLaws, started, refused_none, whole_run}
 module _ (all : StartLaws) (remember : CommandsRemember) (l : Linked) (script : List ℕ)
     (read : List (List ℕ)) (old : Outside) (ended : Status) (new : Outside) where
   given_debug : (seen : FilesSeen) (t : Task) (a : Answer) (c : DebugCame l script read old.files t seen)
-      → Makes (debug_plan l script) read (Ok (Debug c.image c.lines))
+      → ComesBy (debug_plan l script) read (Ok (Debug c.image c.lines))
       → IsAnswerOf (Ok (Debug c.image c.lines)) a → AnswersWhole (with_files old seen) a ended new
       → DebugGiven l script read old ended new
   given_debug seen t a c k x g =
@@ -47,13 +47,13 @@ module _ (all : StartLaws) (remember : CommandsRemember) (l : Linked) (script : 
       }
 
   given_due : (seen : FilesSeen) (due : Result Task Refusal) (a : Answer)
-      → ComesOf (debug_plan l script) read old.files due seen → Makes (debug_plan l script) read due
+      → ComesOf (debug_plan l script) read old.files due seen → ComesBy (debug_plan l script) read due
       → IsAnswerOf due a → AnswersWhole (with_files old seen) a ended new → IsRunStatus ended
       → DebugGiven l script read old ended new
   given_due seen (Err why) a c k x g r = absurd (refused_none why a ended x g.status_is r)
   given_due seen (Ok t) a c k x g r =
       let m = debug_came l script read old.files t seen c in
-      given_debug seen t a m (subst (λ u. Makes (debug_plan l script) read (Ok u)) m.task k)
+      given_debug seen t a m (subst (λ u. ComesBy (debug_plan l script) read (Ok u)) m.task k)
       (subst (λ u. IsAnswerOf (Ok u) a) m.task x) g
 
 pub debugs : StartLaws → CommandsRemember → (words : Option Command) (old : Outside) (ended : Status)
@@ -63,4 +63,4 @@ debugs all remember words old ended new a l script e r =
     let w = whole_run (plan_in words) old ended new a r in
     given_due all remember l script (read_in a) old ended new w.seen w.due w.gives
     (subst (λ q. ComesOf (plan_in q) (read_in a) old.files w.due w.seen) e w.came)
-    (subst (λ q. Makes (plan_in q) (read_in a) w.due) e w.makes) w.is w.given r
+    (subst (λ q. ComesBy (plan_in q) (read_in a) w.due) e w.makes) w.is w.given r

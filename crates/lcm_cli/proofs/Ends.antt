@@ -19,7 +19,7 @@ use Rattle.file_plans.specs.Plans.{Comes}
 use Rattle.command_words.specs.Part.{is_trusted_mark}
 use Rattle.link_tool.specs.Parts.{broken_in, linked, loaded, form_by, component_at, part_at}
 use Rattle.proc_sources.specs.Sources.{sourced}
-use Rattle.link_tool.specs.Linked.{linked_parts, linked_image}
+use Rattle.link_tool.specs.Linked.{parts_plan, image_plan}
 use Rattle.link_tool.proofs.Offers.{image_with}
 use Rattle.lcm_cli.specs.Bytes.{bytes_of}
 use Rattle.lcm_cli.proofs.Came.{split_of, IsSettled, settled_unless, settled_bind}
@@ -148,8 +148,8 @@ settled_link size parts =
     (settled_unless refusal.Rule (linked parts size)) (λ u. inl (image_with size parts, refl))
 
 pub never_linked : (why : Refusal) → Foreign why → (words : List PartWord) (size : ℕ)
-    → Never (linked_parts words size) why
-unfolding linked_parts
+    → Never (parts_plan words size) why
+unfolding parts_plan
 never_linked why h words size =
     never_bind (each_at part_at 0 words) (link_by size) why
     (never_each why part_at (never_part why h) 0 words)
@@ -170,8 +170,8 @@ NotOfImage _ = ⊥
 not_of_image : (x why : Refusal) → NotOfImage why → x ≡ why → NotOfImage x
 not_of_image x why h e = subst NotOfImage (sym e) h
 
-pub never_image : (why : Refusal) → NotOfImage why → (name : List ℕ) → Never (linked_image name) why
-unfolding linked_image
+pub never_image : (why : Refusal) → NotOfImage why → (name : List ℕ) → Never (image_plan name) why
+unfolding image_plan
 never_image why h name =
     never_reads name 0 (λ bytes. unless refusal.Image (loaded bytes)) why
     (not_of_image (refusal.TooLong 0) why h) (not_of_image refusal.ReadFault why h)

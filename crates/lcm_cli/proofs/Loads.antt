@@ -14,7 +14,7 @@ use Rattle.file_plans.specs.declared.refusal.Refusal.{Refusal}
 use Rattle.file_plans.specs.declared.refusal.Refusal.TheVariants as refusal
 use Rattle.file_plans.specs.Plans.{Plan, Ends, Made, ◌>>=◌, unless, Comes}
 use Rattle.link_tool.specs.Parts.{broken_in, linked}
-use Rattle.link_tool.specs.Loads.{load_module, load_other, load_parts, load_image}
+use Rattle.link_tool.specs.Loads.{load_module, load_other, load_parts, load_plan}
 use Rattle.lcm_cli.specs.ReadyTasks.{FollowsTask}
 use Rattle.link_tool.specs.Linked.{MeetsStart}
 use Rattle.lcm_cli.specs.Commands.{Task, Run, Totals, for_task}
@@ -32,14 +32,14 @@ abbrev pub task_of : ℕ → ImageSeen → Task
 task_of seed i = Run i load_steps (Totals (load_of seed))
 
 pub load_done : (seed : ℕ) (load : Workload) (start : StartSeen) → load ≡ load_of seed
-    → MeetsStart (load_image load) (Ok start) → (seen : FilesSeen)
-    → FollowsTask (for_task (load_image (load_of seed)) (task_of seed)) seen
+    → MeetsStart (load_plan load) (Ok start) → (seen : FilesSeen)
+    → FollowsTask (for_task (load_plan (load_of seed)) (task_of seed)) seen
     (Ok (ready.Generate start load)) seen
 load_done seed load start e m seen =
-    let h : MeetsStart (load_image (load_of seed)) (Ok start) =
-    subst (λ x. MeetsStart (load_image x) (Ok start)) e m in
-    task_done (load_image (load_of seed)) (task_of seed) seen seen h.0 (ready.Generate start load)
-    (comes_same (load_image (load_of seed)) (Made h.0) seen seen (Ok h.0) h.1 (refl, refl))
+    let h : MeetsStart (load_plan (load_of seed)) (Ok start) =
+    subst (λ x. MeetsStart (load_plan x) (Ok start)) e m in
+    task_done (load_plan (load_of seed)) (task_of seed) seen seen h.0 (ready.Generate start load)
+    (comes_same (load_plan (load_of seed)) (Made h.0) seen seen (Ok h.0) h.1 (refl, refl))
     (h.0, ap (λ x. Run h.0 load_steps (Totals x)) (sym e), h.2)
 
 -- ---- what comes of a plan that reads nothing
@@ -54,8 +54,8 @@ settled_parts load =
     (settled_unless (broken_in 1) (accepted (record { component = adder load; trusted = false })))
     (λ second. inl (_, refl)))
 
-settled_image : (load : Workload) → IsSettled (load_image load)
-unfolding load_image
+settled_image : (load : Workload) → IsSettled (load_plan load)
+unfolding load_plan
 settled_image load =
     settled_bind (load_parts load) _ (settled_parts load)
     (λ parts. settled_bind _ _ (settled_unless refusal.Rule (linked parts LOAD_STACK)) (λ u. inl (_, refl)))
@@ -86,17 +86,17 @@ ended_by {A} p why old new (inr e) h =
     e.1 ∙ (let k : why ≡ e.0 = same_err {A = A} e.0 why (sym c.0) in rw k refl)
 
 pub load_made : (load : Workload) (image : ImageSeen) (old new : FilesSeen)
-    → Comes (load_image load) old (Ok image) new → load_image load ≡ Made image
-load_made load image old new h = made_by (load_image load) image old new (settled_image load) h
+    → Comes (load_plan load) old (Ok image) new → load_plan load ≡ Made image
+load_made load image old new h = made_by (load_plan load) image old new (settled_image load) h
 
 pub comes_stays : (load : Workload) (image : ImageSeen) (old new : FilesSeen)
-    → Comes (load_image load) old (Ok image) new → new ≡ old
+    → Comes (load_plan load) old (Ok image) new → new ≡ old
 comes_stays load image old new h =
     (subst (λ q. Comes q old (Ok image) new) (load_made load image old new h) h).1
 
 pub load_ended : (load : Workload) (why : Refusal) (old new : FilesSeen)
-    → Comes (load_image load) old (Err why) new → load_image load ≡ Ends why
-load_ended load why old new h = ended_by (load_image load) why old new (settled_image load) h
+    → Comes (load_plan load) old (Err why) new → load_plan load ≡ Ends why
+load_ended load why old new h = ended_by (load_plan load) why old new (settled_image load) h
 
 -- ---- how no load ends
 
@@ -130,8 +130,8 @@ never_parts why h load =
     (λ first. never_bind (load_other load) _ why (never_other why h load)
     (λ second. not_made (first ∷ second ∷ []) why))
 
-pub never_load : (why : Refusal) → NotOfLoad why → (load : Workload) → Never (load_image load) why
-unfolding load_image
+pub never_load : (why : Refusal) → NotOfLoad why → (load : Workload) → Never (load_plan load) why
+unfolding load_plan
 never_load why h load =
     never_bind (load_parts load) _ why (never_parts why h load)
     (λ parts. never_bind (unless refusal.Rule (linked parts LOAD_STACK)) _ why

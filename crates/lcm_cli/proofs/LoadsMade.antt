@@ -10,7 +10,7 @@ use Rattle.generated_load.specs.Loads.{load_of, load_steps}
 use Rattle.file_plans.specs.declared.refusal.Refusal.{Refusal}
 use Rattle.file_plans.specs.Plans.{Comes}
 use Rattle.refusal_lines.specs.declared.status.Status.{Status}
-use Rattle.link_tool.specs.Loads.{load_image}
+use Rattle.link_tool.specs.Loads.{load_plan}
 use Rattle.lcm_cli.specs.Commands.{Task, Totals, for_task, plan_in}
 use Rattle.lcm_cli.specs.Bytes.{ComesOf}
 use Rattle.call_answers.specs.Answers.{with_files, AnswersWhole, Answers}
@@ -22,7 +22,7 @@ use Rattle.lcm_cli.proofs.RunsMade.{StartLaws, refused_none, whole_run}
 
 module _ (all : StartLaws) (seed : ℕ) (old : Outside) (ended : Status) (new : Outside) where
   given_load : (seen : FilesSeen) (i : ImageSeen) (a : Answer)
-      → Comes (load_image (load_of seed)) old.files (Ok i) seen
+      → Comes (load_plan (load_of seed)) old.files (Ok i) seen
       → IsAnswerOf (Ok (task_of seed i)) a
       → AnswersWhole (with_files old seen) a ended new → LoadGiven seed old ended new
   given_load seen i a c x g =
@@ -45,12 +45,12 @@ module _ (all : StartLaws) (seed : ℕ) (old : Outside) (ended : Status) (new : 
       }
 
   given_due : (read : List (List ℕ)) (seen : FilesSeen) (due : Result Task Refusal) (a : Answer)
-      → ComesOf (for_task (load_image (load_of seed)) (task_of seed)) read old.files due seen
+      → ComesOf (for_task (load_plan (load_of seed)) (task_of seed)) read old.files due seen
       → IsAnswerOf due a → AnswersWhole (with_files old seen) a ended new → IsRunStatus ended
       → LoadGiven seed old ended new
   given_due read seen (Err why) a c x g r = absurd (refused_none why a ended x g.status_is r)
   given_due read seen (Ok task) a c x g r =
-      let m = made_of (load_image (load_of seed)) (task_of seed) read old.files seen task c in
+      let m = made_of (load_plan (load_of seed)) (task_of seed) read old.files seen task c in
       given_load seen m.0 a m.1.0 (subst (λ t. IsAnswerOf (Ok t) a) m.2 x) g
 
 pub loads : StartLaws → (asked : Option Command) (old : Outside) (ended : Status) (new : Outside)

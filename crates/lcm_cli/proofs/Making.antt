@@ -6,11 +6,11 @@ use Rattle.command_words.specs.declared.command.Command.{Command}
 use Rattle.file_plans.specs.declared.refusal.Refusal.{Refusal}
 use Rattle.file_plans.specs.Plans.{Plan, Reads, Ends, Made, whole, too_long, unread, Comes}
 use Rattle.lcm_cli.specs.Commands.{Task, plan_in}
-use Rattle.lcm_cli.specs.Bytes.{bytes_of, Makes}
+use Rattle.lcm_cli.specs.Bytes.{bytes_of, ComesBy}
 use Rattle.lcm_cli.specs.Causes.{CameOf}
 
 pub makes_of : {A : Type 0} (plan : Plan A) (old : FilesSeen) (due : Result A Refusal) (new : FilesSeen)
-    (h : Comes plan old due new) → Makes plan (bytes_of plan old due new h) due
+    (h : Comes plan old due new) → ComesBy plan (bytes_of plan old due new h) due
 makes_of (Made x) old due new h = h.0
 makes_of (Ends why) old due new h = h.0
 makes_of (Reads name index next) old due new (whole bytes mid w h) = makes_of (next bytes) mid due new h

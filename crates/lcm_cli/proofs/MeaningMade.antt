@@ -12,7 +12,7 @@ use Rattle.file_plans.specs.Plans.{Plan}
 use Rattle.meaning_tool.specs.Subjects.{Subject, told_of, subject_in}
 use Rattle.refusal_lines.specs.declared.status.Status.{Status}
 use Rattle.lcm_cli.specs.Commands.{Task, Tell, plan_of, plan_in}
-use Rattle.lcm_cli.specs.Bytes.{ComesOf, Makes}
+use Rattle.lcm_cli.specs.Bytes.{ComesOf, ComesBy}
 use Rattle.call_answers.specs.Answers.{with_files, AnswersWhole, Answers}
 use Rattle.lcm_cli.specs.Answers.{Answer, Outside, tells, IsAnswerOf, read_in, stk}
 use Rattle.lcm_cli.specs.Causes.{IsRunStatus, MeaningGiven}
@@ -26,7 +26,7 @@ module _ (words : List PartWord) (size fuel : ℕ) (feed : List ℕ) (read : Lis
   reads = plan_of (Mean words size fuel feed)
 
   given_told : (seen : FilesSeen) (s : Subject) → SubjectCame words size feed read old.files s seen
-      → Makes reads read (Ok (Tell s fuel))
+      → ComesBy reads read (Ok (Tell s fuel))
       → AnswersWhole (with_files old seen) (tells (told_of s fuel)) ended new
       → MeaningGiven words size fuel feed read old ended new
   given_told seen s c k g =
@@ -46,7 +46,7 @@ module _ (words : List PartWord) (size fuel : ℕ) (feed : List ℕ) (read : Lis
         feed_came = rw p c.feed_came;
         items = s.feed;
         is_feed = c.is_feed;
-        made = subst (λ n. Makes reads read
+        made = subst (λ n. ComesBy reads read
             (Ok (Tell (record { modules = s.modules; size = n; feed = s.feed }) fuel))) c.size_is k;
         status_is = h.status_is;
         written = h.written;
@@ -54,7 +54,7 @@ module _ (words : List PartWord) (size fuel : ℕ) (feed : List ℕ) (read : Lis
       }
 
   given_due : (seen : FilesSeen) (due : Result Task Refusal) (a : Answer)
-      → ComesOf reads read old.files due seen → Makes reads read due → IsAnswerOf due a
+      → ComesOf reads read old.files due seen → ComesBy reads read due → IsAnswerOf due a
       → AnswersWhole (with_files old seen) a ended new → IsRunStatus ended
       → MeaningGiven words size fuel feed read old ended new
   given_due seen (Err why) a c k x g r = absurd (refused_none why a ended x g.status_is r)
@@ -62,7 +62,7 @@ module _ (words : List PartWord) (size fuel : ℕ) (feed : List ℕ) (read : Lis
       let m = made_of (subject_in words size feed) (λ s. Tell s fuel) read old.files seen task c in
       let e : a ≡ tells (told_of m.0 fuel) = subst (λ t. IsAnswerOf (Ok t) a) m.2 x in
       given_told seen m.0 (subject_came words size feed read old.files seen m.0 m.1)
-      (subst (λ t. Makes reads read (Ok t)) m.2 k)
+      (subst (λ t. ComesBy reads read (Ok t)) m.2 k)
       (subst (λ b. AnswersWhole (with_files old seen) b ended new) e g)
 
 pub means : (asked : Option Command) (old : Outside) (ended : Status) (new : Outside)
@@ -73,4 +73,4 @@ means asked old ended new a words size fuel feed e r =
     let w = whole_run (plan_in asked) old ended new a r in
     given_due words size fuel feed (read_in a) old ended new w.seen w.due w.gives
     (subst (λ q. ComesOf (plan_in q) (read_in a) old.files w.due w.seen) e w.came)
-    (subst (λ q. Makes (plan_in q) (read_in a) w.due) e w.makes) w.is w.given r
+    (subst (λ q. ComesBy (plan_in q) (read_in a) w.due) e w.makes) w.is w.given r

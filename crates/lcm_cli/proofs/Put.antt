@@ -31,8 +31,8 @@ use Rattle.meaning_tool.specs.Subjects.{told_of, module_at, subject_in}
 use Rattle.lcm_cli.specs.Audits.{audit_at}
 use Rattle.lcm_cli.specs.Commands.{Task, Run, Trace, Reach, Debug, Put, Write, Tell, Content, OfModule}
 use Rattle.lcm_cli.specs.Commands.{spelling_of, IsReadAgain, link_task, component_task, plan_of, plan_in}
-use Rattle.link_tool.specs.Linked.{linked_in}
-use Rattle.link_tool.specs.Loads.{load_image}
+use Rattle.link_tool.specs.Linked.{linked_plan}
+use Rattle.link_tool.specs.Loads.{load_plan}
 use Rattle.call_answers.specs.Answers.{NewFile, IsPut, whole, unput, unwritten, Answers, answer, nothing}
 use Rattle.call_answers.specs.Answers.{Stay}
 use Rattle.lcm_cli.specs.Answers.{Answer, Outside, end_status, meaning_status, ran, ran_overlay, tells, puts}
@@ -62,7 +62,7 @@ component_puts component_deed.Show c name d e = absurd (cc)
 put_of_command : (c : Command) (read : List (List ℕ)) (old seen : FilesSeen) (name : List ℕ) (d : Content)
     → ComesOf (plan_of c) read old (Ok (Put name d)) seen → out_name (Some c) ≡ Some name
 put_of_command (Links l deed) read old seen name d h =
-    let m = made_of (linked_in l) (link_task deed) read old seen (Put name d) h in
+    let m = made_of (linked_plan l) (link_task deed) read old seen (Put name d) h in
     link_puts deed m.0 name d m.2
 put_of_command (Takes word deed) read old seen name d h =
     let m = made_of (component_at 0 word) (component_task deed) read old seen (Put name d) h in
@@ -79,7 +79,7 @@ put_of_command (asked.Erase word out) read old seen name d h =
     let m = made_of (module_at 0 word) (λ m. Put out (OfModule m)) read old seen (Put name d) h in
     let n : out ≡ name = let e = m.2 in cc in ap (λ z. Some z) n
 put_of_command (Generate seed) read old seen name d h =
-    absurd (let m = (made_of (load_image (load_of seed)) _ read old seen (Put name d) h).2 in cc)
+    absurd (let m = (made_of (load_plan (load_of seed)) _ read old seen (Put name d) h).2 in cc)
 
 no_ok : {A : Type 0} (x : A) (why : Refusal) → (let r : Result A Refusal = Ok x in r) ≡ Err why → ⊥
 no_ok x why e = cc

@@ -24,7 +24,7 @@ use Rattle.file_plans.specs.Plans.{Comes}
 use Rattle.linked_starts.specs.Accepted.{accepted}
 use Rattle.command_words.specs.Part.{is_trusted_mark}
 use Rattle.link_tool.specs.Parts.{broken_in, linked, loaded, form_by, component_at, part_at}
-use Rattle.link_tool.specs.Linked.{linked_parts, linked_image, linked_in}
+use Rattle.link_tool.specs.Linked.{parts_plan, image_plan, linked_plan}
 use Rattle.proc_sources.specs.declared.fault.SourceFault.{SourceFault}
 use Rattle.proc_sources.specs.Sources.{sourced}
 use Rattle.proc_language.specs.declared.dialect.Dialect.{Dialect}
@@ -290,8 +290,8 @@ module _ (asked : Option Command) where
   each_reasoned item h ws e = each_behind item h 0 ws (all_words ws e)
 
   linked_reasoned : AsksComponents → (words : List PartWord) (size : ℕ) → part_words asked ≡ words
-      → Reasoned (linked_parts words size)
-  unfolding linked_parts
+      → Reasoned (parts_plan words size)
+  unfolding parts_plan
   linked_reasoned asks words size e =
       reasoned_bind (each_at part_at 0 words) _ (each_reasoned part_at (part_reasoned asks) words e)
       (λ parts. reasoned_bind (unless refusal.Rule (linked parts size)) _
@@ -302,12 +302,13 @@ module _ (asked : Option Command) where
   image_by name more old mid new bytes why w h = let e =
       (ended_unless refusal.Image (loaded bytes) mid new why h.0).2 in rw e tt
 
-  image_reasoned : (name : List ℕ) → Reasoned (linked_image name)
-  unfolding linked_image
+  image_reasoned : (name : List ℕ) → Reasoned (image_plan name)
+  unfolding image_plan
   image_reasoned name =
       reads_reasoned name 0 (λ bytes. unless refusal.Image (loaded bytes)) (image_by name)
 
-  pub in_reasoned : AsksComponents → (l : Linked) → part_words asked ≡ linked_words l → Reasoned (linked_in l)
+  pub in_reasoned : AsksComponents → (l : Linked) → part_words asked ≡ linked_words l
+      → Reasoned (linked_plan l)
   in_reasoned asks (what.Parts words size) e = linked_reasoned asks words size e
   in_reasoned asks (what.Image name) e = image_reasoned name
 
@@ -361,9 +362,9 @@ pub err_same : {A : Type 0} {x y : RuleAt} → x ≡ y → (let q : Result A Rul
 err_same e = cc
 
 pub linked_break : (words : List PartWord) (size : ℕ) (read : List (List ℕ)) (old new : FilesSeen)
-    (r : RuleAt) → ComesOf (linked_parts words size) read old (Err (refusal.Rule r)) new
+    (r : RuleAt) → ComesOf (parts_plan words size) read old (Err (refusal.Rule r)) new
     → LinkBreaks read old words size r new
-unfolding linked_parts
+unfolding parts_plan
 linked_break words size read old new r h =
     elim (came_first (each_at part_at 0 words) (link_by size) (settled_link size) read old new
     (Err (refusal.Rule r)) h) as (λ _. LinkBreaks read old words size r new) [
@@ -398,8 +399,8 @@ fault_same : {A : Type 0} {x y : ImageFault} → x ≡ y → (let q : Result A I
 fault_same e = cc
 
 pub image_fails : (name : List ℕ) (read : List (List ℕ)) (old new : FilesSeen) (f : ImageFault)
-    → ComesOf (linked_image name) read old (Err (refusal.Image f)) new → ImageFails read old name f new
-unfolding linked_image
+    → ComesOf (image_plan name) read old (Err (refusal.Image f)) new → ImageFails read old name f new
+unfolding image_plan
 image_fails name read old new f h =
     elim (one_read name 0 (λ bytes. unless refusal.Image (loaded bytes)) image_loads read old new
     (Err (refusal.Image f)) h) as (λ _. ImageFails read old name f new) [
@@ -420,8 +421,8 @@ abbrev pub KeptBy : Linked → List (List ℕ) → FilesSeen → ImageSeen → F
 KeptBy l read old i new = LinkedCame l read old i.parts i.stack new × (linked i.parts i.stack ≡ Ok tt)
 
 linked_made : (words : List PartWord) (size : ℕ) (read : List (List ℕ)) (old new : FilesSeen) (i : ImageSeen)
-    → ComesOf (linked_parts words size) read old (Ok i) new → KeptBy (what.Parts words size) read old i new
-unfolding linked_parts
+    → ComesOf (parts_plan words size) read old (Ok i) new → KeptBy (what.Parts words size) read old i new
+unfolding parts_plan
 linked_made words size read old new i h =
     elim (came_first (each_at part_at 0 words) (link_by size) (settled_link size) read old new (Ok i) h)
     as (λ _. KeptBy (what.Parts words size) read old i new) [
@@ -439,8 +440,8 @@ linked_made words size read old new i h =
     made ps (Err b) e c h = absurd (let q = h.0 in cc)
 
 image_made : (name : List ℕ) (read : List (List ℕ)) (old new : FilesSeen) (i : ImageSeen)
-    → ComesOf (linked_image name) read old (Ok i) new → KeptBy (what.Image name) read old i new
-unfolding linked_image
+    → ComesOf (image_plan name) read old (Ok i) new → KeptBy (what.Image name) read old i new
+unfolding image_plan
 image_made name read old new i h =
     let s = read_made name 0 (λ bytes. unless refusal.Image (loaded bytes)) image_loads read old new i h in
     made s.0 s.1 s.2 (loaded s.0) refl s.3
@@ -455,6 +456,6 @@ image_made name read old new i h =
     made bytes q w (Err f) e h = absurd (let k = h.0 in cc)
 
 pub in_made : (l : Linked) (read : List (List ℕ)) (old new : FilesSeen) (i : ImageSeen)
-    → ComesOf (linked_in l) read old (Ok i) new → KeptBy l read old i new
+    → ComesOf (linked_plan l) read old (Ok i) new → KeptBy l read old i new
 in_made (what.Parts words size) read old new i h = linked_made words size read old new i h
 in_made (what.Image name) read old new i h = image_made name read old new i h

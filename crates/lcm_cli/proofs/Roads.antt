@@ -43,7 +43,7 @@ use Rattle.refusal_lines.specs.declared.status.Status.TheVariants.{Done}
 use Rattle.link_tool.specs.Parts.{broken_in, linked, loaded, form_by, HasForm, component_at, part_at}
 use Rattle.lcm_cli.specs.Debugs.{unscripted, script_at}
 use Rattle.lcm_cli.specs.Commands.{Task, Tell, Debug, link_task, component_task, debug_plan, for_task}
-use Rattle.link_tool.specs.Linked.{linked_parts, linked_image, linked_in}
+use Rattle.link_tool.specs.Linked.{parts_plan, image_plan, linked_plan}
 use Rattle.lcm_cli.specs.Commands.{plan_of}
 use Rattle.call_answers.specs.Answers.{NewFile, IsWritten}
 use Rattle.lcm_cli.specs.Answers.{Answer, IsAnswerOf, tells, puts, writes, stk}
@@ -230,19 +230,19 @@ shown_of over w text h =
 -- what `link` put is the image of the parts that link, which is read as it
 record IsImageOf (over : Held) (ws : List PartWord) (size : ℕ) (bytes : List ℕ) : Type 0 where
   image : ImageSeen
-  comes : settled over (linked_parts ws size) ≡ Some (Ok image)
+  comes : settled over (parts_plan ws size) ≡ Some (Ok image)
   again : loaded bytes ≡ Ok image
 
 image_of_words : (over : Held) (ws : List PartWord) (size : ℕ) (bytes : List ℕ) → PutsImage over ws size bytes
     → IsImageOf over ws size bytes
 image_of_words over ws size bytes (out, h) =
-    let m = made_of over (linked_parts ws size) (link_task (link_deed.Store out)) (puts out bytes) h refl in
+    let m = made_of over (parts_plan ws size) (link_task (link_deed.Store out)) (puts out bytes) h refl in
     let q = same_put out out bytes (image_bytes m.made) m.answered.1 in
     record { image = m.made; comes = m.comes; again = ap loaded q ∙ m.answered.0 }
 
 image_is : (over : Held) (name : List ℕ)
-    → settled over (linked_image name) ≡ by_bytes 0 (λ b. Some (told refusal.Image (loaded b))) (over name)
-unfolding linked_image
+    → settled over (image_plan name) ≡ by_bytes 0 (λ b. Some (told refusal.Image (loaded b))) (over name)
+unfolding image_plan
 image_is over name =
     same_bytes 0 (λ b. settled over (unless refusal.Image (loaded b))) _
     (λ b. settled_unless over refusal.Image (loaded b)) (over name)
@@ -328,8 +328,8 @@ module _ (laws : RoadLaws) (held there : Held) where
   -- ---- parts that link
 
   linked_agree : (ws vs : List PartWord) (size : ℕ) → AreBeside held there ws vs
-      → Agree held there (λ x y. x ≡ y) (linked_parts ws size) (linked_parts vs size)
-  unfolding linked_parts
+      → Agree held there (λ x y. x ≡ y) (parts_plan ws size) (parts_plan vs size)
+  unfolding parts_plan
   linked_agree ws vs size b =
       agree_bind held there (Pairwise (λ x y. x ≡ y)) (λ x y. x ≡ y) (each_at part_at 0 ws)
       (each_at part_at 0 vs)
@@ -344,7 +344,7 @@ module _ (laws : RoadLaws) (held there : Held) where
 
   image_so : (ws : List PartWord) (size : ℕ) (name bytes : List ℕ) → PutsImage held ws size bytes
       → HoldsShort there name bytes
-      → settled held (linked_parts ws size) ≡ settled there (linked_image name)
+      → settled held (parts_plan ws size) ≡ settled there (image_plan name)
   image_so ws size name bytes p k =
       let s = image_of_words held ws size bytes p in
       s.comes ∙ sym (image_is there name
@@ -352,19 +352,19 @@ module _ (laws : RoadLaws) (held there : Held) where
       ∙ ap (λ r. Some (told refusal.Image r)) s.again)
 
   images_so : (name other : List ℕ) → there other ≡ held name
-      → settled held (linked_image name) ≡ settled there (linked_image other)
+      → settled held (image_plan name) ≡ settled there (image_plan other)
   images_so name other e =
       image_is held name
       ∙ ap (by_bytes 0 (λ b. Some (told refusal.Image (loaded b)))) (sym e)
       ∙ sym (image_is there other)
 
   links_agree : (l k : Linked) → LinkBeside held there l k
-      → Agree held there (λ x y. x ≡ y) (linked_in l) (linked_in k)
+      → Agree held there (λ x y. x ≡ y) (linked_plan l) (linked_plan k)
   links_agree (what.Parts ws size) (what.Parts vs other) h = rw h.1 (linked_agree ws vs size h.0)
   links_agree (what.Parts ws size) (what.Image name) h =
-      same_due (linked_parts ws size) (linked_image name) (image_so ws size name h.0 h.1 h.2)
+      same_due (parts_plan ws size) (image_plan name) (image_so ws size name h.0 h.1 h.2)
   links_agree (what.Image name) (what.Image other) h =
-      same_due (linked_image name) (linked_image other) (images_so name other h)
+      same_due (image_plan name) (image_plan other) (images_so name other h)
   links_agree (what.Image name) (what.Parts vs other) h = absurd h
 
   -- ---- modules
@@ -492,7 +492,7 @@ module _ (laws : RoadLaws) (held there : Held) where
       → Agree held there AnswerAlike (debug_plan l script) (debug_plan k lines)
   unfolding debug_plan
   debug_agrees l k script lines e b =
-      agree_bind held there (λ x y. x ≡ y) AnswerAlike (linked_in l) (linked_in k) _ _
+      agree_bind held there (λ x y. x ≡ y) AnswerAlike (linked_plan l) (linked_plan k) _ _
       (links_agree l k b) (λ i j q.
       rw (sym q) (agree_bind held there (λ x y. x ≡ y) AnswerAlike (script_at script (length i.parts))
       (script_at lines (length i.parts)) _ _ (script_agrees script lines (length i.parts) e)
@@ -505,7 +505,7 @@ module _ (laws : RoadLaws) (held there : Held) where
   commands_agree : (c d : Command) → AskBeside held there c d
       → Agree held there AnswerAlike (plan_of c) (plan_of d)
   commands_agree (Links l deed) (Links k done) h =
-      rw h.1 (same_tasks (linked_in l) (linked_in k) (link_task deed) (links_agree l k h.0))
+      rw h.1 (same_tasks (linked_plan l) (linked_plan k) (link_task deed) (links_agree l k h.0))
   commands_agree (Takes w deed) (Takes v done) h =
       rw h.1 (same_tasks (component_at 0 w) (component_at 0 v) (component_task deed)
       (component_agrees 0 w v h.0))

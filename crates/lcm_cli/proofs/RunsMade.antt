@@ -40,8 +40,8 @@ use Rattle.refusal_lines.specs.declared.status.Status.TheVariants as status
 use Rattle.refusal_lines.specs.Refusals.{refusal_text, refusal_status, image_status}
 use Rattle.file_plans.specs.Plans.{Plan}
 use Rattle.lcm_cli.specs.Commands.{Lines, Task, link_task, plan_of, plan_in}
-use Rattle.link_tool.specs.Linked.{linked_in}
-use Rattle.lcm_cli.specs.Bytes.{ComesOf, Makes}
+use Rattle.link_tool.specs.Linked.{linked_plan}
+use Rattle.lcm_cli.specs.Bytes.{ComesOf, ComesBy}
 use Rattle.call_answers.specs.Answers.{NewFile, with_files, IsPut, AnswersWhole, whole, unput, unwritten}
 use Rattle.call_answers.specs.Answers.{Answers, answer, nothing}
 use Rattle.lcm_cli.specs.Answers.{Answer, Outside, end_status, writes, ran, ran_overlay, refused, IsAnswerOf}
@@ -97,7 +97,7 @@ all_of calls secret confined headline =
 -- what came of the image, and the start of its parts
 abbrev pub started : StartLaws → (l : Linked) (read : List (List ℕ)) (old seen : FilesSeen) (i : ImageSeen)
     (start : StartSeen)
-    → ComesOf (linked_in l) read old (Ok i) seen → IsStartOf i.parts i.stack start → Started l read old seen
+    → ComesOf (linked_plan l) read old (Ok i) seen → IsStartOf i.parts i.stack start → Started l read old seen
 started all l read old seen i start c s =
     let came = in_made l read old seen i c in
     record {
@@ -116,29 +116,29 @@ started all l read old seen i start c s =
 -- what was due to a deed: a refusal, or what is done with the image that came
 pub data DeedDue (l : Linked) (deed : LinkDeed) (read : List (List ℕ)) (old seen : FilesSeen) (a : Answer)
     : Type 0 where
-  told : (why : Refusal) → ComesOf (linked_in l) read old (Err why) seen
-      → Makes (plan_of (Links l deed)) read (Err why) → a ≡ refused why → DeedDue l deed read old seen a
-  made : (i : ImageSeen) → ComesOf (linked_in l) read old (Ok i) seen
-      → Makes (plan_of (Links l deed)) read (Ok (link_task deed i)) → IsAnswerOf (Ok (link_task deed i)) a
+  told : (why : Refusal) → ComesOf (linked_plan l) read old (Err why) seen
+      → ComesBy (plan_of (Links l deed)) read (Err why) → a ≡ refused why → DeedDue l deed read old seen a
+  made : (i : ImageSeen) → ComesOf (linked_plan l) read old (Ok i) seen
+      → ComesBy (plan_of (Links l deed)) read (Ok (link_task deed i)) → IsAnswerOf (Ok (link_task deed i)) a
       → DeedDue l deed read old seen a
 
 due_of : (l : Linked) (deed : LinkDeed) (read : List (List ℕ)) (old seen : FilesSeen)
     (due : Result Task Refusal) (a : Answer) → ComesOf (plan_of (Links l deed)) read old due seen
-    → Makes (plan_of (Links l deed)) read due → IsAnswerOf due a → DeedDue l deed read old seen a
+    → ComesBy (plan_of (Links l deed)) read due → IsAnswerOf due a → DeedDue l deed read old seen a
 due_of l deed read old seen (Err why) a c t x =
-    told why (err_of (linked_in l) (link_task deed) read old seen why c) t x
+    told why (err_of (linked_plan l) (link_task deed) read old seen why c) t x
 due_of l deed read old seen (Ok task) a c t x =
-    let m = made_of (linked_in l) (link_task deed) read old seen task c in
-    made m.0 m.1 (subst (λ k. Makes (plan_of (Links l deed)) read (Ok k)) m.2 t)
+    let m = made_of (linked_plan l) (link_task deed) read old seen task c in
+    made m.0 m.1 (subst (λ k. ComesBy (plan_of (Links l deed)) read (Ok k)) m.2 t)
     (subst (λ k. IsAnswerOf (Ok k) a) m.2 x)
 
 pub asked_due : (asked : Option Command) (l : Linked) (deed : LinkDeed) → asked ≡ Some (Links l deed)
     → (read : List (List ℕ)) (old seen : FilesSeen) (due : Result Task Refusal) (a : Answer)
-    → ComesOf (plan_in asked) read old due seen → Makes (plan_in asked) read due → IsAnswerOf due a
+    → ComesOf (plan_in asked) read old due seen → ComesBy (plan_in asked) read due → IsAnswerOf due a
     → DeedDue l deed read old seen a
 asked_due asked l deed e read old seen due a c t x =
     due_of l deed read old seen due a (subst (λ q. ComesOf (plan_in q) read old due seen) e c)
-    (subst (λ q. Makes (plan_in q) read due) e t) x
+    (subst (λ q. ComesBy (plan_in q) read due) e t) x
 
 -- ---- what was written whole
 
@@ -149,7 +149,7 @@ pub record WholeRun (plan : Plan Task) (read : List (List ℕ)) (old : Outside) 
   pub gives : Answer
   pub seen : FilesSeen
   pub came : ComesOf plan read old.files due seen
-  pub makes : Makes plan read due
+  pub makes : ComesBy plan read due
   pub is : IsAnswerOf due gives
   pub given : AnswersWhole (with_files old seen) gives ended new
 
@@ -181,7 +181,7 @@ given_run all pass l steps read old seen ended new a small (made i c t x) g r =
     let p : new.files ≡ seen = h.put in
     record {
       from = started all l read old.files new.files i x.0
-          (subst (λ z. ComesOf (linked_in l) read old.files (Ok i) z) (sym p) c) x.1;
+          (subst (λ z. ComesOf (linked_plan l) read old.files (Ok i) z) (sym p) c) x.1;
       made = t;
       status_is = h.status_is;
       written = h.written;
@@ -223,7 +223,7 @@ given_trace all one l steps read old seen ended new a (made i c t x) g r =
     subst (λ b. AnswersWhole (with_files old seen) b ended new) x.4 g in
     let p : new.files ≡ seen = h.put in
     let f = started all l read old.files new.files i x.0
-    (subst (λ z. ComesOf (linked_in l) read old.files (Ok i) z) (sym p) c) x.2 in
+    (subst (λ z. ComesOf (linked_plan l) read old.files (Ok i) z) (sym p) c) x.2 in
     record {
       from = f;
       made = t;
@@ -291,7 +291,7 @@ pub record Cut (plan : Plan Task) (read : List (List ℕ)) (old new : Outside) :
   pub gives : Answer
   pub seen : FilesSeen
   pub came : ComesOf plan read old.files due seen
-  pub makes : Makes plan read due
+  pub makes : ComesBy plan read due
   pub is : IsAnswerOf due gives
   pub fails : gives.file ≡ None → gives.status ≢ status.WriteFault
       → (new.files ≡ seen) × FailsToWrite old.sink gives.text new.sink
@@ -364,7 +364,7 @@ given_reach all bounds influences l read old seen ended new a (made i c t x) g r
     let p : new.files ≡ seen = h.put in
     record {
       from = started all l read old.files new.files i x.0
-          (subst (λ z. ComesOf (linked_in l) read old.files (Ok i) z) (sym p) c) x.2;
+          (subst (λ z. ComesOf (linked_plan l) read old.files (Ok i) z) (sym p) c) x.2;
       made = t;
       text = x.1;
       text_is = x.3;
@@ -386,13 +386,14 @@ reaches all bounds influences asked old ended new a l e r =
 
 refused_cut : {plan : Plan Task} {read : List (List ℕ)} {old new : Outside} (l : Linked) (deed : LinkDeed)
     (k : Cut plan read old new) (why : Refusal)
-    → ComesOf (linked_in l) read old.files (Err why) k.seen → Makes (plan_of (Links l deed)) read (Err why)
+    → ComesOf (linked_plan l) read old.files (Err why) k.seen
+    → ComesBy (plan_of (Links l deed)) read (Err why)
     → k.gives ≡ refused why
-    → (w : Refusal) × ComesOf (linked_in l) read old.files (Err w) new.files
-    × Makes (plan_of (Links l deed)) read (Err w) × FailsToWrite old.sink (refusal_text w) new.sink
+    → (w : Refusal) × ComesOf (linked_plan l) read old.files (Err w) new.files
+    × ComesBy (plan_of (Links l deed)) read (Err w) × FailsToWrite old.sink (refusal_text w) new.sink
 refused_cut {read = read} {old = old} {new = new} l deed k why c t e =
     let f = cut_by k (refused why) e refl (λ q. no_cut why (sym q)) in
-    (why, subst (λ z. ComesOf (linked_in l) read old.files (Err why) z) (sym f.0) c, t, f.1)
+    (why, subst (λ z. ComesOf (linked_plan l) read old.files (Err why) z) (sym f.0) c, t, f.1)
 
 cut_run : StartLaws → (l : Linked) (steps : ℕ) (plan : Plan Task) (read : List (List ℕ)) (old new : Outside)
     (k : Cut plan read old new)
@@ -404,7 +405,7 @@ cut_run all l steps plan read old new k (made i c t x) =
     (never_cut _ (run_never (last_step (plain steps x.0.state)))) in
     inr (
       started all l read old.files new.files i x.0
-          (subst (λ z. ComesOf (linked_in l) read old.files (Ok i) z) (sym f.0) c) x.1,
+          (subst (λ z. ComesOf (linked_plan l) read old.files (Ok i) z) (sym f.0) c) x.1,
       t,
       text_of_run x.0 steps,
       refl,
@@ -420,7 +421,7 @@ cut_trace all l steps plan read old new k (made i c t x) =
     let f = cut_by k (ran_overlay x.1 steps) x.4 refl (never_cut _ (writes_none steps x.1)) in
     inr (
       started all l read old.files new.files i x.0
-          (subst (λ z. ComesOf (linked_in l) read old.files (Ok i) z) (sym f.0) c) x.2,
+          (subst (λ z. ComesOf (linked_plan l) read old.files (Ok i) z) (sym f.0) c) x.2,
       t,
       trace_text steps x.1,
       (x.1, x.3, refl),

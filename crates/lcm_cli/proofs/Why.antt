@@ -21,8 +21,8 @@ use Rattle.lcm_cli.specs.Bytes.{ComesOf}
 use Rattle.link_tool.specs.Parts.{component_at, part_at}
 use Rattle.meaning_tool.specs.Subjects.{module_at, subject_in}
 use Rattle.lcm_cli.specs.Commands.{Task, for_task, link_task, component_task, plan_of, plan_in, debug_plan}
-use Rattle.link_tool.specs.Linked.{linked_in}
-use Rattle.link_tool.specs.Loads.{load_image}
+use Rattle.link_tool.specs.Linked.{linked_plan}
+use Rattle.link_tool.specs.Loads.{load_plan}
 use Rattle.lcm_cli.specs.Causes.{IsUnread, IsLong, IsUndecoded, IsUncompiled, IsUnassembled, IsUnloaded}
 use Rattle.lcm_cli.specs.Causes.{IsUnscripted, IsUnaudited, IsUnmade, Breaks, IsUnfed}
 use Rattle.lcm_cli.proofs.Ends.{Never, same_err, never_linked, never_image, never_component, never_part}
@@ -118,7 +118,7 @@ why_task asked p f read old new why t h =
 -- ---- what is read: parts that link, or an image; one component; one part; modules and a feed
 
 links_explain : (l : Linked) (deed : LinkDeed) (read : List (List ℕ)) (old new : FilesSeen)
-    → Explains (Some (Links l deed)) (linked_in l) read old new
+    → Explains (Some (Links l deed)) (linked_plan l) read old new
 links_explain (what.Parts words size) deed read old new = record {
   reasoned = in_reasoned (Some (Links (what.Parts words size) deed)) (λ d text f e. e)
       (what.Parts words size) refl;
@@ -201,7 +201,7 @@ module_explains word out fits read old new = record {
 -- ---- a load, which reads nothing: it is refused as a source, or breaks a rule
 
 load_why : (seed : ℕ) (read : List (List ℕ)) (old new : FilesSeen) (why : Refusal)
-    → Comes (load_image (load_of seed)) old (Err why) new
+    → Comes (load_plan (load_of seed)) old (Err why) new
     → WhyIs (Some (Generate seed)) (plan_of (Generate seed)) read old why new
 load_why seed read old new (refusal.Source index f) h =
     inr (load_ended (load_of seed) (refusal.Source index f) old new h)
@@ -229,7 +229,7 @@ load_why seed read old new (refusal.Feed line) h =
 command_why : (c : Command) → Fits c → (read : List (List ℕ)) (old new : FilesSeen) (why : Refusal)
     → ComesOf (plan_of c) read old (Err why) new → WhyIs (Some c) (plan_of c) read old why new
 command_why (Links l deed) fits read old new why h =
-    why_task (Some (Links l deed)) (linked_in l) (link_task deed) read old new why
+    why_task (Some (Links l deed)) (linked_plan l) (link_task deed) read old new why
     (links_explain l deed read old new) h
 command_why (Takes word deed) fits read old new why h =
     why_task (Some (Takes word deed)) (component_at 0 word) (component_task deed) read old new why
@@ -248,7 +248,7 @@ command_why (asked.Erase word out) fits read old new why h =
     why_task (Some (asked.Erase word out)) (module_at 0 word) _ read old new why
     (module_explains word out fits read old new) h
 command_why (Generate seed) fits read old new why h =
-    load_why seed read old new why (err_of (load_image (load_of seed)) _ read old new why h).0
+    load_why seed read old new why (err_of (load_plan (load_of seed)) _ read old new why h).0
 
 pub why_is : (asked : Option Command) → ((c : Command) → asked ≡ Some c → Fits c)
     → (read : List (List ℕ)) (old new : FilesSeen) (why : Refusal)

@@ -21,10 +21,10 @@ ComesOf plan read old due new = (c : Comes plan old due new) × (bytes_of plan o
 
 -- what a plan makes of these bytes, file by file, or why it ends; after them it ends by a file that doesn't
 -- come
-abbrev pub Makes : {A : Type 0} → Plan A → List (List ℕ) → Result A Refusal → Type 0
-Makes (Made x) [] due = due ≡ Ok x
-Makes (Made x) (bytes ∷ came) due = ⊥
-Makes (Ends why) [] due = due ≡ Err why
-Makes (Ends why) (bytes ∷ came) due = ⊥
-Makes (Reads name index next) [] due = (due ≡ Err (TooLong index)) ⊎ (due ≡ Err ReadFault)
-Makes (Reads name index next) (bytes ∷ came) due = Makes (next bytes) came due
+abbrev pub ComesBy : {A : Type 0} → Plan A → List (List ℕ) → Result A Refusal → Type 0
+ComesBy (Made x) [] due = due ≡ Ok x
+ComesBy (Made x) (bytes ∷ came) due = ⊥
+ComesBy (Ends why) [] due = due ≡ Err why
+ComesBy (Ends why) (bytes ∷ came) due = ⊥
+ComesBy (Reads name index next) [] due = (due ≡ Err (TooLong index)) ⊎ (due ≡ Err ReadFault)
+ComesBy (Reads name index next) (bytes ∷ came) due = ComesBy (next bytes) came due

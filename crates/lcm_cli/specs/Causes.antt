@@ -90,11 +90,11 @@ use Rattle.link_tool.specs.Parts.{linked, loaded, component_at, part_at}
 use Rattle.lcm_cli.specs.Commands.{Content, spelling_of, IsReadAgain, Telling, Run, Trace, Put, Write, Task}
 use Rattle.lcm_cli.specs.Commands.{Reach, Tell, ok_text, link_task, plan_of, plan_in}
 use Rattle.lcm_cli.specs.Commands as task
-use Rattle.link_tool.specs.Loads.{load_image}
+use Rattle.link_tool.specs.Loads.{load_plan}
 use Rattle.lcm_cli.specs.Totals.{totals_text}
 use Rattle.lcm_cli.specs.Debugs.{script_line}
-use Rattle.link_tool.specs.Linked.{linked_in}
-use Rattle.lcm_cli.specs.Bytes.{ComesOf, Makes}
+use Rattle.link_tool.specs.Linked.{linked_plan}
+use Rattle.lcm_cli.specs.Bytes.{ComesOf, ComesBy}
 use Rattle.call_answers.specs.Answers.{Answers, IsComplete, Stay}
 use Rattle.lcm_cli.specs.Answers.{Outside, read_in, end_status, meaning_status, stk}
 
@@ -253,7 +253,7 @@ ModulesBreak read old words size r new =
 
 -- the load of the words' seed, which no file holds, is refused so
 abbrev pub IsUnmade : Option Command → Refusal → Type 0
-IsUnmade (Some (Generate seed)) why = load_image (load_of seed) ≡ Ends why
+IsUnmade (Some (Generate seed)) why = load_plan (load_of seed) ≡ Ends why
 IsUnmade _ why = ⊥
 
 -- a rule that the command asks for is broken by the parts of its words, or by those of its load
@@ -269,7 +269,7 @@ Breaks _ read old r new = ⊥
 
 -- what came of the command's plan, of these bytes
 abbrev pub CameOf : Option Command → List (List ℕ) → FilesSeen → Result Task Refusal → FilesSeen → Type 0
-CameOf asked read old due new = ComesOf (plan_in asked) read old due new × Makes (plan_in asked) read due
+CameOf asked read old due new = ComesOf (plan_in asked) read old due new × ComesBy (plan_in asked) read due
 
 -- the image came, or the load was made, and the plain run of its start came to this
 abbrev pub RanTo : Option Command → List (List ℕ) → FilesSeen → FilesSeen → (Step → Type 0) → Type 0
@@ -314,8 +314,8 @@ AsksForText (task.Debug i script) = Unit {0}
 AsksForText _ = ⊥
 
 -- what is read came, and a text was to be written, and nothing else to be done
-abbrev pub Tells : Option Command → List (List ℕ) → FilesSeen → FilesSeen → Type 0
-Tells asked read old new = (t : Task) × AsksForText t × CameOf asked read old (Ok t) new
+abbrev pub TellsText : Option Command → List (List ℕ) → FilesSeen → FilesSeen → Type 0
+TellsText asked read old new = (t : Task) × AsksForText t × CameOf asked read old (Ok t) new
 
 -- the name of `--out`
 abbrev pub link_out : LinkDeed → Option (List ℕ)
@@ -335,7 +335,7 @@ out_name _ = None
 -- the plan ends so of these bytes, and the refusal's line was written
 abbrev pub Wrote : Option Command → List (List ℕ) → Refusal → Outside → Outside → Type 0
 Wrote asked read why old new =
-    Makes (plan_in asked) read (Err why) × Adds old.sink (refusal_text why) new.sink
+    ComesBy (plan_in asked) read (Err why) × Adds old.sink (refusal_text why) new.sink
 
 -- ---- the causes, a law for each status
 
@@ -344,7 +344,7 @@ pub record Causes (asked : Option Command) (read : List (List ℕ)) (old : Outsi
   -- the run halted, the file was put, the text was to be written, or the meaning halts or waits
   pub done : status ≡ Done → RanTo asked read old.files new.files (λ step. step ≡ Halted)
       ⊎ (TracedTo asked read old.files new.files run_end.Halted ⊎ (PutsFile asked read old.files new.files
-      ⊎ (Tells asked read old.files new.files ⊎ MeantTo asked read old.files new.files IsAtRest)))
+      ⊎ (TellsText asked read old.files new.files ⊎ MeantTo asked read old.files new.files IsAtRest)))
   pub machine_failed : status ≡ MachineFailed → RanTo asked read old.files new.files
       (λ step. (cause : FailCause) × (at : ℤ) × (step ≡ Failed cause at))
       ⊎ (TracedTo asked read old.files new.files run_end.Failed
@@ -448,7 +448,7 @@ pub record Started (l : Linked) (read : List (List ℕ)) (old new : FilesSeen) :
 abbrev pub IsMadeOf : {l : Linked} {read : List (List ℕ)} {old new : FilesSeen} → LinkDeed
     → Started l read old new → Type 0
 IsMadeOf {l} {read} deed from =
-    Makes (plan_of (Links l deed)) read
+    ComesBy (plan_of (Links l deed)) read
     (Ok (link_task deed (record { stack = from.size; parts = from.parts })))
 
 -- the text of the plain run from a start: its lines and its end line
@@ -471,7 +471,7 @@ pub record RunGiven (l : Linked) (steps : ℕ) (read : List (List ℕ)) (old : O
 -- frames are secret, and it has the headline. No file is read.
 pub record LoadGiven (seed : ℕ) (old : Outside) (status : Status) (new : Outside) : Type 0 where
   pub image : ImageSeen
-  pub made : load_image (load_of seed) ≡ Made image
+  pub made : load_plan (load_of seed) ≡ Made image
   pub start : StartSeen
   pub linked_start : IsStartOf image.parts image.stack start
   pub confined : StartIsConfined image.parts image.stack start
@@ -511,7 +511,7 @@ pub record DebugGiven (l : Linked) (script : List ℕ) (read : List (List ℕ)) 
   pub script_came : ComesWhole mid script LONGEST_FILE text new.files
   pub lines : List Line
   pub is_script : scripted text ≡ Ok lines
-  pub made : Makes (plan_of (Debug l script)) read
+  pub made : ComesBy (plan_of (Debug l script)) read
       (Ok (task.Debug (record { stack = from.size; parts = from.parts }) lines))
   pub status_is : status ≡ Done
   pub written : Adds old.sink (debug_text from.start.state lines) new.sink
@@ -546,7 +546,7 @@ pub record MeaningGiven (words : List PartWord) (size fuel : ℕ) (feed : List �
   pub feed_came : ComesWhole mid feed LONGEST_FILE text new.files
   pub items : List Item
   pub is_feed : fed (stack_base_of modules) text ≡ Ok items
-  pub made : Makes (plan_of (Mean words size fuel feed)) read
+  pub made : ComesBy (plan_of (Mean words size fuel feed)) read
       (Ok (Tell (record { modules = modules; size = size; feed = items }) fuel))
   pub status_is : status ≡ meaning_status (meaning (map part_of modules) size items fuel).end
   pub written : Adds old.sink (told_text (meaning (map part_of modules) size items fuel)) new.sink
@@ -580,8 +580,8 @@ AuditTold name read old status new =
 abbrev pub IsCut : (l : Linked) → LinkDeed → (StartSeen → List ℕ → Type 0) → List (List ℕ) → Outside → Outside
     → Type 0
 IsCut l deed IsText read old new =
-    ((why : Refusal) × ComesOf (linked_in l) read old.files (Err why) new.files
-    × Makes (plan_of (Links l deed)) read (Err why) × FailsToWrite old.sink (refusal_text why) new.sink)
+    ((why : Refusal) × ComesOf (linked_plan l) read old.files (Err why) new.files
+    × ComesBy (plan_of (Links l deed)) read (Err why) × FailsToWrite old.sink (refusal_text why) new.sink)
     ⊎ ((from : Started l read old.files new.files) × IsMadeOf deed from × (text : List ℕ)
     × IsText from.start text × FailsToWrite old.sink text new.sink)
 

@@ -23,8 +23,8 @@ use Rattle.meaning_tool.specs.Subjects.{Subject, module_at, subject_in}
 use Rattle.proc_language.specs.declared.module.ModuleFields.{ModuleFields}
 use Rattle.proc_print.specs.Printed.{printed}
 use Rattle.link_tool.specs.Parts.{loaded, component_at, part_at}
-use Rattle.link_tool.specs.Linked.{linked_in}
-use Rattle.link_tool.specs.Loads.{load_image}
+use Rattle.link_tool.specs.Linked.{linked_plan}
+use Rattle.link_tool.specs.Loads.{load_plan}
 use Rattle.lcm_cli.specs.Debugs.{script_at}
 use Rattle.lcm_cli.specs.Audits.{audit_at}
 
@@ -82,7 +82,7 @@ component_task component_deed.Show c = Write (disassembled c)
 -- what links, and then the script, whose index is the number of parts
 unfoldable pub debug_plan : Linked → List ℕ → Plan Task
 debug_plan l script = do
-  i ← linked_in l
+  i ← linked_plan l
   lines ← script_at script (length i.parts)
   Made (Debug i lines)
 
@@ -97,7 +97,7 @@ for_task plan task = do
 -- parts that link, or an image; one component, of which no rule is asked; one part with its own rules;
 -- modules and a feed; a load; a text that is audited; or one module
 abbrev pub plan_of : Command → Plan Task
-plan_of (Links l deed) = for_task (linked_in l) (link_task deed)
+plan_of (Links l deed) = for_task (linked_plan l) (link_task deed)
 plan_of (Takes word deed) = for_task (component_at 0 word) (component_task deed)
 plan_of (Checks word) = for_task (part_at 0 word) (λ part. Write ok_text)
 plan_of (Mean words size fuel feed) = for_task (subject_in words size feed) (λ subject. Tell subject fuel)
@@ -105,7 +105,7 @@ plan_of (asked.Debug l script) = debug_plan l script
 plan_of (asked.Audit name) = for_task (audit_at name) (λ u. Write ok_text)
 plan_of (asked.Erase word out) = for_task (module_at 0 word) (λ m. Put out (OfModule m))
 plan_of (Generate seed) =
-    for_task (load_image (load_of seed)) (λ image. Run image load_steps (Totals (load_of seed)))
+    for_task (load_plan (load_of seed)) (λ image. Run image load_steps (Totals (load_of seed)))
 
 -- ---- what words ask for
 

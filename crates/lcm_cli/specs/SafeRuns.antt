@@ -10,7 +10,7 @@ use Rattle.file_plans.specs.declared.refusal.Refusal.{Refusal}
 use Rattle.file_plans.specs.Plans.{Plan}
 use Rattle.refusal_lines.specs.declared.status.Status.TheVariants.{WriteFault}
 use Rattle.lcm_cli.specs.Commands.{Task, plan_in}
-use Rattle.lcm_cli.specs.Bytes.{ComesOf, Makes}
+use Rattle.lcm_cli.specs.Bytes.{ComesOf, ComesBy}
 use Rattle.call_answers.specs.Answers.{Answers, outside}
 use Rattle.lcm_cli.specs.Answers.{Answer, IsAnswerOf, read_in, stk}
 
@@ -20,7 +20,7 @@ pub record FillsRoom (plan : Plan Task) (read : List (List ℕ)) (files seen : F
     : Type 0 where
   pub due : Result Task Refusal
   pub came : ComesOf plan read files due seen
-  pub makes : Makes plan read due
+  pub makes : ComesBy plan read due
   pub gives : Answer
   pub is : IsAnswerOf due gives
   pub fills : room ≤ length gives.text

@@ -34,8 +34,8 @@ use Rattle.refusal_lines.specs.declared.status.Status.{Status}
 use Rattle.command_words.specs.Part.{is_trusted_mark}
 use Rattle.link_tool.specs.Parts.{IsPartOf}
 use Rattle.lcm_cli.specs.Commands.{plan_of}
-use Rattle.link_tool.specs.Linked.{linked_in}
-use Rattle.lcm_cli.specs.Bytes.{ComesOf, Makes}
+use Rattle.link_tool.specs.Linked.{linked_plan}
+use Rattle.lcm_cli.specs.Bytes.{ComesOf, ComesBy}
 use Rattle.refusal_lines.specs.Refusals.{refusal_text}
 use Rattle.proc_semantics.specs.Meaning.{meaning}
 use Rattle.proc_semantics.specs.Fuel.{Prefix}
@@ -115,8 +115,8 @@ RunOf l P steps read old status new =
 -- the sink failed at the line of the refusal that was due, or at the text of such a run
 abbrev pub CutOf : (l : Linked) → StartFact l → ℕ → List (List ℕ) → Outside → Outside → Type 0
 CutOf l P steps read old new =
-    ((why : Refusal) × ComesOf (linked_in l) read old.files (Err why) new.files
-    × Makes (plan_of (Links l (link_deed.Run steps))) read (Err why)
+    ((why : Refusal) × ComesOf (linked_plan l) read old.files (Err why) new.files
+    × ComesBy (plan_of (Links l (link_deed.Run steps))) read (Err why)
     × FailsToWrite old.sink (refusal_text why) new.sink)
     ⊎ ((from : Started l read old.files new.files) × IsMadeOf (link_deed.Run steps) from
     × P read old.files new.files from × FailsToWrite old.sink (text_of_run from.start steps) new.sink)

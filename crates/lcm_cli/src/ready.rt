@@ -10,8 +10,8 @@ ghost use Rattle.generated_load.specs.Loads.{load_of, load_steps};
 ghost use Rattle.outside_io.specs.FilesSeen.{FilesSeen};
 ghost use Rattle.lcm_cli.specs.Commands.{ok_text, OfModule, Run, Put, Write, Tell, Totals};
 ghost use Rattle.lcm_cli.specs.Commands.{link_task, component_task, for_task, plan_of};
-ghost use Rattle.link_tool.specs.Linked.{linked_in};
-ghost use Rattle.link_tool.specs.Loads.{load_image};
+ghost use Rattle.link_tool.specs.Linked.{linked_plan};
+ghost use Rattle.link_tool.specs.Loads.{load_plan};
 ghost use Rattle.lcm_cli.specs.ReadyTasks.{Does, FollowsTask};
 ghost use Rattle.meaning_tool.specs.Subjects.{module_at, subject_in};
 ghost use Rattle.proc_names.specs.NameFaults.{name_faults};
@@ -66,7 +66,7 @@ fn run<'a, F: Files>(
     what: &Linked<'_>,
     steps: Steps,
 ) -> Result<ReadyTask<'a>, Stop>
-    ensures { FollowsTask (for_task (linked_in what.now) (link_task (link_deed.Run steps)))
+    ensures { FollowsTask (for_task (linked_plan what.now) (link_task (link_deed.Run steps)))
         (F.seen files.old) result (F.seen files.new) }
 {
     let start = start(alloc, files, what)?;
@@ -80,7 +80,7 @@ fn trace<'a, F: Files>(
     what: &Linked<'_>,
     steps: Steps,
 ) -> Result<ReadyTask<'a>, Stop>
-    ensures { FollowsTask (for_task (linked_in what.now) (link_task (link_deed.Trace steps)))
+    ensures { FollowsTask (for_task (linked_plan what.now) (link_task (link_deed.Trace steps)))
         (F.seen files.old) result (F.seen files.new) }
 {
     let start = start(alloc, files, what)?;
@@ -95,7 +95,7 @@ fn store<'a, F: Files>(
     what: &Linked<'_>,
     out: FileName<'a>,
 ) -> Result<ReadyTask<'a>, Stop>
-    ensures { FollowsTask (for_task (linked_in what.now) (link_task (link_deed.Store out.entry)))
+    ensures { FollowsTask (for_task (linked_plan what.now) (link_task (link_deed.Store out.entry)))
         (F.seen files.old) result (F.seen files.new) }
 {
     let bytes = image_bytes(alloc, files, what)?;
@@ -108,7 +108,7 @@ fn reach<'a, F: Files>(
     files: &mut F,
     what: &Linked<'_>,
 ) -> Result<ReadyTask<'a>, Stop>
-    ensures { FollowsTask (for_task (linked_in what.now) (link_task link_deed.Reach))
+    ensures { FollowsTask (for_task (linked_plan what.now) (link_task link_deed.Reach))
         (F.seen files.old) result (F.seen files.new) }
 {
     let start = start(alloc, files, what)?;
@@ -123,7 +123,7 @@ fn ready_link<'a, F: Files>(
     what: &Linked<'_>,
     deed: LinkDeed<'a>,
 ) -> Result<ReadyTask<'a>, Stop>
-    ensures { FollowsTask (for_task (linked_in what.now) (link_task deed.entry))
+    ensures { FollowsTask (for_task (linked_plan what.now) (link_task deed.entry))
         (F.seen files.old) result (F.seen files.new) }
 {
     match deed {
@@ -259,7 +259,7 @@ fn ready_erase<'a, F: Files>(
 
 // Makes the start of a load.
 fn ready_generate<'a>(alloc: Global, seed: Seed) -> Result<ReadyTask<'a>, Stop>
-    ensures { (seen : FilesSeen) → FollowsTask (for_task (load_image (load_of seed))
+    ensures { (seen : FilesSeen) → FollowsTask (for_task (load_plan (load_of seed))
         (λ image. Run image load_steps (Totals (load_of seed)))) seen result seen }
 {
     let load = load_of(seed.number());

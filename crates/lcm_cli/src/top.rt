@@ -13,7 +13,7 @@ ghost use Rattle.lcm_cli.specs.Commands.{plan_in, Totals};
 ghost use Rattle.run_lines.specs.Runs.{end_of};
 ghost use Rattle.lcm_cli.specs.ReadyTasks.{FollowsTask};
 ghost use Rattle.overlay_machine.specs.Seen.{IsOverlayOf};
-ghost use Rattle.call_answers.specs.Answers.{Answers, Gives, WritesOrFails, outside, GivesOrNothing};
+ghost use Rattle.call_answers.specs.Answers.{Answers, GivesAnswer, WritesOrFails, outside, GivesOrNothing};
 ghost use Rattle.lcm_cli.specs.Answers.{ran, OfBytes, end_status, meaning_status, refused, ready_answer};
 ghost use Rattle.lcm_cli.specs.Answers.{IsReady, stk};
 ghost use Rattle.lcm_cli.specs.Causes.{Promised, IsRunStatus, RunGiven, TraceGiven, RunCut, TraceCut};
@@ -77,7 +77,7 @@ fn end_status(end: RunEnd) -> Status
 fn give_run<S: Sink>(start: Start, steps: Steps, out: &mut S, kept: &mut Option<LcmState>) -> Status
     requires fresh { start.state.count ≡ 0 }
     requires goes { start.state.end ≡ None }
-    ensures { (files : _) → Gives stk (outside files (S.seen out.old) kept.old)
+    ensures { (files : _) → GivesAnswer stk (outside files (S.seen out.old) kept.old)
         (ready_answer (ready.Run start steps)) result (outside files (S.seen out.new) kept.new) }
 {
     let mut start = start;
@@ -112,7 +112,7 @@ fn give_load<S: Sink>(
     requires fresh { start.state.count ≡ 0 }
     requires goes { start.state.end ≡ None }
     requires count { steps ≤ 2 ^ 63 }
-    ensures { (files : _) → Gives stk (outside files (S.seen out.old) kept.old)
+    ensures { (files : _) → GivesAnswer stk (outside files (S.seen out.old) kept.old)
         (ran start steps (Totals load)) result (outside files (S.seen out.new) kept.new) }
 {
     let mut start = start;
@@ -130,7 +130,7 @@ fn give_load<S: Sink>(
 // Runs the overlay of a start, and writes the text of the run.
 fn give_trace<S: Sink>(start: &Start, overlay: Overlay, steps: Steps, out: &mut S) -> Status
     requires { IsOverlayOf start.now overlay }
-    ensures { (files : _) (kept : _) → Gives stk (outside files (S.seen out.old) kept)
+    ensures { (files : _) (kept : _) → GivesAnswer stk (outside files (S.seen out.old) kept)
         (ready_answer (ready.Trace start.now overlay steps)) result (outside files (S.seen out.new) kept) }
 {
     let mut overlay = overlay;
@@ -144,7 +144,7 @@ fn give_file<F: Files, S: Sink>(
     files: &mut F,
     out: &mut S,
 ) -> Status
-    ensures { (kept : _) → Gives stk (outside (F.seen files.old) (S.seen out.old) kept)
+    ensures { (kept : _) → GivesAnswer stk (outside (F.seen files.old) (S.seen out.old) kept)
         (ready_answer (ready.Put name.now bytes.now)) result
         (outside (F.seen files.new) (S.seen out.new) kept) }
 {
@@ -222,7 +222,7 @@ fn give<F: Files, S: Sink>(
 
 // Tells of a refusal.
 fn refuse<S: Sink>(why: Refusal, out: &mut S) -> Status
-    ensures { (files : _) (kept : _) → Gives stk (outside files (S.seen out.old) kept) (refused why)
+    ensures { (files : _) (kept : _) → GivesAnswer stk (outside files (S.seen out.old) kept) (refused why)
         result (outside files (S.seen out.new) kept) }
 {
     tell(out, refusal_line(why).as_str(), refusal_status(why))

@@ -43,8 +43,8 @@ abbrev pub Stores : {W : Type 0} → (W → Word) → State W → ℕ → Type 0
 Stores look s a = (r1 : Reg) × (r2 : Reg) × Uses look s (Store r1 r2) a
 
 -- the cell that it empties: a load takes a linear word out
-abbrev pub Empties : {W : Type 0} → (W → Word) → (Word → W) → State W → ℕ → Type 0
-Empties {W} look plain s a =
+abbrev pub EmptiesCell : {W : Type 0} → (W → Word) → (Word → W) → State W → ℕ → Type 0
+EmptiesCell {W} look plain s a =
     Loads look s a × (w : W) × (cell s.cells a ≡ Some w) × (is_linear (look w) ≡ true)
     × (t : State W) × GoesTo look plain s t
 
@@ -80,13 +80,13 @@ pub record DoesAsItMay {W : Type 0} (look : W → Word) (plain : Word → W) (s 
   pub fetches : (a : ℕ) → Fetches look s a → May may_run look s a
   pub loads : (a : ℕ) → Loads look s a → May may_read look s a
   pub stores : (a : ℕ) → Stores look s a → May may_write look s a
-  pub empties : (a : ℕ) → Empties look plain s a → May may_write look s a
+  pub empties : (a : ℕ) → EmptiesCell look plain s a → May may_write look s a
   pub seals : (n : ℕ) → SealsBy look plain s n → MaySeal look s n
 
 -- a step changes no cell but those that it stores to or empties
 abbrev pub ChangesNoOther : {W : Type 0} → (W → Word) → (Word → W) → State W → Type 0
 ChangesNoOther {W} look plain s =
-    (t : State W) (a : ℕ) → GoesTo look plain s t → ¬ (Stores look s a) → ¬ (Empties look plain s a)
+    (t : State W) (a : ℕ) → GoesTo look plain s t → ¬ (Stores look s a) → ¬ (EmptiesCell look plain s a)
     → cell t.cells a ≡ cell s.cells a
 
 -- a step changes only cells that it may write

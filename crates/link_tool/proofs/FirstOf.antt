@@ -5,7 +5,7 @@ use Rattle.component_check.specs.Verdict.{check_from}
 use Rattle.linked_starts.specs.declared.fault.RuleAt.{RuleAt}
 use Rattle.linked_starts.specs.declared.fault.LinkFault.{LinkFault}
 use Rattle.linked_starts.specs.declared.fault.LinkFault.TheVariants.{Rule}
-use Rattle.linked_starts.specs.Answer.{Answers}
+use Rattle.linked_starts.specs.Answer.{AnswersParts}
 use Rattle.linked_starts.specs.Pairs.{IsFirstIn, IsFirstBrokenIn, NoneIsBroken, by_part}
 use Rattle.linked_starts.specs.Links.{rules_of_link, rule_at}
 use Rattle.linked_starts.specs.Standing.{placed}
@@ -47,6 +47,6 @@ linked_first parts size b h = by_check (check_from rule_at 1
 
 -- what linking refuses, as what the rules tried in their order give
 pub linked_broken : (parts : List PartSeen) (size : ℕ) (f : LinkFault) (b : RuleAt) → f ≡ Rule b
-    → Answers parts size (Err f) → linked parts size ≡ Err b
-linked_broken parts size f b e h = let k : Answers parts size (Err (Rule b)) =
-    subst (λ x. Answers parts size (Err x)) e h in linked_first parts size b k
+    → AnswersParts parts size (Err f) → linked parts size ≡ Err b
+linked_broken parts size f b e h = let k : AnswersParts parts size (Err (Rule b)) =
+    subst (λ x. AnswersParts parts size (Err x)) e h in linked_first parts size b k

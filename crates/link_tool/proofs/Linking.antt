@@ -6,7 +6,7 @@ use Rattle.command_words.specs.declared.part.PartWord.{PartWord}
 use Rattle.linked_starts.specs.declared.fault.RuleAt.{RuleAt}
 use Rattle.linked_starts.specs.declared.fault.LinkFault.{LinkFault}
 use Rattle.linked_starts.specs.declared.fault.LinkFault.TheVariants as link_fault
-use Rattle.linked_starts.specs.Answer.{Answers}
+use Rattle.linked_starts.specs.Answer.{AnswersParts}
 use Rattle.linked_starts.specs.Parts.{PartSeen}
 use Rattle.linked_starts.specs.Started.{StartSeen}
 use Rattle.linked_starts.proofs.Offers.{keeps_all}
@@ -17,14 +17,14 @@ use Rattle.image_loader.specs.Fault.{not_linked}
 use Rattle.image_loader.specs.Image.{ImageSeen, IsImage, image_bytes, SpellsImage}
 use Rattle.readers.specs.Readers.{told_by}
 use Rattle.image_loader.specs.Reading.{image_of}
-use Rattle.image_loader.specs.Answer.{LinksRead, Loads}
+use Rattle.image_loader.specs.Answer.{LinksRead, LoadsImage}
 use Rattle.image_loader.proofs.Offers.{read_whole}
 use Rattle.file_plans.specs.declared.refusal.Refusal.TheVariants as refusal
 use Rattle.file_plans.specs.declared.refusal.Stop.{Stop}
 use Rattle.file_plans.specs.declared.refusal.Stop.TheVariants.{Refused}
 use Rattle.file_plans.specs.Plans.{unless, Made, ◌>>=◌, Comes, Follows, Meets, each_at}
 use Rattle.link_tool.specs.Parts.{linked, linked_as, loaded_by, loaded, part_at}
-use Rattle.link_tool.specs.Linked.{linked_parts, MeetsStart}
+use Rattle.link_tool.specs.Linked.{parts_plan, MeetsStart}
 use Rattle.file_plans.proofs.Offers.{comes_bind, follows_bind, follows_end, meets_follows, unless_made}
 use Rattle.file_plans.proofs.Offers.{unless_ended}
 use Rattle.link_tool.proofs.FirstOf.{linked_none, linked_first}
@@ -38,8 +38,8 @@ image_with size parts = record { stack = size; parts = parts }
 pub linked_comes : (words : List PartWord) (size : ℕ) (parts : List PartSeen) (old new : FilesSeen)
     → Comes (each_at part_at 0 words) old (Ok parts) new
     → (let r : Result (Unit {0}) Stop = Ok tt in Meets (unless refusal.Rule (linked parts size)) r)
-    → Comes (linked_parts words size) old (Ok (image_with size parts)) new
-unfolding linked_parts
+    → Comes (parts_plan words size) old (Ok (image_with size parts)) new
+unfolding parts_plan
 linked_comes words size parts old new c m =
     comes_bind (each_at part_at 0 words) (λ ps. unless refusal.Rule (linked ps size) >>=
     (λ _. Made (image_with size ps))) old new new parts (Ok (image_with size parts)) c
@@ -50,8 +50,8 @@ linked_comes words size parts old new c m =
 -- they did not come
 pub linked_unread : (words : List PartWord) (size : ℕ) (old new : FilesSeen) (stop : Stop)
     → (let r : Result (List PartSeen) Stop = Err stop in Follows (each_at part_at 0 words) old r new)
-    → (let r : Result ImageSeen Stop = Err stop in Follows (linked_parts words size) old r new)
-unfolding linked_parts
+    → (let r : Result ImageSeen Stop = Err stop in Follows (parts_plan words size) old r new)
+unfolding parts_plan
 linked_unread words size old new stop f = follows_end (each_at part_at 0 words)
     (λ ps. unless refusal.Rule (linked ps size) >>= (λ _. Made (image_with size ps))) old new stop f
 
@@ -59,8 +59,8 @@ linked_unread words size old new stop f = follows_end (each_at part_at 0 words)
 pub linked_stops : (words : List PartWord) (size : ℕ) (parts : List PartSeen) (old new : FilesSeen)
     (stop : Stop) → Comes (each_at part_at 0 words) old (Ok parts) new
     → (let r : Result (Unit {0}) Stop = Err stop in Meets (unless refusal.Rule (linked parts size)) r)
-    → (let r : Result ImageSeen Stop = Err stop in Follows (linked_parts words size) old r new)
-unfolding linked_parts
+    → (let r : Result ImageSeen Stop = Err stop in Follows (parts_plan words size) old r new)
+unfolding parts_plan
 linked_stops words size parts old new stop c m =
     follows_bind (each_at part_at 0 words) (λ ps. unless refusal.Rule (linked ps size) >>=
     (λ _. Made (image_with size ps))) old new new parts (Err stop) c
@@ -94,14 +94,14 @@ loaded_again i fits keep = ap loaded_by (read_whole i fits) ∙ ap (linked_as i)
 
 -- bytes that spell an image whose parts link are loaded as it
 pub loaded_is : (bytes : List ℕ) (i : ImageSeen) (s : StartSeen) → SpellsImage bytes i
-    → Answers i.parts i.stack (Ok s) → loaded bytes ≡ Ok i
+    → AnswersParts i.parts i.stack (Ok s) → loaded bytes ≡ Ok i
 loaded_is bytes i s spelled l =
     ap loaded spelled.1 ∙ loaded_again i spelled.0
     (linked_none i.parts i.stack (keeps_all (placed i.parts i.stack) i.stack l.room l.rules))
 
 -- the start that was loaded is that of the image
 pub loaded_starts : (bytes : List ℕ) (s : StartSeen)
-    → ((i : ImageSeen) × SpellsImage bytes i × Answers i.parts i.stack (Ok s))
+    → ((i : ImageSeen) × SpellsImage bytes i × AnswersParts i.parts i.stack (Ok s))
     → MeetsStart (unless refusal.Image (loaded bytes)) (Ok s)
 loaded_starts bytes s (i, spelled, l) = (
   i,
@@ -110,7 +110,7 @@ loaded_starts bytes s (i, spelled, l) = (
 )
 
 -- what was not loaded is refused by its first fault
-pub loaded_stops : (bytes : List ℕ) (f : ImageFault) → f ≢ image.NoMemory → Loads bytes (Err f)
+pub loaded_stops : (bytes : List ℕ) (f : ImageFault) → f ≢ image.NoMemory → LoadsImage bytes (Err f)
     → (let r : Result StartSeen Stop = Err (Refused (refusal.Image f)) in
     MeetsStart (unless refusal.Image (loaded bytes)) r)
 unfolding loaded
@@ -118,7 +118,7 @@ loaded_stops bytes f differ (inr e) = absurd (differ cc)
 loaded_stops bytes f differ (inl h) = unless_ended refusal.Image (loaded bytes) f
     (sym (by_read (image_of bytes) refl h))
   where
-    by_link : (i : ImageSeen) (r : Result StartSeen LinkFault) → Answers i.parts i.stack r → Err f
+    by_link : (i : ImageSeen) (r : Result StartSeen LinkFault) → AnswersParts i.parts i.stack r → Err f
         ≡ told_by not_linked r → linked_as i (linked i.parts i.stack) ≡ Err f
     by_link i (Ok s) a e = absurd (cc)
     by_link i (Err (link_fault.Rule at)) a e =

@@ -15,21 +15,21 @@ use Rattle.link_tool.specs.Parts.{linked, loaded, part_at}
 -- ---- parts that link, with the size of their stack
 
 -- those of words: the parts, and then the rules L of all of them
-unfoldable pub linked_parts : List PartWord → ℕ → Plan ImageSeen
-linked_parts words size = do
+unfoldable pub parts_plan : List PartWord → ℕ → Plan ImageSeen
+parts_plan words size = do
   parts ← each_at part_at 0 words
   _ ← unless refusal.Rule (linked parts size)
   Made (record { stack = size; parts = parts })
 
 -- those of an image: the file, and what its bytes are
-unfoldable pub linked_image : List ℕ → Plan ImageSeen
-linked_image name = do
+unfoldable pub image_plan : List ℕ → Plan ImageSeen
+image_plan name = do
   bytes ← file name 0
   unless refusal.Image (loaded bytes)
 
-abbrev pub linked_in : Linked → Plan ImageSeen
-linked_in (what.Parts words size) = linked_parts words size
-linked_in (what.Image name) = linked_image name
+abbrev pub linked_plan : Linked → Plan ImageSeen
+linked_plan (what.Parts words size) = parts_plan words size
+linked_plan (what.Image name) = image_plan name
 
 -- ---- what a call makes of it
 

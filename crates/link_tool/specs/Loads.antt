@@ -28,8 +28,8 @@ load_parts load = do
   Made (first ∷ second ∷ [])
 
 -- and then the rules L of both
-unfoldable pub load_image : Workload → Plan ImageSeen
-load_image load = do
+unfoldable pub load_plan : Workload → Plan ImageSeen
+load_plan load = do
   parts ← load_parts load
   _ ← unless refusal.Rule (linked parts LOAD_STACK)
   Made (record { stack = LOAD_STACK; parts = parts })

@@ -1,7 +1,7 @@
 //! The start of a generated load, of its two parts.
 ghost use Rattle.std.specs.Prelude.{◌≡◌, IfOk, length};
 ghost use Rattle.file_plans.specs.Plans.{Meets};
-ghost use Rattle.link_tool.specs.Loads.{load_module, load_other, load_parts, load_image};
+ghost use Rattle.link_tool.specs.Loads.{load_module, load_other, load_parts, load_plan};
 ghost use Rattle.link_tool.specs.Linked.{MeetsStart};
 
 use crate::parts::{accept_at, compile_at};
@@ -46,7 +46,7 @@ fn parts_of(alloc: Global, load: Workload) -> Result<Items<Part>, Stop>
 ///
 /// It stops where those of words would, part 0 being the module, and where memory is refused.
 pub fn load_start(alloc: Global, load: Workload) -> Result<Start, Stop>
-    ensures { MeetsStart (load_image load) result }
+    ensures { MeetsStart (load_plan load) result }
 {
     let parts = parts_of(alloc, load)?;
     start_of(alloc, &parts, LOAD_STACK)

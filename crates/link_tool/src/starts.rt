@@ -6,7 +6,7 @@ ghost use Rattle.file_plans.specs.declared.refusal.Refusal.TheVariants.{Rule, Im
 ghost use Rattle.file_plans.specs.Plans.{Meets, unless};
 ghost use Rattle.linked_starts.specs.LinkedStarts.{IsStartOf};
 ghost use Rattle.link_tool.specs.Parts.{linked, loaded};
-ghost use Rattle.link_tool.specs.Linked.{linked_parts, linked_image, linked_in};
+ghost use Rattle.link_tool.specs.Linked.{parts_plan, image_plan, linked_plan};
 ghost use Rattle.link_tool.specs.Linked.{without, FollowsStart, FollowsImage, MeetsStart};
 
 use crate::parts::parts;
@@ -32,14 +32,14 @@ pub(crate) fn start_of(alloc: Global, parts: &Items<Part>, size: u32) -> Result<
 }
 
 // Reads the parts, and links them.
-fn parts_start<F: Files>(
+fn link_parts<F: Files>(
     alloc: Global,
     files: &mut F,
     words: &[PartWord<'_>],
     size: u32,
 ) -> Result<Start, Stop>
     requires few { length words.now ≤ MOST_PARTS }
-    ensures { FollowsStart (linked_parts words.now size) (F.seen files.old) result (F.seen files.new) }
+    ensures { FollowsStart (parts_plan words.now size) (F.seen files.old) result (F.seen files.new) }
 {
     let parts = parts(alloc, files, words)?;
     start_of(alloc, &parts, size)
@@ -60,9 +60,9 @@ fn load(alloc: Global, bytes: &[u8]) -> Result<Start, Stop>
 }
 
 // Reads the image, and links its parts.
-#[tactic(auto, using(file_plans::proofs::Offers::follows_end), unfolding(crate::specs::Linked::linked_image))]
-fn image_start<F: Files>(alloc: Global, files: &mut F, name: &FileName<'_>) -> Result<Start, Stop>
-    ensures { FollowsStart (linked_image name.now) (F.seen files.old) result (F.seen files.new) }
+#[tactic(auto, using(file_plans::proofs::Offers::follows_end), unfolding(crate::specs::Linked::image_plan))]
+fn link_image<F: Files>(alloc: Global, files: &mut F, name: &FileName<'_>) -> Result<Start, Stop>
+    ensures { FollowsStart (image_plan name.now) (F.seen files.old) result (F.seen files.new) }
 {
     let bytes = read(alloc, files, name, 0)?;
     load(alloc, bytes.as_slice())
@@ -75,11 +75,11 @@ fn image_start<F: Files>(alloc: Global, files: &mut F, name: &FileName<'_>) -> R
 /// bytes are no image, a part of it breaks a rule of its own, or its parts one of linking, in this order. Or
 /// it stops where memory is refused.
 pub fn start<F: Files>(alloc: Global, files: &mut F, what: &Linked<'_>) -> Result<Start, Stop>
-    ensures { FollowsStart (linked_in what.now) (F.seen files.old) result (F.seen files.new) }
+    ensures { FollowsStart (linked_plan what.now) (F.seen files.old) result (F.seen files.new) }
 {
     match what {
-        Linked::Parts(words, size) => parts_start(alloc, files, words.as_slice(), *size),
-        Linked::Image(name) => image_start(alloc, files, name),
+        Linked::Parts(words, size) => link_parts(alloc, files, words.as_slice(), *size),
+        Linked::Image(name) => link_image(alloc, files, name),
     }
 }
 
@@ -96,7 +96,7 @@ fn linked_bytes(alloc: Global, parts: &Items<Part>, size: u32) -> Result<Items<u
 }
 
 // Reads the parts, and makes their image.
-fn parts_bytes<F: Files>(
+fn make_image<F: Files>(
     alloc: Global,
     files: &mut F,
     words: &[PartWord<'_>],
@@ -104,20 +104,20 @@ fn parts_bytes<F: Files>(
 ) -> Result<Items<u8>, Stop>
     requires some { 1 ≤ length words.now }
     requires few { length words.now ≤ MOST_PARTS }
-    ensures { FollowsImage (linked_parts words.now size) (F.seen files.old) result (F.seen files.new) }
+    ensures { FollowsImage (parts_plan words.now size) (F.seen files.old) result (F.seen files.new) }
 {
     let parts = parts(alloc, files, words)?;
     linked_bytes(alloc, &parts, size)
 }
 
 // Reads the image: its bytes are its own spelling.
-#[tactic(auto, using(file_plans::proofs::Offers::follows_end), unfolding(crate::specs::Linked::linked_image))]
-fn file_bytes<F: Files>(
+#[tactic(auto, using(file_plans::proofs::Offers::follows_end), unfolding(crate::specs::Linked::image_plan))]
+fn read_image<F: Files>(
     alloc: Global,
     files: &mut F,
     name: &FileName<'_>,
 ) -> Result<Items<u8>, Stop>
-    ensures { FollowsImage (linked_image name.now) (F.seen files.old) result (F.seen files.new) }
+    ensures { FollowsImage (image_plan name.now) (F.seen files.old) result (F.seen files.new) }
 {
     let bytes = read(alloc, files, name, 0)?;
     load(alloc, bytes.as_slice())?;
@@ -132,10 +132,10 @@ pub fn image_bytes<F: Files>(
     files: &mut F,
     what: &Linked<'_>,
 ) -> Result<Items<u8>, Stop>
-    ensures { FollowsImage (linked_in what.now) (F.seen files.old) result (F.seen files.new) }
+    ensures { FollowsImage (linked_plan what.now) (F.seen files.old) result (F.seen files.new) }
 {
     match what {
-        Linked::Parts(words, size) => parts_bytes(alloc, files, words.as_slice(), *size),
-        Linked::Image(name) => file_bytes(alloc, files, name),
+        Linked::Parts(words, size) => make_image(alloc, files, words.as_slice(), *size),
+        Linked::Image(name) => read_image(alloc, files, name),
     }
 }

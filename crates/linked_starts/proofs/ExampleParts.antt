@@ -32,7 +32,7 @@ use Rattle.flow_rules.specs.Places.{begins_entry, begins_site, declared}
 use Rattle.flow_rules.specs.Flow.{flow, ask}
 use Rattle.flow_rules.specs.Lists.{k1, k2, k3, k4, lists, entry_is_bad}
 use Rattle.flow_rules.specs.declared.flow.Walk.TheVariants.{Ended as ended}
-use Rattle.flow_rules.specs.Walk.{instr_at, keep, site_ready, at_row, past, at_word, next_from, Comes}
+use Rattle.flow_rules.specs.Walk.{instr_at, keep, site_ready, at_row, past, at_word, next_from, Arrives}
 use Rattle.linked_starts.specs.Parts.{PartSeen, IsPart}
 use Rattle.linked_starts.specs.Pairs.{NoneIsBroken, IsFirstBrokenIn, by_part}
 use Rattle.linked_starts.specs.Links.{rules_l, rule_at, l1, l2, l3, l4, l5, l6, l7, l8, l9}
@@ -135,7 +135,7 @@ placed (suc (suc (suc zero))) i t e b = third t i (let q : k3 caller ≡ t = cc 
 placed (suc (suc (suc (suc zero)))) i t e b = others_kept 3 i t e b
 placed (suc (suc (suc (suc (suc n))))) i t e b = cc
 
-walked : Comes caller ended
+walked : Arrives caller ended
 unfolding next_from at_word at_row past keep begins_entry begins_site declared site_ready flow ask kind_of
     set_kind instr_at decode_of candidate table all_with number_of entry_code call_code return_code
 walked = (9, refl)

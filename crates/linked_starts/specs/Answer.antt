@@ -42,5 +42,5 @@ AnswersPlaced parts size (Err (Rule at)) = IsFirstIn rule_at (rules_of_link part
 AnswersPlaced parts size (Err NoMemory) = NoneIsBroken (rules_of_link parts size)
 
 -- of parts, as they stand once they are placed
-abbrev pub Answers : List PartSeen → ℕ → Result StartSeen LinkFault → Type 0
-Answers parts size answer = AnswersPlaced (placed parts size) size answer
+abbrev pub AnswersParts : List PartSeen → ℕ → Result StartSeen LinkFault → Type 0
+AnswersParts parts size answer = AnswersPlaced (placed parts size) size answer

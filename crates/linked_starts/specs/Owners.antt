@@ -19,15 +19,15 @@ abbrev pub SitesAscend : List Site → Type 0
 SitesAscend sites = AllPairs (λ s t. s.at < t.at) sites
 
 -- of the same part, with the next seal
-abbrev pub Follows : Site → Site → Type 0
-Follows s t = (t.part ≡ s.part) × (t.seal ≡ s.seal + 1)
+abbrev pub IsNextSite : Site → Site → Type 0
+IsNextSite s t = (t.part ≡ s.part) × (t.seal ≡ s.seal + 1)
 
 -- the sites of a part stand together, each with the seal after that of the one before: where a site of the
 -- same part comes later, the next site follows
 abbrev pub InRuns : List Site → Type 0
 InRuns sites = (i j : ℕ) (d : Site) → i < j → j < length sites
     → (slice_index_or sites i d).part ≡ (slice_index_or sites j d).part
-    → Follows (slice_index_or sites i d) (slice_index_or sites (i + 1) d)
+    → IsNextSite (slice_index_or sites i d) (slice_index_or sites (i + 1) d)
 
 pub record AreInOrder (sites : List Site) : Type 0 where
   pub ascend : SitesAscend sites

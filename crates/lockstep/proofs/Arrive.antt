@@ -26,20 +26,20 @@ use Rattle.linked_starts.specs.Regions.{in_regions}
 use Rattle.overlay_machine.specs.Invariant.{Invariant}
 use Rattle.lcm_machine.specs.Maps.{State}
 use Rattle.std.proofs.lemmas.Bool.{and_parts}
-use Rattle.overlay_machine.specs.Linked.{Linked}
+use Rattle.overlay_machine.specs.Linked.{IsLink}
 use Rattle.overlay_machine.specs.Safe.{IsSafeCap, IsOpenSeal, IsSafe, IsHalf}
 use Rattle.overlay_machine.proofs.Offers.{not_trusted}
 use Rattle.template_runs.specs.Public.{IsFreeAt}
 use Rattle.template_runs.specs.Border.{zero, Opened, code_word, half_word, content_of, ShowsCall, ShowsLeave}
 use Rattle.template_runs.specs.Border.{IsTidied}
-use Rattle.lockstep.specs.Related.{RunsOutside, SameNames, Calls, IsOurs, SameWord, ours, code_halves}
+use Rattle.lockstep.specs.Related.{StandsOutside, SameNames, Calls, IsOurs, SameWord, ours, code_halves}
 use Rattle.lockstep.specs.Related.{data_halves, ret_codes, ret_datas, CellPair, Newest, Alike}
 use Rattle.lockstep.specs.Lockstep.{Round, SameCrossing, by_call, by_leave, SameWiped}
 use Rattle.lockstep.proofs.Outer.{safe, data_target}
 
 -- ---- a pair that was opened is under a seal of untrusted code
 
-module _ (g : Link) (linked : Linked g) (q : OState) (h : RunsOutside g q) (d : Opened)
+module _ (g : Link) (linked : IsLink g) (q : OState) (h : StandsOutside g q) (d : Opened)
     (pc : q.maps.regs.pc ≡ Plain (Mem d.code)) where
   pc_cap : IsSafeCap g q.frames d.code
   pc_cap = subst (IsSafe g q.frames) pc (safe g linked q h Pc)
@@ -97,7 +97,7 @@ module _ (g h : Link) (names : SameNames g h) where
       (al : (c : ℕ) → IsFreeAt g c
       → CellPair (SameWord g h names cs) (IsFreeAt g) (cell a.before.maps.cells c)
       (cell b.before.maps.cells c)) (ta : IsTidied g a.before a.after) (tb : IsTidied h b.before b.after)
-      (oa : RunsOutside g a.after) (ob : RunsOutside h b.after)
+      (oa : StandsOutside g a.after) (ob : StandsOutside h b.after)
       (w : SameWiped g a b) (up : (x y : OWord) → SameWord g h names cs x y → SameWord g h names ds x y) where
     S : OWord → OWord → Type 0
     S = SameWord g h names ds
@@ -143,8 +143,8 @@ module _ (g h : Link) (names : SameNames g h) where
 
   -- ---- both
 
-  module _ (lg : Linked g) (lh : Linked h) (cs : Calls) (a b : Round) (oa : RunsOutside g a.after)
-      (ob : RunsOutside h b.after)
+  module _ (lg : IsLink g) (lh : IsLink h) (cs : Calls) (a b : Round) (oa : StandsOutside g a.after)
+      (ob : StandsOutside h b.after)
       (al : (c : ℕ) → IsFreeAt g c
       → CellPair (SameWord g h names cs) (IsFreeAt g) (cell a.before.maps.cells c)
       (cell b.before.maps.cells c)) (ta : IsTidied g a.before a.after)

@@ -27,9 +27,9 @@ use Rattle.overlay_machine.specs.Step.{case_fetched}
 use Rattle.overlay_machine.specs.Events.{step_event, event_after, note_by, note_jump, note_return, jump_seal}
 use Rattle.overlay_machine.specs.Events.{entered_event, owner_now}
 use Rattle.overlay_machine.specs.Link.{Link}
-use Rattle.overlay_machine.specs.Linked.{Linked}
+use Rattle.overlay_machine.specs.Linked.{IsLink}
 use Rattle.template_runs.proofs.Offers.{open_no_owner}
-use Rattle.lockstep.specs.Related.{RunsOutside, IsOurs}
+use Rattle.lockstep.specs.Related.{StandsOutside, IsOurs}
 use Rattle.lockstep.proofs.Outer.{case_out}
 
 seal_never : (s : State OWord) (n : Instr) (next : Word) → ((r1 r2 : Reg) → n ≡ Xjmp r1 r2 → ⊥)
@@ -37,7 +37,7 @@ seal_never : (s : State OWord) (n : Instr) (next : Word) → ((r1 r2 : Reg) → 
 seal_never s (Xjmp r1 r2) next f = absurd (f r1 r2 refl)
 seal_never s _ next f = (refl, refl)
 
-module _ (g : Link) (linked : Linked g) (o : OState) (h : RunsOutside g o) where
+module _ (g : Link) (linked : IsLink g) (o : OState) (h : StandsOutside g o) where
   abbrev IsOpen : Option Opened → Type 0
   IsOpen None = Unit {0}
   IsOpen (Some x) = IsOpenSeal g x.seal

@@ -4,36 +4,36 @@ use Rattle.std.proofs.lemmas.Option.{same_Some}
 use Rattle.overlay_machine.specs.State.{OState}
 use Rattle.overlay_machine.specs.Step.{goes, overlay_step}
 use Rattle.overlay_machine.specs.Link.{Link}
-use Rattle.overlay_machine.specs.Linked.{Linked}
+use Rattle.overlay_machine.specs.Linked.{IsLink}
 use Rattle.overlay_machine.specs.Runs.{Reached, goes_on}
 use Rattle.trusted_border.specs.declared.layout.Layout.{Layout}
 use Rattle.template_runs.specs.Runs.{is_inside}
 use Rattle.template_runs.proofs.Offers.{goes_same, halts_not, fails_not}
 use Rattle.lockstep.specs.Related.{SameNames, Calls, Alike, StepsAlike, both_halt, both_fail, both_stay}
 use Rattle.lockstep.specs.Related.{both_come, ComesAlike}
-use Rattle.lockstep.specs.Lockstep.{Round, IsRound, Path, InStep, at_end, round, AreBelow, Holds, Tidies}
+use Rattle.lockstep.specs.Lockstep.{Round, IsRound, Path, InStep, at_end, round, AreBelow, HoldsAlong, Tidies}
 use Rattle.lockstep.specs.Lockstep as spec
-use Rattle.lockstep.specs.Contexts.{Telling, ShowsBy, firsts, seconds, TellAlike, none_yet, one_more}
-use Rattle.lockstep.specs.Contexts.{Follows, NoContextTells}
+use Rattle.lockstep.specs.Contexts.{Observer, RoundShows, firsts, seconds, TellAlike, none_yet, one_more}
+use Rattle.lockstep.specs.Contexts.{Matches, NoContextTells}
 use Rattle.lockstep.proofs.Counts.{step_rises}
 use Rattle.lockstep.proofs.Arrive.{arrive_alike}
 use Rattle.lockstep.proofs.Whole.{alike_step, runs_outside, below_later, below_after, comes_alike}
 use Rattle.lockstep.proofs.Whole.{after_a, after_b, first_inside}
 
-module _ {I O : Type 0} (l : Layout) (t : Telling I O) where
+module _ {I O : Type 0} (l : Layout) (t : Observer I O) where
   -- after a step outside, and after a round
   stepped : (observed : List I → Option O) (ks : List ℕ) (p q : OState) → is_inside l p ≡ false
-      → overlay_step l p ≡ goes q → is_inside l q ≡ false → Follows l t observed ks p
-      → Follows l t observed ks q
+      → overlay_step l p ≡ goes q → is_inside l q ≡ false → Matches l t observed ks p
+      → Matches l t observed ks q
   stepped observed ks p q io s iq f = record {
     comes = λ n rs z m later ms x k sh. f.comes (suc n) rs z m later ms x (spec.outside io s iq k) sh;
     shows = λ n rs r later ms k sh. f.shows (suc n) rs r later ms (spec.outside io s iq k) sh;
   }
 
   passed : (observed : List I → Option O) (ks ms : List ℕ) (r : Round) (x : O) → IsRound l r
-      → observed (t.item r.before r.entered ∷ []) ≡ Some x → ShowsBy t ks r x ms
-      → Follows l t observed ks r.before
-      → Follows l t (λ xs. observed (t.item r.before r.entered ∷ xs)) ms r.after
+      → observed (t.item r.before r.entered ∷ []) ≡ Some x → RoundShows t ks r x ms
+      → Matches l t observed ks r.before
+      → Matches l t (λ xs. observed (t.item r.before r.entered ∷ xs)) ms r.after
   passed observed ks ms r x ir e s f = record {
     comes = λ n rs z m later ns y k sh. f.comes (suc n) (r ∷ rs) z m later ns y (spec.inside r ir k)
         (one_more r x e s sh);
@@ -41,8 +41,8 @@ module _ {I O : Type 0} (l : Layout) (t : Telling I O) where
         (one_more r x e s sh);
   }
 
-module _ {I O : Type 0} (g h : Link) (names : SameNames g h) (lg : Linked g) (lh : Linked h) (o o' : OState)
-    (hg : Holds g o) (hh : Holds h o') (tg : Tidies g o) (th : Tidies h o') (t u : Telling I O)
+module _ {I O : Type 0} (g h : Link) (names : SameNames g h) (lg : IsLink g) (lh : IsLink h) (o o' : OState)
+    (hg : HoldsAlong g o) (hh : HoldsAlong h o') (tg : Tidies g o) (th : Tidies h o') (t u : Observer I O)
     (tell : TellAlike g h names o o' t u) where
   abbrev Other : ℕ → Calls → List Round → OState → OState → Type 0
   Other n cs as_ q p' =
@@ -75,10 +75,10 @@ module _ {I O : Type 0} (g h : Link) (names : SameNames g h) (lg : Linked g) (lh
     pub outside : is_inside h.layout p' ≡ false
     pub alike : Alike g h names cs p p'
     pub below : AreBelow cs p p'
-    pub follows : Follows h.layout u observed (seconds cs) p'
+    pub follows : Matches h.layout u observed (seconds cs) p'
 
   other_run : (observed : List I → Option O) (n i j : ℕ) (cs : Calls) (p p' q : OState) (as_ : List Round)
-      → Reached g.layout o i p → is_inside g.layout p ≡ false → Follows g.layout t observed (firsts cs) p
+      → Reached g.layout o i p → is_inside g.layout p ≡ false → Matches g.layout t observed (firsts cs) p
       → Beside observed j cs p p' → Path g.layout n p as_ q → Other n cs as_ q p'
   other_run observed _ i j cs p p' _ _ r io fg b spec.ends = (
     p',
@@ -117,7 +117,7 @@ module _ {I O : Type 0} (g h : Link) (names : SameNames g h) (lg : Linked g) (lh
     where
       by_round : ((later : List I → Option O) (i' j' : ℕ) (ds : Calls) (z : OState)
           → Reached g.layout o i' a.after
-          → Follows g.layout t later (firsts ds) a.after → Beside later j' ds a.after z → Other n ds as_ q z)
+          → Matches g.layout t later (firsts ds) a.after → Beside later j' ds a.after z → Other n ds as_ q z)
           → (b : Round) → IsRound h.layout b → Beside observed j cs a.before b.before
           → Other (suc n) cs (a ∷ as_) q b.before
       by_round more b ib be =
@@ -134,7 +134,7 @@ module _ {I O : Type 0} (g h : Link) (names : SameNames g h) (lg : Linked g) (lh
           let v = be.follows.shows 0 [] b observed (seconds cs) spec.ends none_yet ib in
           let x : f.0 ≡ v.0 = same_Some f.0 v.0 (sym f.2 ∙ ap (λ y. observed (y ∷ [])) same ∙ v.2) in
           let sh = tell.shown cs i j a b f.0 f.1 v.1 r be.reached ia ib be.alike be.below f.3
-          (subst (λ y. ShowsBy u (seconds cs) b y v.1) (sym x) v.3) in
+          (subst (λ y. RoundShows u (seconds cs) b y v.1) (sym x) v.3) in
           let ra = after_a g h names lg lh o o' hg hh tg th cs a b i j r be.reached ia ib be.below in
           let rb = after_b g h names lg lh o o' hg hh tg th cs a b i j r be.reached ia ib be.below in
           let oa = runs_outside g o hg ra.0 a.after ra.1 ia.gone in
@@ -142,7 +142,7 @@ module _ {I O : Type 0} (g h : Link) (names : SameNames g h) (lg : Linked g) (lh
           let fa = passed g.layout t observed (firsts cs) f.1 a f.0 ia f.2 f.3 fg in
           let fb = passed h.layout u observed (seconds cs) v.1 b v.0 ib v.2 v.3 be.follows in
           let rest = more (λ xs. observed (t.item a.before a.entered ∷ xs)) ra.0 rb.0 sh.0 b.after ra.1
-          (subst (λ ks. Follows g.layout t (λ xs. observed (t.item a.before a.entered ∷ xs)) ks a.after)
+          (subst (λ ks. Matches g.layout t (λ xs. observed (t.item a.before a.entered ∷ xs)) ks a.after)
           (sym sh.3) fa)
           (record {
             reached = rb.1;
@@ -151,9 +151,9 @@ module _ {I O : Type 0} (g h : Link) (names : SameNames g h) (lg : Linked g) (lh
                 (th j b be.reached ib) sh.2 sh.0 sh.1;
             below = below_after g h names lg lh o o' hg hh tg th cs a b i j r be.reached ia ib be.below sh.0
                 sh.1;
-            follows = subst (λ y. Follows h.layout u (λ xs. observed (y ∷ xs)) (seconds sh.0) b.after)
+            follows = subst (λ y. Matches h.layout u (λ xs. observed (y ∷ xs)) (seconds sh.0) b.after)
                 (sym same)
-                (subst (λ ks. Follows h.layout u (λ xs. observed (u.item b.before b.entered ∷ xs)) ks b.after)
+                (subst (λ ks. Matches h.layout u (λ xs. observed (u.item b.before b.entered ∷ xs)) ks b.after)
                 (sym sh.4) fb);
           }) in
           (rest.0, b ∷ rest.1, spec.inside b ib rest.2, round a b c sh.1 rest.3)

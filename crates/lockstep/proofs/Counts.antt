@@ -19,10 +19,10 @@ use Rattle.overlay_machine.specs.Events.{step_event, note_by, note_return, note_
 use Rattle.overlay_machine.specs.Events.{entered_event, owner_now}
 use Rattle.overlay_machine.specs.Runs.{Reached, goes_on}
 use Rattle.overlay_machine.specs.Link.{Link}
-use Rattle.overlay_machine.specs.Linked.{Linked}
+use Rattle.overlay_machine.specs.Linked.{IsLink}
 use Rattle.overlay_machine.proofs.Offers.{called, stays_open}
 use Rattle.source_laws.specs.Secrets.{Until, still_there, one_more}
-use Rattle.lockstep.specs.Lockstep.{Holds}
+use Rattle.lockstep.specs.Lockstep.{HoldsAlong}
 
 abbrev NoCall : Option Event → Type 0
 NoCall (Some (Called t i b e)) = ⊥
@@ -78,7 +78,7 @@ module _ (l : Layout) (x q : OState) (step : overlay_step l x ≡ goes q) (t : B
   unfolding overlay_step step_event
   call_new = by_case (case_of l x.maps) step event
 
-module _ (g : Link) (linked : Linked g) (o : OState) (holds : Holds g o) where
+module _ (g : Link) (linked : IsLink g) (o : OState) (holds : HoldsAlong g o) where
   -- a step counts no call back
   pub step_rises : (i : ℕ) (p q : OState) → Reached g.layout o i p → overlay_step g.layout p ≡ goes q
       → p.calls ≤ q.calls

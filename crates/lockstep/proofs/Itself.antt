@@ -19,12 +19,12 @@ use Rattle.overlay_machine.specs.declared.words.OWord.{OWord}
 use Rattle.overlay_machine.specs.declared.words.OWord.TheVariants.{Plain, RetCode, RetData}
 use Rattle.overlay_machine.specs.State.{OpenFrame, OState, frame_of, Cells}
 use Rattle.overlay_machine.specs.Link.{Link}
-use Rattle.overlay_machine.specs.Linked.{Linked}
+use Rattle.overlay_machine.specs.Linked.{IsLink}
 use Rattle.overlay_machine.specs.Safe.{IsSafe}
 use Rattle.overlay_machine.specs.Invariant.{FramesLie, FrameFits}
 use Rattle.overlay_machine.proofs.Offers.{contains_first, contains_rest, frame_of-cons, frame_none}
 use Rattle.template_runs.specs.Public.{IsFreeAt}
-use Rattle.lockstep.specs.Related.{RunsOutside, SameNames, Calls, AreCalls, IsExport, SameWord, ours}
+use Rattle.lockstep.specs.Related.{StandsOutside, SameNames, Calls, AreCalls, IsExport, SameWord, ours}
 use Rattle.lockstep.specs.Related.{code_halves, data_halves, ret_codes, ret_datas, CellPair, Newest}
 use Rattle.lockstep.specs.Related.{Alike}
 use Rattle.lockstep.specs.Lockstep.{AreBelow}
@@ -166,7 +166,7 @@ of_all (p ∷ ps) x c = by p.trusted refl c (of_all ps x)
 
 -- ---- a link beside itself
 
-module _ (g : Link) (linked : Linked g) where
+module _ (g : Link) (linked : IsLink g) where
   abbrev itself : SameNames g g
   itself = record {
     twins = pairs (all_of g.parts);
@@ -224,7 +224,7 @@ module _ (g : Link) (linked : Linked g) where
       in (h.0, (let h1 = h.1 in let lt = lie.1 in omega (arith, h1, lt)))
       )
 
-  module _ (q : OState) (h : RunsOutside g q) where
+  module _ (q : OState) (h : StandsOutside g q) where
     word : (w : OWord) → IsSafe g q.frames w → SameWord g g itself (open_calls q.frames) w w
     word (Plain (Int z)) s = ours (Int z) tt
     word (Plain (Mem z)) s = ours (Mem z) tt

@@ -42,14 +42,14 @@ use Rattle.linked_starts.specs.Regions.{in_regions}
 use Rattle.linked_starts.proofs.Offers.{in_regions_is}
 use Rattle.lcm_machine.specs.Cells.{cell}
 use Rattle.overlay_machine.specs.Link.{Link, IsTrusted, ranges_of, regions, data_region}
-use Rattle.overlay_machine.specs.Linked.{Linked}
+use Rattle.overlay_machine.specs.Linked.{IsLink}
 use Rattle.overlay_machine.specs.Safe.{IsSafeCap, IsOpenSeal, IsSafe}
 use Rattle.overlay_machine.proofs.Offers.{mem_of_face, target_bounds, target_reg, mem_safe, open_safe}
 use Rattle.overlay_machine.proofs.Offers.{same_region, safe_closed, pc_untrusted, xjmp_crossed, half_seal}
 use Rattle.template_runs.specs.Runs.{is_inside}
 use Rattle.template_runs.specs.Public.{IsFreeAt}
 use Rattle.template_runs.proofs.Offers.{opened_is}
-use Rattle.lockstep.specs.Related.{RunsOutside, IsOurs}
+use Rattle.lockstep.specs.Related.{StandsOutside, IsOurs}
 
 pub not_code_fails : (a b : Reg) (next : Word) (s : State OWord) (x y : Opened) (c : CapFields)
     → opens look s a ≡ Some x → opens look s b ≡ Some y → (x.seal == y.seal) ≡ true
@@ -58,7 +58,7 @@ pub not_code_fails : (a b : Reg) (next : Word) (s : State OWord) (x y : Opened) 
 unfolding row plan_in ask need
 not_code_fails a b next s x y c ha hb he hc hl hr = rw (ha, hb, he, hc, hl, hr) tt
 
-module _ (g : Link) (linked : Linked g) where
+module _ (g : Link) (linked : IsLink g) where
   pub pc_inside : (p : PartSeen) (k : ℕ) (q : OState) → IsTrusted g p
       → PcAt look (ranges_of p) k q.maps.regs → is_inside g.layout q ≡ true
   unfolding faces
@@ -107,7 +107,7 @@ module _ (g : Link) (linked : Linked g) where
                 ]
           ]
 
-  module _ (o : OState) (h : RunsOutside g o) where
+  module _ (o : OState) (h : StandsOutside g o) where
     pub safe : (r : Reg) → IsSafe g o.frames (reg o.maps.regs r)
     safe = by h.holds.pc
       where

@@ -45,12 +45,12 @@ use Rattle.overlay_machine.specs.Step.{goes, fails, with_frames, overlay_step, c
 use Rattle.overlay_machine.specs.Step.{return_by, own_stack, if_own, ask, need, state_resumed}
 use Rattle.overlay_machine.specs.Events.{step_event}
 use Rattle.overlay_machine.specs.Link.{Link, IsTrusted, ranges_of}
-use Rattle.overlay_machine.specs.Linked.{Linked}
+use Rattle.overlay_machine.specs.Linked.{IsLink}
 use Rattle.overlay_machine.specs.Safe.{IsOpenSeal, IsSafe}
 use Rattle.overlay_machine.proofs.Offers.{seals_safe, crossing_code_is as code_is, is_xjmp, open_seal}
 use Rattle.template_runs.proofs.Offers.{safe_outside}
 use Rattle.template_runs.specs.Public.{IsFreeAt}
-use Rattle.lockstep.specs.Related.{RunsOutside, SameNames, Calls, AreCalls, OneToOne, IsOurs, SameWord}
+use Rattle.lockstep.specs.Related.{StandsOutside, SameNames, Calls, AreCalls, OneToOne, IsOurs, SameWord}
 use Rattle.lockstep.specs.Related.{ours, code_halves, data_halves, ret_codes, ret_datas, Newest, Alike}
 use Rattle.lockstep.specs.Related.{StepsAlike, both_halt, both_fail, both_stay, both_come}
 use Rattle.lockstep.specs.Related.{OutsideStepsAlike}
@@ -85,7 +85,7 @@ failed_fails fs n halted h = absurd h
 failed_fails fs n (failed c at) h = refl
 
 -- a word of untrusted code beside an opened half of a trusted part
-refuse_second : (g : Link) (lg : Linked g) (p : PartSeen) (w : Word) (y : Opened) → IsTrusted g p → IsOurs g w
+refuse_second : (g : Link) (lg : IsLink g) (p : PartSeen) (w : Word) (y : Opened) → IsTrusted g p → IsOurs g w
     → y.seal ≡ p.component.closure → Refuses (opened_of w) (Some y)
 refuse_second g lg p (Int z) y ip o e = tt
 refuse_second g lg p (Mem z) y ip o e = tt
@@ -95,7 +95,7 @@ refuse_second g lg p (Sealed n (MemIn c)) y ip o e =
 refuse_second g lg p (Sealed n (SealIn c)) y ip o e =
     inl (λ s. lg.closure_closed p ip (subst (IsOpenSeal g) (s ∙ e) o))
 
-refuse_first : (g : Link) (lg : Linked g) (p : PartSeen) (w : Word) (y : Opened) → IsTrusted g p → IsOurs g w
+refuse_first : (g : Link) (lg : IsLink g) (p : PartSeen) (w : Word) (y : Opened) → IsTrusted g p → IsOurs g w
     → y.seal ≡ p.component.closure → Refuses (Some y) (opened_of w)
 refuse_first g lg p (Int z) y ip o e = tt
 refuse_first g lg p (Mem z) y ip o e = tt
@@ -217,8 +217,8 @@ module _ (g h : Link) (names : SameNames g h) (cs : Calls) where
   ours_too (Seal z) o = tt
   ours_too (Sealed n x) o = (names.seals n).0 o
 
-  module _ (lg : Linked g) (lh : Linked h) (one : OneToOne cs) (q r : OState) (oq : RunsOutside g q)
-      (or : RunsOutside h r) (al : Alike g h names cs q r) where
+  module _ (lg : IsLink g) (lh : IsLink h) (one : OneToOne cs) (q r : OState) (oq : StandsOutside g q)
+      (or : StandsOutside h r) (al : Alike g h names cs q r) where
     abbrev Free : ℕ → Type 0
     Free = IsFreeAt g
 

@@ -6,16 +6,16 @@ use Rattle.trusted_border.specs.declared.layout.Layout.{Layout}
 use Rattle.overlay_machine.specs.State.{OpenFrame, OState}
 use Rattle.overlay_machine.specs.Step.{goes, overlay_step}
 use Rattle.overlay_machine.specs.Link.{Link}
-use Rattle.overlay_machine.specs.Linked.{Linked}
+use Rattle.overlay_machine.specs.Linked.{IsLink}
 use Rattle.overlay_machine.specs.Runs.{Reached, goes_on}
 use Rattle.overlay_machine.specs.Invariant.{FramesLie}
 use Rattle.template_runs.specs.Runs.{is_inside}
 use Rattle.template_runs.proofs.Offers.{goes_same, halts_not, fails_not}
 use Rattle.source_laws.specs.Secrets.{Until, still_there, one_more}
-use Rattle.lockstep.specs.Related.{RunsOutside, SameNames, Calls, AreCalls, Alike, StepsAlike, both_halt}
+use Rattle.lockstep.specs.Related.{StandsOutside, SameNames, Calls, AreCalls, Alike, StepsAlike, both_halt}
 use Rattle.lockstep.specs.Related.{both_fail, both_stay, both_come, ComesAlike}
 use Rattle.lockstep.specs.Lockstep.{Round, IsRound, Path, SameCrossing, by_call, by_leave, SameObserved}
-use Rattle.lockstep.specs.Lockstep.{InStep, at_end, round, AreBelow, Holds, Tidies, RunInStep}
+use Rattle.lockstep.specs.Lockstep.{InStep, at_end, round, AreBelow, HoldsAlong, Tidies, RunInStep}
 use Rattle.lockstep.specs.Lockstep as spec
 use Rattle.lockstep.proofs.Step.{step_alike}
 use Rattle.lockstep.proofs.Counts.{call_new, step_rises, until_reached}
@@ -25,8 +25,8 @@ pub first_inside : (l : Layout) (p q : OState) → Until l p q → is_inside l p
 first_inside l p _ (still_there i) = i
 first_inside l p _ (one_more u s i) = first_inside l p _ u
 
-pub runs_outside : (k : Link) (x : OState) → Holds k x → (i : ℕ) (p : OState) → Reached k.layout x i p
-    → is_inside k.layout p ≡ false → RunsOutside k p
+pub runs_outside : (k : Link) (x : OState) → HoldsAlong k x → (i : ℕ) (p : OState) → Reached k.layout x i p
+    → is_inside k.layout p ≡ false → StandsOutside k p
 runs_outside k x holds i p r out =
     let v = holds i p r in record { plain = v.0; holds = v.1; outside = out }
 
@@ -64,7 +64,7 @@ below_new cs n n' p p' q q' up up' lo lo' b = record { first = first; second = s
     )
 
 -- a call that goes out: its number, before it and after it
-pub newest_below : (k : Link) (l : Linked k) (x : OState) (holds : Holds k x) (i : ℕ) (q : OState)
+pub newest_below : (k : Link) (l : IsLink k) (x : OState) (holds : HoldsAlong k x) (i : ℕ) (q : OState)
     (f : OpenFrame)
     (older : List OpenFrame) → Reached k.layout x i q → q.frames ≡ f ∷ older → f.call < q.calls
 newest_below k l x holds i q f older r e = let v = (holds i q r).1.frames in by v e
@@ -73,8 +73,9 @@ newest_below k l x holds i q f older r e = let v = (holds i q r).1.frames in by 
         → f.call < q.calls
     by {fs} v e = (subst (FramesLie k.layout q.maps.cells q.calls) e v).1
 
-module _ (g h : Link) (names : SameNames g h) (lg : Linked g) (lh : Linked h) (o o' : OState) (hg : Holds g o)
-    (hh : Holds h o') (tg : Tidies g o) (th : Tidies h o') where
+module _ (g h : Link) (names : SameNames g h) (lg : IsLink g) (lh : IsLink h) (o o' : OState)
+    (hg : HoldsAlong g o)
+    (hh : HoldsAlong h o') (tg : Tidies g o) (th : Tidies h o') where
   pub alike_step : (cs : Calls) (i j : ℕ) (p p' : OState) → Reached g.layout o i p → Reached h.layout o' j p'
       → is_inside g.layout p ≡ false → is_inside h.layout p' ≡ false → Alike g h names cs p p'
       → AreBelow cs p p' → StepsAlike g h names cs p p'

@@ -12,7 +12,7 @@ use Rattle.overlay_machine.specs.State.{OpenFrame, OState}
 use Rattle.overlay_machine.specs.Step.{goes, overlay_step}
 use Rattle.overlay_machine.specs.Events.{step_event}
 use Rattle.overlay_machine.specs.Link.{Link}
-use Rattle.overlay_machine.specs.Linked.{Linked}
+use Rattle.overlay_machine.specs.Linked.{IsLink}
 use Rattle.overlay_machine.specs.Runs.{Reached}
 use Rattle.overlay_machine.specs.Invariant.{Invariant}
 use Rattle.template_runs.specs.Runs.{is_inside}
@@ -101,8 +101,8 @@ pub data InStep (g h : Link) (names : SameNames g h) : Calls → List Round → 
         → InStep g h names cs (a ∷ as_) (b ∷ bs) q r
 
 -- the states of a run are those of linked parts
-abbrev pub Holds : Link → OState → Type 0
-Holds g o = (j : ℕ) (p : OState) → Reached g.layout o j p → (u : State Word) × Invariant g p u
+abbrev pub HoldsAlong : Link → OState → Type 0
+HoldsAlong g o = (j : ℕ) (p : OState) → Reached g.layout o j p → (u : State Word) × Invariant g p u
 
 -- calls that stand for each other came before, and are told apart
 pub record AreBelow (cs : Calls) (q r : OState) : Type 0 where
@@ -123,5 +123,6 @@ OutsideInStep g h names o o' =
 -- so it is of linked parts that tidy
 abbrev pub RunInStep : Type 0
 RunInStep =
-    (g h : Link) (names : SameNames g h) → Linked g → Linked h → (o o' : OState) → Holds g o → Holds h o'
+    (g h : Link) (names : SameNames g h) → IsLink g → IsLink h → (o o' : OState) → HoldsAlong g o
+    → HoldsAlong h o'
     → Tidies g o → Tidies h o' → OutsideInStep g h names o o'

@@ -23,14 +23,14 @@ use Rattle.overlay_machine.specs.State.{OpenFrame, OState}
 use Rattle.overlay_machine.specs.Step.{goes, halts, fails, overlay_step}
 use Rattle.linked_starts.specs.Regions.{in_regions}
 use Rattle.overlay_machine.specs.Link.{Link, IsTrusted, ranges_of, regions}
-use Rattle.overlay_machine.specs.Linked.{Linked}
+use Rattle.overlay_machine.specs.Linked.{IsLink}
 use Rattle.overlay_machine.specs.Safe.{IsOpenSeal}
 use Rattle.template_runs.specs.Runs.{is_inside}
 use Rattle.template_runs.specs.Public.{IsFreeAt}
 use Rattle.overlay_machine.specs.Invariant.{Invariant}
 
 -- code outside runs
-pub record RunsOutside (g : Link) (o : OState) : Type 0 where
+pub record StandsOutside (g : Link) (o : OState) : Type 0 where
   pub plain : State Word
   pub holds : Invariant g o plain
   pub outside : is_inside g.layout o ≡ false
@@ -155,5 +155,5 @@ module _ (g h : Link) (names : SameNames g h) where
   -- of two links: a step of code outside does the same in both, from states that are alike to it
   abbrev pub OutsideStepsAlike : Type 0
   OutsideStepsAlike =
-      (cs : Calls) (q r : OState) → Linked g → Linked h → OneToOne cs → RunsOutside g q → RunsOutside h r
+      (cs : Calls) (q r : OState) → IsLink g → IsLink h → OneToOne cs → StandsOutside g q → StandsOutside h r
       → Alike cs q r → StepsAlike cs q r

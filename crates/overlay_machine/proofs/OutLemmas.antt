@@ -9,7 +9,7 @@ use Rattle.frame_region.specs.Frames.{FrameSeen, newest_head, older}
 use Rattle.overlay_machine.specs.declared.words.OWord.{OWord}
 use Rattle.overlay_machine.specs.State.{Cells}
 use Rattle.overlay_machine.specs.declared.frames.Frame.{Frame}
-use Rattle.overlay_machine.specs.Machine.{AreOut, IsFree}
+use Rattle.overlay_machine.specs.Machine.{AreOut, IsUnframed}
 
 -- the frames stay out where no cell comes in
 pub out-fewer : (m m' : Cells) (fs : List (FrameSeen Frame OWord))
@@ -27,7 +27,7 @@ out-same m m' fs h = out-fewer m m' fs (λ q e. is-none (cell m' q) (h q ∙ ap 
 
 -- an address with a cell is in no frame
 there-free : (m : Cells) (fs : List (FrameSeen Frame OWord)) (q : ℕ) → AreOut m fs → IsSome (cell m q)
-    → IsFree fs q
+    → IsUnframed fs q
 there-free m [] q o s = tt
 there-free m (f ∷ fs) q o s = (
   elim (cases_lt q f.head.base) [
@@ -80,7 +80,7 @@ put_back-other m a (w ∷ ws) q (inr h) = put_back-other (set_cell m a w) (a + 1
 
 -- the others stay out where a stretch that is in none of them comes back
 out-back : (m m' : Cells) (b e : ℕ) (fs : List (FrameSeen Frame OWord))
-    → ((q : ℕ) → (q < b) ⊎ (e < q) → cell m' q ≡ cell m q) → ((q : ℕ) → b ≤ q → q ≤ e → IsFree fs q)
+    → ((q : ℕ) → (q < b) ⊎ (e < q) → cell m' q ≡ cell m q) → ((q : ℕ) → b ≤ q → q ≤ e → IsUnframed fs q)
     → AreOut m fs → AreOut m' fs
 out-back m m' b e [] same free o = tt
 out-back m m' b e (g ∷ gs) same free o =
@@ -105,8 +105,8 @@ pub out-returned : (m : Cells) (fs : List (FrameSeen Frame OWord)) (h : Frame) (
 out-returned m [] h ws e n o = tt
 out-returned m (f ∷ fs) h ws e n o =
     let same : f.head ≡ h = cc in
-    let free : (q : ℕ) → h.base ≤ q → q ≤ h.end → IsFree fs q =
-    subst (λ x. (q : ℕ) → x.base ≤ q → q ≤ x.end → IsFree fs q) same (λ q lo hi. (o.0 q lo hi).1) in
+    let free : (q : ℕ) → h.base ≤ q → q ≤ h.end → IsUnframed fs q =
+    subst (λ x. (q : ℕ) → x.base ≤ q → q ≤ x.end → IsUnframed fs q) same (λ q lo hi. (o.0 q lo hi).1) in
     out-back m (put_back m h.base ws)
     h.base h.end fs
     (λ q a. put_back-other m h.base ws q

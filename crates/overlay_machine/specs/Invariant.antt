@@ -28,7 +28,7 @@ use Rattle.overlay_machine.specs.Agree.{EndAlike}
 use Rattle.overlay_machine.specs.Link.{Link, IsTrusted, ranges_of, regions, has_cell, IsStackCell, IsOpenAt}
 use Rattle.overlay_machine.specs.Link.{CodeIn}
 use Rattle.overlay_machine.specs.Safe.{IsSafe, IsMet}
-use Rattle.overlay_machine.specs.Linked.{SiteOf, Linked}
+use Rattle.overlay_machine.specs.Linked.{SiteOf, IsLink}
 
 -- ---- pc and the registers
 
@@ -115,5 +115,5 @@ KeepsAgreeing g e r = EndAlike (Invariant g) e r
 -- a step keeps the invariant of linked parts, whatever the step and whatever untrusted code there is
 abbrev pub StepsKeep : Type 0
 StepsKeep =
-    (g : Link) (o : OState) (t : State Word) → Linked g → Invariant g o t
+    (g : Link) (o : OState) (t : State Word) → IsLink g → Invariant g o t
     → KeepsAgreeing g (overlay_step g.layout o) (run_of (λ w. w) (λ w. w) (weight_of g.layout o) t)

@@ -13,7 +13,7 @@ use Rattle.overlay_machine.specs.Step.{weight_of}
 use Rattle.overlay_machine.specs.Flat.{flat}
 use Rattle.overlay_machine.specs.Seen.{OverlaySeen}
 use Rattle.overlay_machine.specs.Link.{Link}
-use Rattle.overlay_machine.specs.Linked.{Linked}
+use Rattle.overlay_machine.specs.Linked.{IsLink}
 use Rattle.overlay_machine.specs.Invariant.{Invariant}
 
 -- these parts, linked with this size of stack, and the layout of an overlay
@@ -23,7 +23,7 @@ link_of parts size o = record { parts = parts; size = size; layout = o.layout }
 -- The overlay's layout is that of these accepted parts, and the invariant holds of the overlay and of the
 -- plain state that it stands for.
 pub record HoldsFor (parts : List PartSeen) (size : ℕ) (o : OverlaySeen) (t : State Word) : Type 0 where
-  pub linked : Linked (link_of parts size o)
+  pub linked : IsLink (link_of parts size o)
   pub holds : Invariant (link_of parts size o) o.state t
 
 -- the plain state has in a0 what the overlay's a0 stands for

@@ -49,7 +49,7 @@ pub record EntryOf (p : PartSeen) (o : ℕ) : Type 0 where
   pub inside : o + ENTRY_WORDS ≤ length p.component.code
   pub stands : EntryStands p.component o
 
-pub record Linked (g : Link) : Type 0 where
+pub record IsLink (g : Link) : Type 0 where
   -- each part was accepted
   pub parts : (p : PartSeen) → Contains g.parts p → IsPart p
   -- the regions lie apart, none is empty, and all end within the address space; the stack is one of them

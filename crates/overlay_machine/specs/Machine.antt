@@ -71,15 +71,15 @@ AreFull [] = Unit {0}
 AreFull (f ∷ fs) = (f.head.base + length f.items ≡ f.head.end + 1) × AreFull fs
 
 -- an address that no frame has
-abbrev pub IsFree : List (FrameSeen Frame OWord) → ℕ → Type 0
-IsFree [] q = Unit {0}
-IsFree (f ∷ fs) q = ((q < f.head.base) ⊎ (f.head.end < q)) × IsFree fs q
+abbrev pub IsUnframed : List (FrameSeen Frame OWord) → ℕ → Type 0
+IsUnframed [] q = Unit {0}
+IsUnframed (f ∷ fs) q = ((q < f.head.base) ⊎ (f.head.end < q)) × IsUnframed fs q
 
 -- the cells of frames are not in memory, and no two frames have one address
 abbrev pub AreOut : Cells → List (FrameSeen Frame OWord) → Type 0
 AreOut m [] = Unit {0}
 AreOut m (f ∷ fs) =
-    ((q : ℕ) → f.head.base ≤ q → q ≤ f.head.end → (cell m q ≡ None) × IsFree fs q) × AreOut m fs
+    ((q : ℕ) → f.head.base ≤ q → q ≤ f.head.end → (cell m q ≡ None) × IsUnframed fs q) × AreOut m fs
 
 -- the numbers of calls fall from the newest frame on, and are below a count
 abbrev pub Fall : ℕ → List (FrameSeen Frame OWord) → Type 0

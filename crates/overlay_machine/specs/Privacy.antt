@@ -8,7 +8,7 @@ use Rattle.overlay_machine.specs.declared.cases.Case.TheVariants.{Back}
 use Rattle.overlay_machine.specs.State.{OpenFrame, OState, frame_of}
 use Rattle.overlay_machine.specs.Step.{case_of}
 use Rattle.overlay_machine.specs.Link.{Link}
-use Rattle.overlay_machine.specs.Linked.{Linked}
+use Rattle.overlay_machine.specs.Linked.{IsLink}
 use Rattle.overlay_machine.specs.Invariant.{Invariant}
 use Rattle.overlay_machine.specs.Runs.{Reached}
 
@@ -30,4 +30,4 @@ pub record FramesArePrivate (g : Link) (o : OState) (t : State Word) : Type 0 wh
 
 abbrev pub AllFramesArePrivate : Type 0
 AllFramesArePrivate =
-    (g : Link) (o : OState) (t : State Word) → Linked g → Invariant g o t → FramesArePrivate g o t
+    (g : Link) (o : OState) (t : State Word) → IsLink g → Invariant g o t → FramesArePrivate g o t

@@ -10,7 +10,7 @@ ghost use Rattle.overlay_machine.specs.Step.{halts, overlay_step, weight_of};
 ghost use Rattle.overlay_machine.specs.Flat.{StandsForOne};
 ghost use Rattle.overlay_machine.specs.Runs.{Reached, plain_run, RunsAgree};
 ghost use Rattle.overlay_machine.specs.Link.{Link};
-ghost use Rattle.overlay_machine.specs.Linked.{Linked};
+ghost use Rattle.overlay_machine.specs.Linked.{IsLink};
 ghost use Rattle.overlay_machine.specs.Invariant.{Invariant, StepsKeep};
 ghost use Rattle.overlay_machine.specs.Cover.{CoverIsOnce};
 ghost use Rattle.overlay_machine.specs.Privacy.{AllFramesArePrivate};
@@ -64,9 +64,9 @@ pub fn cover_counts_once()
 /// does. If the one fails the other does, the plain run within the weight of the overlay's step. A plain run
 /// that goes stands at a matched point, or less than the weight of the next step after it.
 pub fn linked_runs_agree()
-    ensures runs { (g : Link) (o : OState) (t : State Word) → Linked g → Invariant g o t
+    ensures runs { (g : Link) (o : OState) (t : State Word) → IsLink g → Invariant g o t
         → RunsAgree g.layout o t }
-    ensures kept { (g : Link) (o p : OState) (t : State Word) (j : ℕ) → Linked g → Invariant g o t
+    ensures kept { (g : Link) (o p : OState) (t : State Word) (j : ℕ) → IsLink g → Invariant g o t
         → Reached g.layout o j p → (u : State Word) × (plain_run j t ≡ went u) × Invariant g p u }
 {}
 

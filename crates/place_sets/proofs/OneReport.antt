@@ -9,7 +9,7 @@ use Rattle.place_sets.specs.declared.spans.ReachSpan.{ReachSpan}
 use Rattle.place_sets.specs.declared.set.Stretch.{Stretch}
 use Rattle.place_sets.specs.Spans.{rights_of, allows, span_has, any_right, AreTidy}
 use Rattle.place_sets.specs.Takes.{is_left}
-use Rattle.place_sets.specs.Stretches.{AreApart}
+use Rattle.place_sets.specs.Stretches.{AreStretches}
 use Rattle.place_sets.proofs.OneList.{said, Next, InOrder, one_list, before_next}
 
 -- ---- spans
@@ -125,19 +125,19 @@ one_spans rs qs t u read write run =
 abbrev left_said : List Stretch → ℕ → Option Bool
 left_said ss a = said (λ s. s.base) (λ s. s.end) (λ s. true) ss a
 
-apart_rest : (s : Stretch) (ss : List Stretch) → AreApart (s ∷ ss) → AreApart ss
+apart_rest : (s : Stretch) (ss : List Stretch) → AreStretches (s ∷ ss) → AreStretches ss
 apart_rest s ss t = record {
   each = λ k d l. t.each (suc k) d (omega (arith, l));
   apart = λ i j d lt l. t.apart (suc i) (suc j) d (omega (arith, lt)) (omega (arith, l));
 }
 
-apart_next : (s : Stretch) (ss : List Stretch) → AreApart (s ∷ ss)
+apart_next : (s : Stretch) (ss : List Stretch) → AreStretches (s ∷ ss)
     → Next (λ s. s.base) (λ s. s.end) (λ s. true) s ss
 apart_next s [] t = tt
 apart_next s (q ∷ qs) t = let b = t.apart zero (suc zero) s (omega arith) (omega arith) in
     (omega (arith, b), λ j l. omega (arith, b, j))
 
-apart_in_order : (ss : List Stretch) → AreApart ss → InOrder (λ s. s.base) (λ s. s.end) (λ s. true) ss
+apart_in_order : (ss : List Stretch) → AreStretches ss → InOrder (λ s. s.base) (λ s. s.end) (λ s. true) ss
 apart_in_order [] t = tt
 apart_in_order (s ∷ ss) t = (
   (t.each zero s (omega arith)).some,
@@ -174,7 +174,7 @@ same_stretch : (x y : Stretch) → x.base ≡ y.base → x.end ≡ y.end → tru
 same_stretch x y a b c = ap (λ (n : ℕ). record { base = n; end = x.end }) a
     ∙ ap (λ (n : ℕ). record { base = y.base; end = n }) b
 
-pub one_stretches : (rs qs : List Stretch) → AreApart rs → AreApart qs
+pub one_stretches : (rs qs : List Stretch) → AreStretches rs → AreStretches qs
     → ((a : ℕ) → is_left rs a ≡ is_left qs a) → rs ≡ qs
 one_stretches rs qs t u h = one_list (λ s. s.base) (λ s. s.end) (λ s. true) same_stretch rs qs
     (apart_in_order rs t) (apart_in_order qs u) (λ a.

@@ -11,7 +11,7 @@ use Rattle.std.proofs.lemmas.List.Quantifiers.{all_pairs_push}
 use Rattle.cap_words.specs.declared.TheConstants.{LAST_PLACE}
 use Rattle.place_sets.specs.declared.set.Stretch.{Stretch}
 use Rattle.place_sets.specs.Has.{has}
-use Rattle.place_sets.specs.Stretches.{IsStretch, Closed, Found}
+use Rattle.place_sets.specs.Stretches.{IsStretch, EndedBefore, Found}
 use Rattle.place_sets.proofs.Ends.{up_to, behind}
 
 not_true : (b : Bool) → true ≢ b → b ≡ false
@@ -20,13 +20,13 @@ not_true false h = refl
 
 module _ (set : List ℕ) (at end : ℕ) (list : List Stretch) (some : at ≤ end) (inside : end ≤ LAST_PLACE)
     (found : Found set at list) where
-  later : (s : Stretch) → Closed set at s → Closed set (end + 1) s
+  later : (s : Stretch) → EndedBefore set at s → EndedBefore set (end + 1) s
   later s e = let b = e.before in record {
     before = omega (arith, b, some);
     other = λ j l. absurd (omega (arith, b, some, j));
   }
 
-  later_all : All (Closed set at) list → All (Closed set (end + 1)) list
+  later_all : All (EndedBefore set at) list → All (EndedBefore set (end + 1)) list
   later_all h k d l = later (get_or list k d) (h k d l)
 
   module _ (same : (a : ℕ) → at ≤ a → a ≤ end → true ≡ has set a) where
@@ -61,7 +61,7 @@ module _ (set : List ℕ) (at end : ℕ) (list : List Stretch) (some : at ≤ en
         apart = all_pairs_push (λ s t. s.end + 1 < t.base) list mine found.apart.apart
             (λ k d l. gap (get_or list k d) (found.closed k d l));
       };
-      closed = All-push (Closed set (end + 1)) list mine (later_all found.closed)
+      closed = All-push (EndedBefore set (end + 1)) list mine (later_all found.closed)
           (record {
             before = omega arith;
             other =
@@ -71,7 +71,7 @@ module _ (set : List ℕ) (at end : ℕ) (list : List Stretch) (some : at ≤ en
           ∙ rw (found.are a) (alone a);
     }
       where
-        gap : (s : Stretch) → Closed set at s → s.end + 1 < at
+        gap : (s : Stretch) → EndedBefore set at s → s.end + 1 < at
         gap s e = let b = e.before in elim (cases_lt (s.end + 1) at) as (λ _. s.end + 1 < at) [
           | inl lt ↦ lt
           | inr ge ↦ absurd (let no = e.other (omega (arith, b, ge)) (omega (arith, some, inside)) in

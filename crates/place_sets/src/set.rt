@@ -3,7 +3,7 @@ ghost use Rattle.std.specs.Prelude.{◌≡◌, ◌≢◌, ◌≤◌, ◌<◌, �
 ghost use Rattle.std.specs.Prelude.{slice_index, if◌then◌else◌, IfOk, OnOk, OnErr, IfSome, IfNone};
 ghost use Rattle.place_sets.specs.Has.{has};
 ghost use Rattle.place_sets.specs.Takes.{is_left, Takes, TakesFront};
-ghost use Rattle.place_sets.specs.Stretches.{AreApart};
+ghost use Rattle.place_sets.specs.Stretches.{AreStretches};
 
 use cap_words::{Items, LAST_PLACE};
 use std::alloc::{AllocError, Global};
@@ -211,7 +211,7 @@ impl PlaceSet {
     /// The stretches of the set: maximal, disjoint, ascending.
     pub fn stretches(&self, alloc: Global) -> Result<Items<Stretch>, AllocError>
         ensures are { IfOk result (λ list. (a : ℕ) → is_left list a ≡ has self.now a) }
-        ensures tidy { IfOk result AreApart }
+        ensures tidy { IfOk result AreStretches }
     {
         self.ends();
         let mut list = Vec::new(alloc);

@@ -12,7 +12,7 @@ use Rattle.proc_program.specs.declared.program.Procedure.{Procedure}
 use Rattle.proc_program.specs.declared.program.Program.{Program}
 use Rattle.proc_program.specs.StepView.{block_of}
 use Rattle.proc_program.specs.Calls.{part_calls, procedure_calls}
-use Rattle.proc_program.specs.Limits.{scope_of, ProcedureFits, IsPart}
+use Rattle.proc_program.specs.Limits.{scope_of, ProcedureFits, IsProgram}
 use Rattle.proc_program.specs.Lower.{part_of}
 use Rattle.proc_program.proofs.Offers.{part_fits, calls_kept}
 use Rattle.proc_templates.specs.declared.FrameShape.{FrameShape}
@@ -25,7 +25,7 @@ use Rattle.proc_templates.specs.Kept.{FitsComponent, NamesDiffer, KeepsOwnRules}
 use Rattle.proc_templates.proofs.Offers.{names_differ, block_bound, keeps_flow, keeps_own, limits_kept}
 use Rattle.proc_compiler.specs.declared.counts.TheConstants.{EPILOGUE_WORDS}
 use Rattle.proc_compiler.specs.Drafts.{Drafted, with_items, at_spot, Emits, EmitsProc}
-use Rattle.proc_compiler.specs.Fault.{CompilesWith, CausesWith, Compiles, Causes}
+use Rattle.proc_compiler.specs.Fault.{CompilesWith, CausesWith, Compiles, CausesFault}
 use Rattle.proc_compiler.specs.declared.fault.CompileFault.{CompileFault}
 
 -- ---- a procedure
@@ -88,14 +88,14 @@ pub own_of : (c : ComponentFields) (m : Program) → c ≡ component_of m → Fi
     → part_calls m ≤ m.header.return_count → KeepsOwnRules c
 own_of c m e f s = subst KeepsOwnRules (sym e) (keeps_own m f s)
 
-pub fits_of : (m : Program) → IsPart m → code_words m ≤ MOST_WORDS → data_count m ≤ MOST_WORDS
+pub fits_of : (m : Program) → IsProgram m → code_words m ≤ MOST_WORDS → data_count m ≤ MOST_WORDS
     → FitsComponent m
 fits_of m l c d = record { limits = l; code = c; data_words = d }
 
 -- ---- the program of a module
 
-pub part_ready : (m : ModuleFields) (p : Program) → p ≡ part_of m → IsModule m → IsPart p
-part_ready m p e l = subst IsPart (sym e) (part_fits m l)
+pub part_ready : (m : ModuleFields) (p : Program) → p ≡ part_of m → IsModule m → IsProgram p
+part_ready m p e l = subst IsProgram (sym e) (part_fits m l)
 
 pub part_named : (m : ModuleFields) (p : Program) → p ≡ part_of m → name_faults m ≡ [] → NamesDiffer p.procs
 part_named m p e n = subst (λ (q : Program). NamesDiffer q.procs) (sym e) (names_differ m n)
@@ -116,7 +116,7 @@ module_compiles m p e h =
     (subst (λ (q : Program). CompilesWith q (part_calls q) q.header.return_count) e h)
 
 pub module_causes : (m : ModuleFields) (p : Program) (f : CompileFault) → p ≡ part_of m
-    → CausesWith p (part_calls p) p.header.return_count f → Causes m f
+    → CausesWith p (part_calls p) p.header.return_count f → CausesFault m f
 module_causes m p f e h =
     subst (λ n. CausesWith (part_of m) n m.return_count f) (calls_kept m)
     (subst (λ (q : Program). CausesWith q (part_calls q) q.header.return_count f) e h)

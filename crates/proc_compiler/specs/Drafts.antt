@@ -39,7 +39,7 @@ abbrev pub with_words : List Word → Drafted → Drafted
 with_words ws d = with_code (d.laid.code ++ ws) d
 
 -- the seals that are left are those of the sites that are still to be written
-pub record InStep (sites : List ℕ) (spot : Spot) (first seals : ℕ) (lot : Stretch) : Type 0 where
+pub record SealsLeft (sites : List ℕ) (spot : Spot) (first seals : ℕ) (lot : Stretch) : Type 0 where
   pub epilogue : spot.epilogue ≤ LAST_OFFSET
   pub base : spot.stack_base ≤ LAST_PLACE
   pub few : seals ≤ MOST_SEALS

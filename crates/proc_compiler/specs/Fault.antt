@@ -38,5 +38,5 @@ CausesWith m calls seals NoMemory = Unit {0}
 abbrev pub Compiles : ModuleFields → Type 0
 Compiles m = CompilesWith (part_of m) (module_calls m) m.return_count
 
-abbrev pub Causes : ModuleFields → CompileFault → Type 0
-Causes m f = CausesWith (part_of m) (module_calls m) m.return_count f
+abbrev pub CausesFault : ModuleFields → CompileFault → Type 0
+CausesFault m f = CausesWith (part_of m) (module_calls m) m.return_count f

@@ -6,7 +6,7 @@ ghost use Rattle.proc_program.specs.View.{args_of};
 ghost use Rattle.proc_program.specs.StepView.{block_of};
 ghost use Rattle.proc_program.specs.Calls.{calls, args_calls, step_calls, block_calls, procedure_calls};
 ghost use Rattle.proc_program.specs.Calls.{part_calls};
-ghost use Rattle.proc_program.specs.Limits.{IsPart, arg_registers};
+ghost use Rattle.proc_program.specs.Limits.{IsProgram, arg_registers};
 ghost use Rattle.proc_templates.specs.Templates.{exp_words, args_words, step_words, block_words, pair_words};
 ghost use Rattle.proc_templates.specs.Templates.{checks_words, op_words};
 ghost use Rattle.proc_templates.specs.Compiled.{pair_count, size_of_proc, code_words, data_count};
@@ -219,7 +219,7 @@ pub(crate) fn code_fits(m: &Program) -> bool
 
 /// The words of the data that pairs take up.
 pub(crate) fn pair_count(m: &Program) -> u32
-    requires { IsPart m.now }
+    requires { IsProgram m.now }
     ensures { result ≡ pair_count m.now }
 {
     2 * (m.imports.as_slice().len() + m.procs.as_slice().len()) as u32
@@ -228,7 +228,7 @@ pub(crate) fn pair_count(m: &Program) -> u32
 /// Whether the data of a module hasn't too many words.
 #[tactic(auto, unfolding(proc_templates::specs::Compiled::data_count))]
 pub(crate) fn data_fits(m: &Program) -> bool
-    requires { IsPart m.now }
+    requires { IsProgram m.now }
     ensures { result ≡ nat_le (data_count m.now) MOST_WORDS }
 {
     m.globals.as_slice().len() <= (MOST_WORDS - pair_count(m)) as usize

@@ -45,7 +45,7 @@ pub(crate) struct Draft {
 }
 
 impl Model for Draft {
-    ghost use Rattle.proc_compiler.specs.Drafts.{Drafted, InStep};
+    ghost use Rattle.proc_compiler.specs.Drafts.{Drafted, SealsLeft};
 
     ghost Value = { Drafted };
 
@@ -57,7 +57,7 @@ impl Model for Draft {
       seals = d.seals;
     } };
 
-    ghost invariant = { λ d. InStep d.sites.items
+    ghost invariant = { λ d. SealsLeft d.sites.items
         (record { stack_base = d.stack_base; epilogue = d.epilogue }) d.first d.seals d.lot };
 }
 

@@ -5,14 +5,14 @@ ghost use Rattle.flow_rules.specs.Verdict.{IsKept};
 ghost use Rattle.proc_language.specs.Limits.{Each};
 ghost use Rattle.proc_names.specs.NameFaults.{name_faults};
 ghost use Rattle.proc_program.specs.Calls.{procedure_calls, part_calls};
-ghost use Rattle.proc_program.specs.Limits.{scope_of, ProcedureFits, IsPart};
+ghost use Rattle.proc_program.specs.Limits.{scope_of, ProcedureFits, IsProgram};
 ghost use Rattle.proc_templates.specs.Compiled.{frame_of, pair_count, size_of_proc, code_words, data_count};
 ghost use Rattle.proc_templates.specs.Compiled.{lay_procs, laid_of, literal_of, literal_at_of};
 ghost use Rattle.proc_templates.specs.Compiled.{first_data};
 ghost use Rattle.proc_templates.specs.Compiled.{imports_of, exports_of, seal_base, component_of, compiled};
 ghost use Rattle.proc_templates.specs.Kept.{FitsComponent, NamesDiffer, KeepsOwnRules};
 ghost use Rattle.proc_compiler.specs.Drafts.{EmitsProc};
-ghost use Rattle.proc_compiler.specs.Fault.{CompilesWith, CausesWith, Compiles, Causes};
+ghost use Rattle.proc_compiler.specs.Fault.{CompilesWith, CausesWith, Compiles, CausesFault};
 
 use crate::counts::{
     EPILOGUE_WORDS, code_fits, data_fits, is_without_calls, pair_count, seals_suffice, size_of_proc,
@@ -33,7 +33,7 @@ use std::alloc::{AllocError, Global};
 // The frame of a procedure.
 #[tactic(auto, unfolding(proc_templates::specs::Compiled::frame_of))]
 fn frame_of(m: &Program, p: &Procedure) -> FrameShape
-    requires limits { IsPart m.now }
+    requires limits { IsProgram m.now }
     requires fits { ProcedureFits (scope_of m.now) p.now }
     ensures { result ≡ frame_of m.now p.now }
 {
@@ -49,7 +49,7 @@ fn frame_of(m: &Program, p: &Procedure) -> FrameShape
 // A procedure. Its last words are its epilogue.
 #[tactic(auto, using(crate::proofs::Modules::frame_words, crate::proofs::Modules::body_bound, crate::proofs::Modules::temps_le))]
 fn proc_in(draft: &mut Draft, m: &Program, p: &Procedure) -> Result<(), AllocError>
-    requires limits { IsPart m.now }
+    requires limits { IsProgram m.now }
     requires data_fits { data_count m.now ≤ MOST_WORDS }
     requires fits { ProcedureFits (scope_of m.now) p.now }
     requires placed { length draft.old.laid.code + size_of_proc p.now ≤ MOST_WORDS }
@@ -64,7 +64,7 @@ fn proc_in(draft: &mut Draft, m: &Program, p: &Procedure) -> Result<(), AllocErr
 
 // Procedures, one after the other.
 fn procs_in(draft: &mut Draft, m: &Program, procs: &[Procedure]) -> Result<(), AllocError>
-    requires limits { IsPart m.now }
+    requires limits { IsProgram m.now }
     requires data_fits { data_count m.now ≤ MOST_WORDS }
     requires fits { Each (ProcedureFits (scope_of m.now)) procs.now }
     requires placed { length draft.old.laid.code + sum_by size_of_proc procs.now ≤ MOST_WORDS }
@@ -83,7 +83,7 @@ fn procs_in(draft: &mut Draft, m: &Program, procs: &[Procedure]) -> Result<(), A
 
 // The word after the `fail`: the seal capability over the return seals, where there are calls.
 fn literal_of(m: &Program) -> Word
-    requires limits { IsPart m.now }
+    requires limits { IsProgram m.now }
     requires seals { part_calls m.now ≤ m.now.header.return_count }
     ensures { result ≡ literal_of m.now }
 {
@@ -98,7 +98,7 @@ fn literal_of(m: &Program) -> Word
 // The code of a module, with the offsets of calls and labels.
 #[tactic(auto, unfolding(proc_templates::specs::Compiled::laid_of, proc_templates::specs::Compiled::code_words))]
 fn code_of(alloc: Global, m: &Program) -> Result<Draft, AllocError>
-    requires limits { IsPart m.now }
+    requires limits { IsProgram m.now }
     requires code { code_words m.now ≤ MOST_WORDS }
     requires data { data_count m.now ≤ MOST_WORDS }
     requires seals { part_calls m.now ≤ m.now.header.return_count }
@@ -118,7 +118,7 @@ fn code_of(alloc: Global, m: &Program) -> Result<Draft, AllocError>
 
 #[tactic(auto, unfolding(proc_templates::specs::Compiled::first_data))]
 fn data_of(alloc: Global, m: &Program) -> Result<Vec<Word>, AllocError>
-    requires { IsPart m.now }
+    requires { IsProgram m.now }
     ensures { IfOk result (λ words. words.items ≡ first_data m.now) }
 {
     let mut words = Vec::new(alloc);
@@ -129,7 +129,7 @@ fn data_of(alloc: Global, m: &Program) -> Result<Vec<Word>, AllocError>
 
 #[tactic(auto, unfolding(proc_templates::specs::Compiled::imports_of))]
 fn imports_of(alloc: Global, m: &Program) -> Result<Vec<Import>, AllocError>
-    requires { IsPart m.now }
+    requires { IsProgram m.now }
     ensures { IfOk result (λ list. list.items ≡ imports_of m.now) }
 {
     let mut list = Vec::new(alloc);
@@ -155,7 +155,7 @@ fn literal_at_of(m: &Program) -> Option<u32>
 }
 
 fn seals_of(m: &Program) -> SealRange
-    requires { IsPart m.now }
+    requires { IsProgram m.now }
     ensures { result ≡ record { base = seal_base m.now.header; count = m.now.header.return_count } }
 {
     let head = m.header;
@@ -170,7 +170,7 @@ fn seals_of(m: &Program) -> SealRange
 // The fields of a program's component.
 #[tactic(auto, unfolding(proc_templates::specs::Compiled::component_of))]
 fn fields_of(alloc: Global, m: &Program) -> Result<ComponentFields, AllocError>
-    requires limits { IsPart m.now }
+    requires limits { IsProgram m.now }
     requires code { code_words m.now ≤ MOST_WORDS }
     requires data { data_count m.now ≤ MOST_WORDS }
     requires seals { part_calls m.now ≤ m.now.header.return_count }
@@ -220,7 +220,7 @@ fn made(fields: ComponentFields, m: &Program) -> Component
 // The component of a program.
 #[tactic(auto, using(crate::proofs::Modules::fits_of))]
 fn component_of(alloc: Global, m: &Program) -> Result<Component, CompileFault>
-    requires limits { IsPart m.now }
+    requires limits { IsProgram m.now }
     requires named { NamesDiffer m.now.procs }
     ensures is { IfOk result (λ c. c ≡ component_of m.now) }
     ensures compiles { IfOk result (λ c. CompilesWith m.now (part_calls m.now) m.now.header.return_count) }
@@ -250,7 +250,7 @@ pub fn compile(alloc: Global, m: &Module) -> Result<Component, CompileFault>
     requires resolved { name_faults m.now ≡ [] }
     ensures is { IfOk result (λ c. c ≡ compiled m.now) }
     ensures compiles { IfOk result (λ c. Compiles m.now) }
-    ensures causes { IfErr result (λ f. Causes m.now f) }
+    ensures causes { IfErr result (λ f. CausesFault m.now f) }
     ensures flow { IfOk result (λ c. IsKept c) }
     ensures own { IfOk result (λ c. KeepsOwnRules c) }
 {

@@ -31,9 +31,9 @@ fn store_var(draft: &mut Draft, f: FrameShape, x: Location) -> Result<(), AllocE
 }
 
 // A statement.
-#[cycle(step)]
+#[cycle(statement)]
 #[tactic(auto, using(crate::proofs::Written::items))]
-fn step(draft: &mut Draft, f: FrameShape, s: &Statement) -> Result<(), AllocError>
+fn statement(draft: &mut Draft, f: FrameShape, s: &Statement) -> Result<(), AllocError>
     requires frame { f.words ≤ MOST_WORDS }
     requires fits { StepBound f s.now }
     requires room { f.temps + step_words s.now ≤ LAST_PLACE }
@@ -95,7 +95,7 @@ fn sets_at(
 
 // One block where the condition holds, and another where it doesn't. How far a jump goes forward is told
 // once what it goes over is written.
-#[cycle(step)]
+#[cycle(statement)]
 fn branch(
     draft: &mut Draft,
     f: FrameShape,
@@ -129,7 +129,7 @@ fn branch(
 }
 
 // A block as long as the condition holds.
-#[cycle(step)]
+#[cycle(statement)]
 fn repeat(draft: &mut Draft, f: FrameShape, c: &Exp, body: &[Statement]) -> Result<(), AllocError>
     requires frame { f.words ≤ MOST_WORDS }
     requires fits { StepBound f (While c.now (block_of body.now)) }
@@ -153,7 +153,7 @@ fn repeat(draft: &mut Draft, f: FrameShape, c: &Exp, body: &[Statement]) -> Resu
 }
 
 /// Statements, one after the other.
-#[cycle(step)]
+#[cycle(statement)]
 #[tactic(auto, using(crate::proofs::Written::items))]
 pub(crate) fn block(draft: &mut Draft, f: FrameShape, steps: &[Statement]) -> Result<(), AllocError>
     requires frame { f.words ≤ MOST_WORDS }
@@ -164,7 +164,7 @@ pub(crate) fn block(draft: &mut Draft, f: FrameShape, steps: &[Statement]) -> Re
     ensures { OnOk result (EmitsBlock f (block_of steps.now) draft.old draft.new) }
 {
     for s in steps {
-        step(draft, f, s)?;
+        statement(draft, f, s)?;
     }
     Ok(())
 }

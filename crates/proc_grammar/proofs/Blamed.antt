@@ -21,7 +21,7 @@ use Rattle.phrases.proofs.Offers.{blames_case, blames_either, blames_many, Is, H
 use Rattle.phrases.proofs.Offers.{heads_then, heads_or, heads_as}
 use Rattle.proc_grammar.specs.declared.fault.ParseFault.TheVariants.{Range, TooMany}
 use Rattle.proc_grammar.specs.Fault.{limit_place}
-use Rattle.proc_grammar.specs.Makes.{Makes}
+use Rattle.proc_grammar.specs.Makes.{Actions}
 use Rattle.proc_grammar.specs.Lexemes.{Lexeme, Meaning, Numeral, word, word_in, words_of, token_word, sign}
 use Rattle.proc_grammar.specs.Lexemes.{sign_in, a_name, a_local, name_in, name_text, taken, a_number}
 use Rattle.proc_grammar.specs.Lexemes.{number_in, a_start, a_proc, adding, dot, comma, semicolon, slash}
@@ -237,7 +237,7 @@ lift h = blames_known (λ n e. absurd e) h
 
 -- ---- parameters and locals
 
-module _ {E A S P V R M : Type 0} (T : Makes E A S P V R M) (limits : Bool) (fuel : ℕ) where
+module _ {E A S P V R M : Type 0} (T : Actions E A S P V R M) (limits : Bool) (fuel : ℕ) where
   plain_param_blames : {K : ℕ → Type 0} (used : ℕ) → Blames fuel K (grammar.plain_param T false used)
       (reading.plain_param T limits fuel used)
   unfolding grammar.plain_param reading.plain_param grammar.arity_part reading.arity_behind
@@ -432,7 +432,7 @@ module _ {E A S P V R M : Type 0} (T : Makes E A S P V R M) (limits : Bool) (fue
 
 -- ---- expressions and statements to any depth
 
-module _ {E A S P V R M : Type 0} (T : Makes E A S P V R M) (limits : Bool) (fuel : ℕ) where
+module _ {E A S P V R M : Type 0} (T : Actions E A S P V R M) (limits : Bool) (fuel : ℕ) where
   expr_blames : (room : ℕ) (fits : Bool) → Blames fuel Nowhere (grammar.expr T false (suc room) true)
       (reading.next_expr T limits fuel room fits)
   expr_blames zero fits = expr_with_blames T limits fuel zero (grammar.expr T false zero) (λ f. expected)

@@ -5,7 +5,7 @@ use Rattle.std.specs.Prelude.{codes, nat_lt, ◌==◌, IsTrue}
 use Rattle.text_scan.specs.declared.token.TokenKind.TheVariants as kinds
 use Rattle.proc_language.specs.declared.tree.Name.{Name}
 use Rattle.proc_language.specs.Words.{is_reserved}
-use Rattle.proc_grammar.specs.Makes.{Makes}
+use Rattle.proc_grammar.specs.Makes.{Actions}
 use Rattle.proc_grammar.specs.Lexemes.{Lexeme, Meaning, word, words_of, token_word, taken, token_words, sign}
 use Rattle.proc_grammar.specs.Lexemes.{a_name, a_number, adding, added, comparing, compared, square, round}
 use Rattle.proc_grammar.specs.Lexemes.{end_square, end_round, comma}
@@ -130,7 +130,7 @@ none_ends m k e = ap is_there e
 pub open_next : (room : ℕ) → IsTrue (nat_lt 0 (suc room))
 open_next room = grind arith
 
-module _ {E A S P V R M : Type 0} (T : Makes E A S P V R M) (limits : Bool) (fuel : ℕ) (room : ℕ)
+module _ {E A S P V R M : Type 0} (T : Actions E A S P V R M) (limits : Bool) (fuel : ℕ) (room : ℕ)
     (inner inner' : Bool → Phrase E) (r : Bool → Reader E)
     (each : (fits : Bool) → Reads fuel (inner fits) (inner' true) ExprEnds (r fits))
     (heads : (fits : Bool) → Heads (Starts (words_of T.tokens)) (inner fits)) where
@@ -363,7 +363,7 @@ a_one : Lexeme
 a_one = record { kind = kinds.Number 1; at = 0; text = [] }
 
 -- a number is an expression
-pub number_spelled : {E A S P V R M : Type 0} (T : Makes E A S P V R M) (room : ℕ) (inner : Bool → Phrase E)
+pub number_spelled : {E A S P V R M : Type 0} (T : Actions E A S P V R M) (room : ℕ) (inner : Bool → Phrase E)
     → (tokens : List Lexeme) × (x : E) × grammar.expr_with T false room inner true tokens x
 unfolding grammar.expr_with grammar.sum grammar.number_term grammar.comparison_part a_number a_one
 number_spelled T room inner =
@@ -380,7 +380,7 @@ number_spelled T room inner =
     (T.number 0 1, a_one ∷ [], [], refl, term, ([], [], [], refl, refl, (refl, refl))) in
     (a_one ∷ [], T.number 0 1, (T.number 0 1, a_one ∷ [], [], refl, sum, inr (refl, refl)))
 
-module _ {E A S P V R M : Type 0} (T : Makes E A S P V R M) (limits : Bool) (fuel : ℕ) where
+module _ {E A S P V R M : Type 0} (T : Actions E A S P V R M) (limits : Bool) (fuel : ℕ) where
   no_reads : (fits : Bool) → Reads fuel phrases.nothing (grammar.expr T false zero true) ExprEnds expected
   no_reads fits = reads_any (reads_none distinct (number_spelled T zero (λ f. phrases.nothing)))
 

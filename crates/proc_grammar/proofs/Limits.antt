@@ -10,7 +10,7 @@ use Rattle.proc_language.specs.declared.module.Import.{Import}
 use Rattle.proc_language.specs.declared.module.Global.{Global}
 use Rattle.proc_language.specs.Limits.{Each, NameFits, ImportFits, GlobalFits, SealsFit}
 use Rattle.proc_grammar.specs.declared.header.ModuleHeader.{ModuleHeader}
-use Rattle.proc_grammar.specs.Makes.{Makes, TokenMakes}
+use Rattle.proc_grammar.specs.Makes.{Actions, TokenActions}
 use Rattle.proc_grammar.specs.Grammar.{behind_arg, behind_param, behind_local, behind_params, Taken}
 use Rattle.proc_grammar.specs.Grammar.{none_taken}
 
@@ -37,7 +37,7 @@ pub record Limits (E A S P V R M : Type 0) : Type 1 where
   pub Proc : R → Type 0
   pub Module : M → Type 0
 
-module _ {E A S P V R M : Type 0} (T : Makes E A S P V R M) (L : Limits E A S P V R M) where
+module _ {E A S P V R M : Type 0} (T : Actions E A S P V R M) (L : Limits E A S P V R M) where
   -- an argument, a parameter or a local may stand before others
   abbrev pub Leads : ℕ → A → Type 0
   Leads used a = (args : List A) → L.Args (behind_arg T used a) args → L.Args used (a ∷ args)
@@ -51,7 +51,7 @@ module _ {E A S P V R M : Type 0} (T : Makes E A S P V R M) (L : Limits E A S P 
       (v ∷ locals)
 
   -- what has to do with tokens keeps them
-  pub record KeepsTokens (makes : TokenMakes A S P V) : Type 0 where
+  pub record KeepsTokens (makes : TokenActions A S P V) : Type 0 where
     pub registers : (x : Name) → T.registers (makes.arg x) ≡ 0
     pub param_registers : (x : Name) → T.param_registers (makes.param x) ≡ 0
     pub param_tokens : (x : Name) → T.param_tokens (makes.param x) ≡ 1

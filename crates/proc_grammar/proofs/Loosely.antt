@@ -3,7 +3,7 @@ use Rattle.std.proofs.Common.{◌≡◌, Bool, true, false, ℕ, zero, suc, ◌+
 use Rattle.std.specs.Prelude.{codes, nat_lt}
 use Rattle.proc_grammar.specs.declared.fault.ParseFault.TheVariants.{Range, TooMany}
 use Rattle.proc_language.specs.declared.tree.Name.{Name}
-use Rattle.proc_grammar.specs.Makes.{Makes}
+use Rattle.proc_grammar.specs.Makes.{Actions}
 use Rattle.proc_grammar.specs.Lexemes.{word, words_of, sign, a_name, a_number, adding, comparing, a_start}
 use Rattle.proc_grammar.specs.Lexemes.{a_local, a_proc, square, round, end_round, comma, slash, assign}
 use Rattle.proc_language.specs.declared.TheConstants.{MOST_REGISTERS, MOST_TERMS, MOST_ITEMS, MOST_LOCALS}
@@ -36,7 +36,7 @@ Looser = loose.Looser tells
 both : (b : Bool) → b ≡ true → b ≡ true
 both b e = e
 
-module _ {E A S P V R M : Type 0} (T : Makes E A S P V R M) (n k : ℕ) (le : n ≤ k) where
+module _ {E A S P V R M : Type 0} (T : Actions E A S P V R M) (n k : ℕ) (le : n ≤ k) where
   l_name : Looser (next_name (words_of T.tokens) true) (next_name (words_of T.tokens) false)
   unfolding next_name
   l_name = loose_then (loose_same (one (a_name (words_of T.tokens))))

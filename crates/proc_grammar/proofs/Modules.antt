@@ -4,7 +4,7 @@ use Rattle.std.proofs.Common.{Option, Some, None, refl, ap, inl, inr, ◌⊎◌,
 use Rattle.std.specs.Prelude.{codes, nat_lt, ◌==◌}
 use Rattle.proc_language.specs.declared.tree.Name.{Name}
 use Rattle.proc_language.specs.Words.{is_reserved}
-use Rattle.proc_grammar.specs.Makes.{Makes}
+use Rattle.proc_grammar.specs.Makes.{Actions}
 use Rattle.proc_grammar.specs.Lexemes.{Lexeme, word, words_of, token_word, sign, a_name, a_local, a_proc}
 use Rattle.proc_grammar.specs.Lexemes.{either_way, comma, slash, round, end_round, curly, end_curly}
 use Rattle.proc_grammar.specs.Lexemes.{semicolon}
@@ -143,7 +143,7 @@ items_no_import u = elim [
   ]
 ]
 
-module _ {E A S P V R M : Type 0} (T : Makes E A S P V R M) (limits : Bool) (fuel : ℕ) where
+module _ {E A S P V R M : Type 0} (T : Actions E A S P V R M) (limits : Bool) (fuel : ℕ) where
   arity_reads : (x : Name) (used : ℕ) → Reads fuel (grammar.arity_part T limits x used)
       (grammar.arity_part T false x used) NoSlash
       (case_next (sign slash) (λ at. reading.arity_behind T limits fuel x used) (done (T.param x)))

@@ -7,7 +7,7 @@ use Rattle.std.specs.Str.{bytes_eq}
 use Rattle.std.proofs.lemmas.Bool.{or_right}
 use Rattle.proc_language.specs.declared.tree.Name.{Name}
 use Rattle.proc_language.specs.Words.{is_reserved}
-use Rattle.proc_grammar.specs.Makes.{Makes}
+use Rattle.proc_grammar.specs.Makes.{Actions}
 use Rattle.proc_grammar.specs.Lexemes.{Lexeme, word, words_of, token_word, token_words, sign, a_name}
 use Rattle.proc_grammar.specs.Lexemes.{a_start, start_in, name_text, taken, stmt_words, plain_stmt_words}
 use Rattle.proc_grammar.specs.Lexemes.{square, round, curly, end_curly, assign, semicolon}
@@ -149,7 +149,7 @@ NoElse = Lacks (word (codes "else"))
 abbrev pub BlockEnds : List Lexeme → Type 0
 BlockEnds = Head (Is (sign end_curly))
 
-module _ {E A S P V R M : Type 0} (T : Makes E A S P V R M) (limits : Bool) (room : ℕ)
+module _ {E A S P V R M : Type 0} (T : Actions E A S P V R M) (limits : Bool) (room : ℕ)
     (inner : Phrase (List S)) where
   name_heads : Heads (Is (a_name (words_of T.tokens))) (grammar.name_stmt T limits room inner)
   unfolding grammar.name_stmt grammar.name
@@ -171,7 +171,7 @@ module _ {E A S P V R M : Type 0} (T : Makes E A S P V R M) (limits : Bool) (roo
       (heads_or (heads_as (heads_added _ T.tokens (codes "spend")) (λ u h. inr (inl h)))
       (heads_as plain_heads (λ u h. inr (inr h))))
 
-module _ {E A S P V R M : Type 0} (T : Makes E A S P V R M) (limits : Bool) (fuel : ℕ) (room : ℕ)
+module _ {E A S P V R M : Type 0} (T : Actions E A S P V R M) (limits : Bool) (fuel : ℕ) (room : ℕ)
     (inner inner' : Phrase (List S)) (r : Reader (List S))
     (each : Reads fuel inner inner' BlockEnds r) where
   expr : Reads fuel (grammar.expr T limits room true) (grammar.expr T false (suc room) true) ExprEnds
@@ -321,7 +321,7 @@ module _ {E A S P V R M : Type 0} (T : Makes E A S P V R M) (limits : Bool) (fue
 
 -- ---- to any depth
 
-module _ {E A S P V R M : Type 0} (T : Makes E A S P V R M) (limits : Bool) (fuel : ℕ) where
+module _ {E A S P V R M : Type 0} (T : Actions E A S P V R M) (limits : Bool) (fuel : ℕ) where
   none_reads : Reads fuel phrases.nothing (grammar.stmts T false zero) BlockEnds expected
   unfolding grammar.stmts_with
   none_reads = reads_any (reads_none distinct ([], [], refl))

@@ -7,7 +7,7 @@ use Rattle.phrases.specs.Reading.{first}
 use Rattle.phrases.proofs.Offers.{at_end}
 use Rattle.proc_grammar.specs.declared.fault.ParseFault.{ParseFault}
 use Rattle.proc_grammar.specs.declared.fault.ParseFault.TheVariants.{Expected}
-use Rattle.proc_grammar.specs.Makes.{Makes}
+use Rattle.proc_grammar.specs.Makes.{Actions}
 use Rattle.proc_grammar.specs.Lexemes.{Lexeme}
 use Rattle.proc_grammar.specs.Grammar.{a_module, IsText, IsLoose, room_in_body}
 use Rattle.proc_grammar.specs.Reader.{Input, place_in, place}
@@ -61,7 +61,7 @@ by_result : {A : Type 0} (r : Result A ParseFault) → ((x : A) × (r ≡ Ok x))
 by_result (Ok x) = inl (x, refl)
 by_result (Err e) = inr (e, refl)
 
-module _ {E A S P V R M : Type 0} (T : Makes E A S P V R M) where
+module _ {E A S P V R M : Type 0} (T : Actions E A S P V R M) where
   -- a text within limits is one without
   loosely : (tokens : List Lexeme) (m : M) → IsText T tokens m → IsLoose T tokens m
   loosely tokens m p =

@@ -6,7 +6,7 @@ use Rattle.std.specs.Prelude.{◌==◌}
 use Rattle.std.proofs.lemmas.Bool.{eqb-true}
 use Rattle.proc_grammar.specs.declared.fault.ParseFault.{ParseFault}
 use Rattle.proc_grammar.specs.declared.fault.ParseFault.TheVariants.{Expected}
-use Rattle.proc_grammar.specs.Makes.{Makes}
+use Rattle.proc_grammar.specs.Makes.{Actions}
 use Rattle.proc_grammar.specs.Lexemes.{Lexeme}
 use Rattle.proc_grammar.specs.Grammar.{a_module, IsText, room_in_body}
 use Rattle.proc_grammar.specs.Reader.{Input, place_in, place}
@@ -17,7 +17,7 @@ use Rattle.phrases.proofs.Offers.{at_end, ok_value}
 use Rattle.proc_grammar.proofs.Modules.{module_reads}
 use Rattle.proc_grammar.proofs.Loosely.{l_module}
 
-module _ {E A S P V R M : Type 0} (T : Makes E A S P V R M) where
+module _ {E A S P V R M : Type 0} (T : Actions E A S P V R M) where
   nil_from_length : (l : List Lexeme) → length l ≡ 0 → l ≡ []
   nil_from_length [] e = refl
   nil_from_length (t ∷ l) e = absurd (omega (arith, e))

@@ -12,7 +12,7 @@ use Rattle.proc_language.specs.Limits.{Each, NameFits, ImportFits, GlobalFits}
 use Rattle.phrases.specs.Phrase.{then, only, one, nothing, many}
 use Rattle.phrases.proofs.Offers.{gives_only, gives_nothing, gives_or, gives_then, gives_next, gives_test}
 use Rattle.phrases.proofs.Offers.{gives_as, gives_many}
-use Rattle.proc_grammar.specs.Makes.{Makes}
+use Rattle.proc_grammar.specs.Makes.{Actions}
 use Rattle.proc_grammar.specs.Lexemes.{Lexeme, words_of, sign, semicolon}
 use Rattle.proc_grammar.specs.Tokens.{IsLexeme}
 use Rattle.proc_grammar.specs.Grammar as grammar
@@ -27,7 +27,7 @@ use Rattle.proc_grammar.proofs.Leaves.{Gives, gives_counted, f_name, f_num, f_im
 more_room : (n k m most : ℕ) → k ≡ m → n + m ≤ most → n + k ≤ most
 more_room n k m most e h = omega (arith, e, h)
 
-module _ {E A S P V R M : Type 0} (T : Makes E A S P V R M) (L : Limits E A S P V R M) (keeps : Keeps T L)
+module _ {E A S P V R M : Type 0} (T : Actions E A S P V R M) (L : Limits E A S P V R M) (keeps : Keeps T L)
   where
     f_word : Gives (grammar.a_word T true) NameFits
     f_word = f_name (words_of T.tokens)

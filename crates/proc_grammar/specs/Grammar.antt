@@ -14,7 +14,7 @@ use Rattle.phrases.specs.Phrase as phrases
 use Rattle.phrases.specs.Phrase.{◌>>=◌, only, one, ◌or◌, where_true, nothing, many}
 use Rattle.proc_grammar.specs.declared.header.ModuleHeader.{ModuleHeader}
 use Rattle.proc_grammar.specs.declared.taken.Taken as taken
-use Rattle.proc_grammar.specs.Makes.{Makes, TokenMakes}
+use Rattle.proc_grammar.specs.Makes.{Actions, TokenActions}
 use Rattle.proc_grammar.specs.Lexemes.{Lexeme, word, words_of, a_name, a_number, sign}
 use Rattle.proc_grammar.specs.Lexemes.{adding, comparing, dot, comma, semicolon, slash, assign, dash}
 use Rattle.proc_grammar.specs.Lexemes.{round, square, curly, end_round, end_square, end_curly}
@@ -71,7 +71,7 @@ Taken = taken.Taken
 abbrev pub none_taken : Taken
 none_taken = record { slots = 0; tokens = 0 }
 
-module _ {E A S P V R M : Type 0} (T : Makes E A S P V R M) where
+module _ {E A S P V R M : Type 0} (T : Actions E A S P V R M) where
   -- what is taken after a parameter, an argument or a local
   abbrev pub behind_param : Taken → P → Taken
   behind_param used p = record {
@@ -197,7 +197,7 @@ module _ (words : List (List ℕ)) (limits : Bool) where
       movable = movable;
     })
 
-module _ {E A S P V R M : Type 0} (T : Makes E A S P V R M) (limits : Bool) where
+module _ {E A S P V R M : Type 0} (T : Actions E A S P V R M) (limits : Bool) where
   abbrev pub a_word : Phrase Name
   a_word = name (words_of T.tokens) limits
 
@@ -216,7 +216,7 @@ module _ {E A S P V R M : Type 0} (T : Makes E A S P V R M) (limits : Bool) wher
     _ ← within limits used MOST_REGISTERS
     arity_part x used
 
-  unfoldable pub token_param : ℕ → TokenMakes A S P V → Phrase P
+  unfoldable pub token_param : ℕ → TokenActions A S P V → Phrase P
   token_param tokens makes = do
     _ ← one (word (codes "token"))
     x ← a_word
@@ -256,7 +256,7 @@ module _ {E A S P V R M : Type 0} (T : Makes E A S P V R M) (limits : Bool) wher
     _ ← one (sign semicolon)
     only (T.local x)
 
-  unfoldable pub token_local : ℕ → TokenMakes A S P V → Phrase V
+  unfoldable pub token_local : ℕ → TokenActions A S P V → Phrase V
   token_local tokens makes = do
     _ ← one (word (codes "token"))
     x ← a_word
@@ -270,7 +270,7 @@ module _ {E A S P V R M : Type 0} (T : Makes E A S P V R M) (limits : Bool) wher
   -- ---- expressions. `fits` says that the first token stands within the limits of what it is part of;
   -- `inner` are the expressions inside one more bracket
 
-  unfoldable pub token_arg : TokenMakes A S P V → Phrase A
+  unfoldable pub token_arg : TokenActions A S P V → Phrase A
   token_arg makes = do
     _ ← one (word (codes "token"))
     x ← a_word
@@ -406,10 +406,10 @@ module _ {E A S P V R M : Type 0} (T : Makes E A S P V R M) (limits : Bool) wher
     end ← one (sign semicolon)
     only (made at end x)
 
-  abbrev pub make_stmt : TokenMakes A S P V → Phrase S
+  abbrev pub make_stmt : TokenActions A S P V → Phrase S
   make_stmt makes = token_stmt (codes "make") makes.make
 
-  abbrev pub spend_stmt : TokenMakes A S P V → Phrase S
+  abbrev pub spend_stmt : TokenActions A S P V → Phrase S
   spend_stmt makes = token_stmt (codes "spend") makes.spend
 
   module _ (room : ℕ) (inner : Phrase (List S)) where
@@ -542,7 +542,7 @@ module _ {E A S P V R M : Type 0} (T : Makes E A S P V R M) (limits : Bool) wher
 abbrev pub room_in_body : ℕ
 room_in_body = MOST_BRACKETS - 1
 
-module _ {E A S P V R M : Type 0} (T : Makes E A S P V R M) where
+module _ {E A S P V R M : Type 0} (T : Actions E A S P V R M) where
   -- the tokens spell the module
   abbrev pub IsText : List Lexeme → M → Type 0
   IsText = a_module T true room_in_body

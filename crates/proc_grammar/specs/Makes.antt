@@ -9,14 +9,14 @@ use Rattle.proc_language.specs.declared.module.Global.{Global}
 use Rattle.proc_grammar.specs.declared.header.ModuleHeader.{ModuleHeader}
 
 -- what a language has besides that has tokens
-pub record TokenMakes (A S P V : Type 0) : Type 0 where
+pub record TokenActions (A S P V : Type 0) : Type 0 where
   pub param : Name → P
   pub local : Name → V
   pub arg : Name → A
   pub make : ℕ → ℕ → Name → S
   pub spend : ℕ → ℕ → Name → S
 
-pub record Makes (E A S P V R M : Type 0) : Type 0 where
+pub record Actions (E A S P V R M : Type 0) : Type 0 where
   pub number : ℕ → ℕ → E
   pub var : ℕ → Name → E
   pub element : ℕ → Name → E → E
@@ -48,4 +48,4 @@ pub record Makes (E A S P V R M : Type 0) : Type 0 where
   pub local_tokens : V → ℕ
   pub proc : ℕ → ℕ → Bool → Name → List P → List V → List S → R
   pub module_of : ModuleHeader → List Import → List Global → List R → M
-  pub tokens : Option (TokenMakes A S P V)
+  pub tokens : Option (TokenActions A S P V)

@@ -11,7 +11,7 @@ use Rattle.proc_language.specs.Tree.{Expr, number, var, element, call, op}
 use Rattle.proc_language.specs.Tree.{Stmt, set, set_at, do_call, if_then, if_else, while, return, halt}
 use Rattle.proc_language.specs.View.{args_of}
 use Rattle.proc_language.specs.StmtView.{block_of}
-use Rattle.proc_grammar.specs.Makes.{Makes}
+use Rattle.proc_grammar.specs.Makes.{Actions}
 
 -- the place of an expression's first token
 abbrev pub place_of : Expr → ℕ
@@ -26,7 +26,7 @@ abbrev pub registers_of : Arg → ℕ
 registers_of (Value e) = 1
 registers_of (Pass f) = 2
 
-abbrev pub plain_trees : Makes Expr Arg Stmt Param Name Proc ModuleFields
+abbrev pub plain_trees : Actions Expr Arg Stmt Param Name Proc ModuleFields
 plain_trees = record {
   number = number;
   var = var;

@@ -12,7 +12,7 @@ use Rattle.proc_language.specs.declared.module.Global.{Global}
 use Rattle.readers.specs.Readers.{◌>>=◌, done, holds}
 use Rattle.phrases.specs.Reading.{case_next}
 use Rattle.proc_grammar.specs.declared.header.ModuleHeader.{ModuleHeader}
-use Rattle.proc_grammar.specs.Makes.{Makes, TokenMakes}
+use Rattle.proc_grammar.specs.Makes.{Actions, TokenActions}
 use Rattle.proc_grammar.specs.Lexemes.{Lexeme, Numeral, word, words_of, a_name, a_number, sign, a_start}
 use Rattle.proc_grammar.specs.Lexemes.{a_local, a_proc, adding, comparing, dot, comma, semicolon, slash}
 use Rattle.proc_grammar.specs.Lexemes.{assign, dash, round, square, curly, end_round, end_square, end_curly}
@@ -128,7 +128,7 @@ module _ (words : List (List ℕ)) (limits : Bool) where
       movable = movable;
     })
 
-module _ {E A S P V R M : Type 0} (T : Makes E A S P V R M) (limits : Bool) (fuel : ℕ) where
+module _ {E A S P V R M : Type 0} (T : Actions E A S P V R M) (limits : Bool) (fuel : ℕ) where
   abbrev pub next_word : Reader Name
   next_word = next_name (words_of T.tokens) limits
 
@@ -147,7 +147,7 @@ module _ {E A S P V R M : Type 0} (T : Makes E A S P V R M) (limits : Bool) (fue
     case_next (sign slash) (λ at. arity_behind x used) (done (T.param x))
 
   -- after `token`
-  unfoldable pub token_param : ℕ → TokenMakes A S P V → Reader P
+  unfoldable pub token_param : ℕ → TokenActions A S P V → Reader P
   token_param tokens makes = do
     x ← next_word
     _ ← within limits tokens MOST_TOKENS x.at
@@ -183,7 +183,7 @@ module _ {E A S P V R M : Type 0} (T : Makes E A S P V R M) (limits : Bool) (fue
     done (T.local x)
 
   -- after `token`
-  unfoldable pub token_local : ℕ → TokenMakes A S P V → Reader V
+  unfoldable pub token_local : ℕ → TokenActions A S P V → Reader V
   token_local tokens makes = do
     x ← next_word
     _ ← within limits tokens MOST_TOKENS x.at
@@ -201,7 +201,7 @@ module _ {E A S P V R M : Type 0} (T : Makes E A S P V R M) (limits : Bool) (fue
   -- `inner` reads the expressions inside one more bracket
 
   -- after `token`
-  unfoldable pub token_arg : TokenMakes A S P V → Reader A
+  unfoldable pub token_arg : TokenActions A S P V → Reader A
   token_arg makes = do
     x ← next_word
     done (makes.arg x)
@@ -479,7 +479,7 @@ finished (Ok x) = if length x.1.rest == 0 then Ok x.0 else Err (Expected (place 
 finished (Err e) = Err e
 
 -- the module that the tokens spell, or the first fault, in a text that ends at this place
-unfoldable pub parsed : {E A S P V R M : Type 0} → Makes E A S P V R M → ℕ → List Lexeme → ℕ
+unfoldable pub parsed : {E A S P V R M : Type 0} → Actions E A S P V R M → ℕ → List Lexeme → ℕ
     → Result M ParseFault
 parsed T fuel tokens end =
     finished (next_module T true fuel room_in_body (record { rest = tokens; end = end }))

@@ -3,19 +3,19 @@ use Rattle.std.specs.Prelude.{◌≡◌, ℕ, List, [], ◌∷◌, ◌++◌, Som
 use Rattle.phrases.specs.Reading.{first}
 use Rattle.proc_grammar.specs.declared.fault.ParseFault.{ParseFault}
 use Rattle.proc_grammar.specs.Fault.{limit_place}
-use Rattle.proc_grammar.specs.Makes.{Makes}
+use Rattle.proc_grammar.specs.Makes.{Actions}
 use Rattle.proc_grammar.specs.Lexemes.{Lexeme}
 use Rattle.proc_grammar.specs.Grammar.{IsLoose}
 use Rattle.proc_grammar.specs.Reader.{place_in}
 
-module _ {E A S P V R M : Type 0} (T : Makes E A S P V R M) where
+module _ {E A S P V R M : Type 0} (T : Actions E A S P V R M) where
   -- a module begins with these tokens, limits passed over
   abbrev pub Begins : List Lexeme → Type 0
   Begins tokens = (more : List Lexeme) × (m : M) × IsLoose T (tokens ++ more) m
 
 -- The tokens before this place begin a module, limits passed over; and with the token that stands there,
 -- or with the text's end, no module goes on.
-pub record IsExpected {E A S P V R M : Type 0} (T : Makes E A S P V R M) (tokens : List Lexeme)
+pub record IsExpected {E A S P V R M : Type 0} (T : Actions E A S P V R M) (tokens : List Lexeme)
     (end at : ℕ) : Type 0 where
   pub before : List Lexeme
   pub rest : List Lexeme
@@ -31,7 +31,7 @@ StandsIn tokens fault =
     × (tokens ≡ before ++ t ∷ behind) × (limit_place fault ≡ Some t.at)
 
 -- the fault is that of a limit, at a token up to which the tokens begin a module, limits passed over
-pub record IsBeyond {E A S P V R M : Type 0} (T : Makes E A S P V R M) (tokens : List Lexeme)
+pub record IsBeyond {E A S P V R M : Type 0} (T : Actions E A S P V R M) (tokens : List Lexeme)
     (fault : ParseFault) : Type 0 where
   pub before : List Lexeme
   pub token : Lexeme

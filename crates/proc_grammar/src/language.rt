@@ -1,6 +1,6 @@
 //! What a language of this grammar makes of what is read.
 ghost use Rattle.std.specs.Prelude.{◌≡◌, IfOk, IfSome, option_map, is_some};
-ghost use Rattle.proc_grammar.specs.Makes.{Makes};
+ghost use Rattle.proc_grammar.specs.Makes.{Actions};
 ghost use Rattle.proc_grammar.specs.Lexemes.{taken, words_of};
 
 use crate::header::ModuleHeader;
@@ -32,7 +32,7 @@ pub trait Language {
     /// A module.
     type Module: Drop;
 
-    ghost made: { Makes Self.Expr Self.Arg Self.Stmt Self.Param Self.Local Self.Proc Self.Module };
+    ghost made: { Actions Self.Expr Self.Arg Self.Stmt Self.Param Self.Local Self.Proc Self.Module };
 
     /// Whether the language has tokens.
     fn has_tokens() -> bool

@@ -6,7 +6,7 @@ use Rattle.std.proofs.lemmas.List.Elements.{All-cons}
 use Rattle.std.specs.Prelude.{All, Contains}
 use Rattle.std.proofs.lemmas.Bool.Decides.{nat_tests}
 use Rattle.proc_names.specs.declared.fault.NameFault.{NameFault}
-use Rattle.proc_names.specs.Faults.{comes_first, earlier, first, fault_place, fault_number, IsFirst}
+use Rattle.proc_names.specs.Faults.{comes_first, earlier, first, fault_place, fault_number, IsFirstFault}
 
 abbrev before : ℕ → ℕ → ℕ → ℕ → Bool
 before a b c d = nat_lt a c || ((a == c) && nat_le b d)
@@ -112,29 +112,29 @@ first_none (f ∷ fs) h = absurd (no (first fs) h)
     no (Some g) e = let k : Some (two f g) ≡ None = sym (some_two f g) ∙ e in cc
 
 module _ (g : NameFault) (fs : List NameFault) (f : NameFault) where
-  chosen : (k : NameFault) → IsFirst fs k → (b : Bool) → comes_first g k ≡ b → (if b then g else k) ≡ f
-      → IsFirst (g ∷ fs) f
+  chosen : (k : NameFault) → IsFirstFault fs k → (b : Bool) → comes_first g k ≡ b → (if b then g else k) ≡ f
+      → IsFirstFault (g ∷ fs) f
   chosen k before true c is =
-      subst (IsFirst (g ∷ fs)) is (record {
+      subst (IsFirstFault (g ∷ fs)) is (record {
         one = Contains-here g fs;
         least = All-cons (λ h. IsTrue (comes_first g h)) g fs (first_self g)
             (all_behind g k fs c before.least);
       })
   chosen k before false c is =
-      subst (IsFirst (g ∷ fs)) is (record {
+      subst (IsFirstFault (g ∷ fs)) is (record {
         one = Contains-behind g fs k before.one;
         least = All-cons (λ h. IsTrue (comes_first k h)) g fs (first_else g k c) before.least;
       })
 
   among : (found : Option NameFault) → first fs ≡ found
-      → ((k : NameFault) → first fs ≡ Some k → IsFirst fs k)
-      → earlier (Some g) found ≡ Some f → IsFirst (g ∷ fs) f
+      → ((k : NameFault) → first fs ≡ Some k → IsFirstFault fs k)
+      → earlier (Some g) found ≡ Some f → IsFirstFault (g ∷ fs) f
   among None e behind is =
       let same : g ≡ f = cc in
       let none : fs ≡ [] = first_none fs e in
       let before_none : All (λ h. IsTrue (comes_first g h)) fs =
       subst (All (λ h. IsTrue (comes_first g h))) (sym none) (λ k d h. absurd (omega (arith, h))) in
-      subst (IsFirst (g ∷ fs)) same (record {
+      subst (IsFirstFault (g ∷ fs)) same (record {
         one = Contains-here g fs;
         least = All-cons (λ h. IsTrue (comes_first g h)) g fs (first_self g) before_none;
       })
@@ -144,6 +144,6 @@ module _ (g : NameFault) (fs : List NameFault) (f : NameFault) where
       chosen k (behind k e) (comes_first g k) refl same_too
 
 -- what is answered is the first
-pub is_first : (fs : List NameFault) (f : NameFault) → first fs ≡ Some f → IsFirst fs f
+pub is_first : (fs : List NameFault) (f : NameFault) → first fs ≡ Some f → IsFirstFault fs f
 is_first [] f h = absurd (let k : None ≡ Some f = h in cc)
 is_first (g ∷ fs) f h = among g fs f (first fs) refl (λ k e. is_first fs k e) h

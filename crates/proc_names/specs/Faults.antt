@@ -24,7 +24,7 @@ comes_first f g =
     || ((fault_place f == fault_place g) && nat_le (fault_number f) (fault_number g))
 
 -- it is one of them, and none of them comes before it
-pub record IsFirst (fs : List NameFault) (f : NameFault) : Type 0 where
+pub record IsFirstFault (fs : List NameFault) (f : NameFault) : Type 0 where
   pub one : Contains fs f
   pub least : All (λ g. IsTrue (comes_first f g)) fs
 

@@ -3,7 +3,7 @@ ghost use Rattle.std.specs.Prelude.{◌≡◌, ◌==◌, ◌↔◌, [], IsOk, If
 ghost use Rattle.proc_language.specs.Limits.{arg_registers};
 ghost use Rattle.proc_language.specs.View.{args_of};
 ghost use Rattle.proc_language.specs.StmtView.{block_of};
-ghost use Rattle.proc_names.specs.Faults.{first, IsFirst, unless};
+ghost use Rattle.proc_names.specs.Faults.{first, IsFirstFault, unless};
 ghost use Rattle.proc_names.specs.Names.{variable_named, callee_named, passed_named};
 ghost use Rattle.proc_names.specs.NameFaults.{plain_faults, array_faults, fit, registers_fit, callback_arity};
 ghost use Rattle.proc_names.specs.NameFaults.{import_arity, fit_proc, call_faults, passed_faults};
@@ -22,7 +22,7 @@ use proc_language::{
 /// memory.
 pub fn resolve(m: &Module) -> Result<(), NameFault>
     ensures fine { IsOk result ↔ (name_faults m.now ≡ []) }
-    ensures first { IfErr result (IsFirst (name_faults m.now)) }
+    ensures first { IfErr result (IsFirstFault (name_faults m.now)) }
     // The same as a function: so there is one answer.
     ensures is { result ≡ resolved m.now }
 {

@@ -15,7 +15,7 @@ use Rattle.proc_grammar.specs.declared.fault.ParseFault.TheVariants.{Scan, Expec
 use Rattle.proc_grammar.specs.Fault.{Fails}
 use Rattle.proc_grammar.specs.Lexemes.{Meaning, adding, sign, square, round, end_round, a_proc}
 use Rattle.proc_grammar.specs.Lexemes.{Lexeme, word, token_word, words_of}
-use Rattle.proc_grammar.specs.Makes.{Makes}
+use Rattle.proc_grammar.specs.Makes.{Actions}
 use Rattle.proc_grammar.specs.Grammar.{one_more, operated, sum_of, room_in_body}
 use Rattle.proc_grammar.specs.Reader.{Input, Reader, tells, many, one, expected, case_token}
 use Rattle.proc_grammar.specs.Reading.{full, another_term, next_term, inner_expr, next_expr, expr_with}
@@ -229,7 +229,7 @@ module _ {Q A B : Type 0} (begins : Meaning B) (next : Q → A → Q) (r : Q →
       ∙ front_ok (a ∷ []) (many full begins next r (next q a) i1) v i2 close rest
       ∙ ap (λ p. goes_on p (λ z. done v)) e) fails
 
-module _ {E A S P V R M : Type 0} (T : Makes E A S P V R M) where
+module _ {E A S P V R M : Type 0} (T : Actions E A S P V R M) where
   -- ---- brackets
 
   pub of_room : (n : ℕ) (fits : Bool) (i : Input) → next_expr T true full n fits i ≡ expr_with

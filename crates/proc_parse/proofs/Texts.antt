@@ -15,7 +15,7 @@ use Rattle.text_scan.proofs.Offers.{placed_ends}
 use Rattle.proc_grammar.specs.declared.fault.ParseFault.{ParseFault}
 use Rattle.proc_grammar.specs.declared.fault.ParseFault.TheVariants.{Scan, Expected, Range, TooMany, NoMemory}
 use Rattle.proc_grammar.specs.Fault.{AnswersAs, Fails, limit_place}
-use Rattle.proc_grammar.specs.Makes.{Makes}
+use Rattle.proc_grammar.specs.Makes.{Actions}
 use Rattle.proc_grammar.specs.Grammar.{IsText}
 use Rattle.proc_grammar.specs.Lexemes.{Lexeme, lexemes, seen, is_line_end}
 use Rattle.proc_grammar.specs.Reader.{place_in}
@@ -163,7 +163,7 @@ pub lexemes_few : (text : List ℕ) (tokens : List Token) → Placed 0 (length t
     → All (IsSpelled text) tokens → length (lexemes text tokens) ≤ length text
 lexemes_few text tokens p h = let few = few_from text 0 tokens p h in omega (arith, few)
 
-module _ {E A S P V R M : Type 0} (T : Makes E A S P V R M) where
+module _ {E A S P V R M : Type 0} (T : Actions E A S P V R M) where
   passes_before : (text : List ℕ) (at : ℕ) (e : ParseFault) (n : ℕ) → limit_place e ≡ Some n → n < at
       → Passes T text e → PassesBefore T text at e
   passes_before text at (Scan s) n is lt h = absurd (let none : None ≡ Some n = is in cc)
@@ -300,7 +300,7 @@ module _ {E A S P V R M : Type 0} (T : Makes E A S P V R M) where
 
 -- ---- what is read is spelled
 
-pub read_spelled : {E A S P V R M : Type 0} (T : Makes E A S P V R M) (text : List ℕ) (m : M)
+pub read_spelled : {E A S P V R M : Type 0} (T : Actions E A S P V R M) (text : List ℕ) (m : M)
     → ((tokens : List Token) → scanned text ≡ Ok tokens → HasTokens text tokens)
     → (r : Result (List Token) ScanFault) → scanned text ≡ r → parsed_scan T text r ≡ Ok m → Spells T text m
 read_spelled T text m has (Ok tokens) s e =

@@ -3,7 +3,7 @@ use Rattle.std.specs.Prelude.{ℕ, ◌-◌, true, codes, length, List, [], ◌�
 use Rattle.readers.specs.Readers.{◌>>=◌, goes_on, done}
 use Rattle.proc_grammar.specs.declared.fault.ParseFault.{ParseFault}
 use Rattle.proc_grammar.specs.Lexemes.{Meaning, adding, sign, comma, end_round, a_proc, word, words_of}
-use Rattle.proc_grammar.specs.Makes.{Makes}
+use Rattle.proc_grammar.specs.Makes.{Actions}
 use Rattle.proc_grammar.specs.Grammar.{one_more, sum_of, room_in_body, none_taken, behind_arg, behind_param}
 use Rattle.proc_grammar.specs.Reader.{Input, Reader, one, many}
 use Rattle.proc_grammar.specs.Reading.{full, another_term, another_arg, inner_expr, another_param}
@@ -32,7 +32,7 @@ module _ {Q A B : Type 0} (begins : Meaning B) (next : Q → A → Q) (another :
     _ ← one (sign end_round)
     done (first ∷ others)
 
-module _ {E A S P V R M : Type 0} (T : Makes E A S P V R M) where
+module _ {E A S P V R M : Type 0} (T : Actions E A S P V R M) where
   -- the terms after the sum so far, which has so many
   unfoldable pub terms_behind : ℕ → ℕ → ℕ → E → Reader E
   terms_behind room n count sum =

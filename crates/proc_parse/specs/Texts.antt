@@ -6,7 +6,7 @@ use Rattle.text_scan.specs.Tokens.{scanned}
 use Rattle.text_scan.specs.Grammar.{HasTokens, HasFault}
 use Rattle.proc_grammar.specs.declared.fault.ParseFault.{ParseFault}
 use Rattle.proc_grammar.specs.declared.fault.ParseFault.TheVariants.{Scan, Expected, Range, TooMany, NoMemory}
-use Rattle.proc_grammar.specs.Makes.{Makes}
+use Rattle.proc_grammar.specs.Makes.{Actions}
 use Rattle.proc_grammar.specs.Grammar.{IsText}
 use Rattle.proc_grammar.specs.Lexemes.{lexemes, is_line_end}
 use Rattle.proc_grammar.specs.Reading.{full, parsed}
@@ -17,7 +17,7 @@ abbrev pub proper : List Token → List Token
 proper [] = []
 proper (t ∷ tokens) = if is_line_end t.kind then proper tokens else t ∷ proper tokens
 
-module _ {E A S P V R M : Type 0} (T : Makes E A S P V R M) where
+module _ {E A S P V R M : Type 0} (T : Actions E A S P V R M) where
   abbrev pub parsed_scan : List ℕ → Result (List Token) ScanFault → Result M ParseFault
   parsed_scan text (Ok tokens) = parsed T full (lexemes text tokens) (length text)
   parsed_scan text (Err e) = Err (Scan e)

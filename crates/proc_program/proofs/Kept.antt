@@ -30,7 +30,8 @@ use Rattle.proc_program.specs.Lower.{args_of, step_of, steps_of, procedure_of, p
 use Rattle.proc_program.specs.Lower.{import_of, part_of}
 use Rattle.proc_program.specs.Limits.{VariableWithin, CalleeWithin, register_count, registers_of}
 use Rattle.proc_program.specs.Limits.{arg_registers, Scope, scope_of, PlaceFits, RowFits, HandleFits, ExpFits}
-use Rattle.proc_program.specs.Limits.{ArgsFit, StepFits, BlockFits, ProcedureFits, LoweredImportFits, IsPart}
+use Rattle.proc_program.specs.Limits.{ArgsFit, StepFits, BlockFits, ProcedureFits, LoweredImportFits}
+use Rattle.proc_program.specs.Limits.{IsProgram}
 use Rattle.proc_program.specs.View.{args_of as args_view}
 use Rattle.proc_program.specs.StepView.{block_of as block_view}
 use Rattle.proc_program.proofs.Limits.{words_before, registers_before, variable_within, callee_within}
@@ -199,7 +200,7 @@ globals_fit [] w = tt
 globals_fit (g ∷ gs) w = each_same (words g) _ (globals_of gs) (initial_fits g.initial w.0.2)
     (globals_fit gs w.1)
 
-pub part_fits : (m : ModuleFields) → IsModule m → IsPart (part_of m)
+pub part_fits : (m : ModuleFields) → IsModule m → IsProgram (part_of m)
 unfolding s
 part_fits m limits =
     let n = procs-length m 0 m.procs in

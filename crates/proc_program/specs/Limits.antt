@@ -127,7 +127,7 @@ pub record HeaderFits (head : Header) : Type 0 where
   pub closure : head.closure ≤ LAST_PLACE
   pub returns : SealsFit head.returns head.return_count
 
-pub record IsPart (part : Program) : Type 0 where
+pub record IsProgram (part : Program) : Type 0 where
   pub name : IsTrue (is_source_name part.name)
   pub stack : part.stack ≤ LAST_PLACE
   pub header : HeaderFits part.header

@@ -4,7 +4,7 @@ ghost use Rattle.proc_language.specs.declared.module.ModuleFields.{ModuleFields}
 ghost use Rattle.proc_language.specs.Limits.{IsModule};
 ghost use Rattle.proc_names.specs.Calls.{module_calls};
 ghost use Rattle.proc_program.specs.Calls.{part_calls};
-ghost use Rattle.proc_program.specs.Limits.{IsPart};
+ghost use Rattle.proc_program.specs.Limits.{IsProgram};
 ghost use Rattle.proc_program.specs.Lower.{part_of};
 
 /// The program of a module within the limits keeps those of programs.
@@ -13,7 +13,7 @@ ghost use Rattle.proc_program.specs.Lower.{part_of};
 /// frames and words have.
 #[tactic(auto, using(crate::proofs::Kept::part_fits))]
 pub fn programs_keep_limits()
-    ensures { (m : ModuleFields) → IsModule m → IsPart (part_of m) }
+    ensures { (m : ModuleFields) → IsModule m → IsProgram (part_of m) }
 {}
 
 /// A module's program has as many calls as the module.

@@ -7,7 +7,7 @@ use Rattle.proc_language.specs.declared.module.ModuleFields.{ModuleFields}
 use Rattle.proc_names.specs.Calls.{module_calls}
 use Rattle.proc_program.specs.Lower.{part_of}
 use Rattle.proc_templates.specs.Compiled.{code_words, data_count, compiled}
-use Rattle.proc_compiler.specs.Fault.{Compiles, Causes}
+use Rattle.proc_compiler.specs.Fault.{Compiles, CausesFault}
 use Rattle.proc_compiler.specs.declared.fault.CompileFault.{CompileFault}
 use Rattle.proc_compiler.specs.declared.fault.CompileFault.TheVariants.{TooLarge, SealsShort, NoMemory}
 use Rattle.proc_sources.specs.Sources.{is_large, compile_answer}
@@ -40,7 +40,8 @@ pub compiles_so : (m : ModuleFields) → Compiles m → compile_answer m ≡ Ok 
 unfolding compile_answer
 compiles_so m c = rw (small m c.0.0 c.0.1, not_below m.return_count (module_calls m) c.1) refl
 
-pub fails_so : (m : ModuleFields) (f : CompileFault) → f ≢ NoMemory → Causes m f → compile_answer m ≡ Err f
+pub fails_so : (m : ModuleFields) (f : CompileFault) → f ≢ NoMemory → CausesFault m f
+    → compile_answer m ≡ Err f
 unfolding compile_answer
 fails_so m TooLarge n (inl c) =
     rw (or_left _ (nat_lt MOST_WORDS (data_count (part_of m))) (below MOST_WORDS (code_words (part_of m)) c))

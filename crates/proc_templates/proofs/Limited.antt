@@ -29,7 +29,7 @@ use Rattle.proc_language.specs.Limits as language
 use Rattle.proc_program.specs.StepView.{block_of}
 use Rattle.proc_language.specs.Words.{is_source_name}
 use Rattle.proc_program.specs.Limits as program_limits
-use Rattle.proc_program.specs.Limits.{scope_of, ProcedureFits, IsPart}
+use Rattle.proc_program.specs.Limits.{scope_of, ProcedureFits, IsProgram}
 use Rattle.proc_templates.specs.Items.{is_last, Spot, Item, Laid, does, guards, goes, goes_if, finishes}
 use Rattle.proc_templates.specs.Items.{label, site, entry, leaves, instrs, zero_of, FAIL_AT, LITERAL_AT}
 use Rattle.proc_templates.specs.Items.{word_of, with_label, put, lay}
@@ -330,7 +330,7 @@ globals_good : (zs : List ℤ) → language.Each (FitsSigned w64) zs → AllGood
 globals_good [] f = tt
 globals_good (z ∷ zs) f = ((f.0, tt), globals_good zs f.1)
 
-data_words_good : (m : Program) → IsPart m → AllGood (first_data m)
+data_words_good : (m : Program) → IsProgram m → AllGood (first_data m)
 unfolding first_data
 data_words_good m f =
     good_both (replicate (pair_count m) (Int (pos 0))) (map int_word m.globals)

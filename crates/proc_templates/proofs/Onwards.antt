@@ -21,7 +21,7 @@ use Rattle.flow_rules.specs.declared.flow.Walk.TheVariants.{Before as before, En
 use Rattle.flow_rules.specs.Flow.{flow, ask, led, shows_nothing}
 use Rattle.flow_rules.specs.Places.{begins_entry, begins_site, declared}
 use Rattle.flow_rules.specs.Walk.{instr_at, instr_in, keep, comes_in, site_ready, passes, good_target}
-use Rattle.flow_rules.specs.Walk.{after_flow, at_row, past, at_word, next_from, next, Comes}
+use Rattle.flow_rules.specs.Walk.{after_flow, at_row, past, at_word, next_from, next, Arrives}
 use Rattle.proc_templates.specs.Compiled.{label_row}
 use Rattle.proc_templates.specs.Ready.{is_low, is_quiet}
 use Rattle.proc_templates.proofs.Rows.{Works, low-kind, stk-kind, data-kind, sets-t2, t2-set, quiet_goes}
@@ -45,20 +45,20 @@ module _ (c : ComponentFields) where
   pub record Onward (o : ℕ) : Type 0 where
     pub current : Option Row
     pub worked : Worked current
-    pub comes : Comes c (before o current)
+    pub comes : Arrives c (before o current)
 
   -- the same, with t2 at a place in the code
   pub record Aimed (o p : ℕ) : Type 0 where
     pub row : Row
     pub works : Works row
     pub t2 : kind_of row T2 ≡ kind.Pc p
-    pub comes : Comes c (before o (Some row))
+    pub comes : Arrives c (before o (Some row))
 
-  pub steps : (w : Walk) → Comes c w → Comes c (next c w)
+  pub steps : (w : Walk) → Arrives c w → Arrives c (next c w)
   steps w h = (suc h.0, ap (next c) h.1)
 
-  pub moved : (w x : Walk) → w ≡ x → Comes c w → Comes c x
-  moved w x e h = subst (Comes c) e h
+  pub moved : (w x : Walk) → w ≡ x → Arrives c w → Arrives c x
+  moved w x e h = subst (Arrives c) e h
 
   inside : (o : ℕ) (i : Instr) → instr_at c o ≡ Some i → nat_lt o (length c.code) ≡ true
   unfolding instr_at
@@ -105,23 +105,23 @@ module _ (c : ComponentFields) where
 
   -- a word, before which there is a row that works or none
   pub data AtWord (o : ℕ) (i : Instr) : Type 0 where
-    idle : Comes c (before (o + 1) None) → AtWord o i
-    busy : (r : Row) → Works r → Comes c (after_flow c o r (flow i o r)) → AtWord o i
+    idle : Arrives c (before (o + 1) None) → AtWord o i
+    busy : (r : Row) → Works r → Arrives c (after_flow c o r (flow i o r)) → AtWord o i
 
   pub enter : (o : ℕ) (i : Instr) → Stands o i → AtMostLabel o → Onward o → AtWord o i
   enter o i s l h = by_label l h.current h.worked h.comes
     where
-      by_label : AtMostLabel o → (current : Option Row) → Worked current → Comes c (before o current)
+      by_label : AtMostLabel o → (current : Option Row) → Worked current → Arrives c (before o current)
           → AtWord o i
       by_label (inl d) None w h = idle (moved _ _ (bare_none o i s d) (steps _ h))
       by_label (inl d) (Some r) w h = busy r w (moved _ _ (bare_row o i r s d) (steps _ h))
       by_label (inr d) current w h =
           busy label_row label_works (moved _ _ (at_label o i current s d w) (steps _ h))
 
-  pub none_on : (o : ℕ) → Comes c (before o None) → Onward o
+  pub none_on : (o : ℕ) → Arrives c (before o None) → Onward o
   none_on o h = record { current = None; worked = tt; comes = h }
 
-  pub some_on : (o : ℕ) (r : Row) → Works r → Comes c (before o (Some r)) → Onward o
+  pub some_on : (o : ℕ) (r : Row) → Works r → Arrives c (before o (Some r)) → Onward o
   some_on o r w h = record { current = Some r; worked = w; comes = h }
 
   pub aimed_on : (o p : ℕ) → Aimed o p → Onward o
@@ -161,7 +161,7 @@ module _ (c : ComponentFields) where
 
   -- `move t2 pc`, `cca t2 far`: either nothing is current, or t2 leads to the target
   pub data Aims (o p : ℕ) : Type 0 where
-    dead : Comes c (before o None) → Aims o p
+    dead : Arrives c (before o None) → Aims o p
     live : Aimed o p → Aims o p
 
   move_pc : (o : ℕ) (r : Row) → flow (Move T2 (R Pc)) o r ≡ flows None (Some (set_kind r T2 (kind.Pc o)))
@@ -265,8 +265,8 @@ module _ (c : ComponentFields) where
 
   -- nothing is current, or t2 too is below any
   pub data Clear (o : ℕ) : Type 0 where
-    over : Comes c (before o None) → Clear o
-    clean : (r : Row) → Works r → below_any (kind_of r T2) ≡ true → Comes c (before o (Some r)) → Clear o
+    over : Arrives c (before o None) → Clear o
+    clean : (r : Row) → Works r → below_any (kind_of r T2) ≡ true → Arrives c (before o (Some r)) → Clear o
 
   pub clears : (o : ℕ) → Stands o (Move T2 (Imm (pos 0))) → AtMostLabel o → Onward o → Clear (o + 1)
   clears o s l h = by (enter o _ s l h)
@@ -310,7 +310,7 @@ module _ (c : ComponentFields) where
       ∙ asked 10 _ _ (shows r w k)
 
   pub leave : (o : ℕ) → Stands o (Xjmp Rcode Rdata) → declared c o ≡ None → Clear o
-      → Comes c (before (o + 1) None)
+      → Arrives c (before (o + 1) None)
   leave o s d (over h) = moved _ _ (bare_none o _ s d) (steps _ h)
   leave o s d (clean r w k h) = moved _ _ (bare_row o _ r s d ∙ ap (after_flow c o r) (xjmp_flow o r w k))
       (steps _ h)
@@ -352,7 +352,7 @@ module _ (c : ComponentFields) where
       label_site current w d = rw (s.within, s.entry, d)
           (kept 8 o _ (at_row c o label_row) (comes-label current w) ∙ site_row o label_row s label_works)
 
-      by_label : AtMostLabel o → (current : Option Row) → Worked current → Comes c (before o current)
+      by_label : AtMostLabel o → (current : Option Row) → Worked current → Arrives c (before o current)
           → Onward (o + SITE_WORDS)
       by_label (inl d) None w h = none_on _ (moved _ _ (bare_none_site d) (steps _ h))
       by_label (inl d) (Some r) w h =
@@ -364,7 +364,7 @@ module _ (c : ComponentFields) where
     pub within : nat_lt o (length c.code) ≡ true
     pub entry : begins_entry c o ≡ true
 
-  pub over_entry : (o : ℕ) → BeginsEntry o → Comes c (before o None) → Onward (o + ENTRY_WORDS)
+  pub over_entry : (o : ℕ) → BeginsEntry o → Arrives c (before o None) → Onward (o + ENTRY_WORDS)
   unfolding next_from
   over_entry o s h = some_on _ clean_row clean_works (moved _ _ from_none (steps _ h))
     where
@@ -373,15 +373,15 @@ module _ (c : ComponentFields) where
 
   -- a word before any row
   pub over_idle : (o : ℕ) → nat_lt o (length c.code) ≡ true → begins_entry c o ≡ false
-      → begins_site c o ≡ false → declared c o ≡ None → Comes c (before o None)
-      → Comes c (before (o + 1) None)
+      → begins_site c o ≡ false → declared c o ≡ None → Arrives c (before o None)
+      → Arrives c (before (o + 1) None)
   unfolding next_from at_word past
   over_idle o w e s d h = moved _ _ from_none (steps _ h)
     where
       from_none : next_from c o None ≡ before (o + 1) None
       from_none = rw (w, e, d, s) refl
 
-  pub over_end : (o : ℕ) → o ≡ length c.code → Comes c (before o None) → Comes c ended
+  pub over_end : (o : ℕ) → o ≡ length c.code → Arrives c (before o None) → Arrives c ended
   unfolding next_from
   over_end o e h = moved _ _ from_none (steps _ h)
     where

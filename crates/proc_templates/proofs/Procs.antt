@@ -13,7 +13,7 @@ use Rattle.proc_program.specs.Program.{Block}
 use Rattle.proc_program.specs.Limits.{register_count, registers_of}
 use Rattle.flow_rules.specs.declared.flow.Walk.TheVariants.{Before as before}
 use Rattle.flow_rules.specs.Places.{declared}
-use Rattle.flow_rules.specs.Walk.{Comes}
+use Rattle.flow_rules.specs.Walk.{Arrives}
 use Rattle.proc_templates.specs.declared.FrameShape.{FrameShape}
 use Rattle.proc_templates.specs.Items.{Spot, Item, does, label, entry, leaves, zero_of, FAIL_AT}
 use Rattle.proc_templates.specs.Templates.{block_words, block_code, arguments, check_words, checks_words}
@@ -51,7 +51,7 @@ wipe-size (suc n) = same_size _ _ _ (omega arith) (one _ _ _ (one _ _ _ (wipe-si
 -- ---- the last words
 
 module _ (c : ComponentFields) (spot : Spot) where
-  over_leaves : (o : ℕ) → Carries c spot o (leaves ∷ []) → Onward c o → Comes c (before (o + 10) None)
+  over_leaves : (o : ℕ) → Carries c spot o (leaves ∷ []) → Onward c o → Arrives c (before (o + 10) None)
   unfolding is_quiet
   over_leaves o h on =
       let e : o + 1 + 1 + 1 + 1 + 1 + 1 + 1 + 1 + 1 + 1 ≡ o + 10 = omega arith in
@@ -73,7 +73,7 @@ module _ (c : ComponentFields) (spot : Spot) where
       let k6 = clear_quiet c _ _ t6.0.stands t6.0.bare refl k5 in
       let k7 = clear_quiet c _ _ t7.0.stands t7.0.bare refl k6 in
       let k8 = clear_quiet c _ _ t8.0.stands t8.0.bare refl k7 in
-      subst (λ z. Comes c (before z None)) e (leave c _ t8.1.0.stands t8.1.0.bare k8)
+      subst (λ z. Arrives c (before z None)) e (leave c _ t8.1.0.stands t8.1.0.bare k8)
 
 -- ---- what is pushed
 
@@ -155,7 +155,7 @@ module _ (f : FrameShape) (params : List Bool) (fits : FrameFits f params) where
 module _ (c : ComponentFields) (fails : c.fail_at ≡ Some FAIL_AT) (spot : Spot)
     (low : spot.epilogue ≤ LAST_OFFSET) where
   over_epilogue : (w o : ℕ) → Carries c spot o (epilogue w) → Onward c o
-      → Comes c (before (after o (epilogue w)) None)
+      → Arrives c (before (after o (epilogue w)) None)
   unfolding is_free ends_or_goes is_quiet
   over_epilogue w o h on =
       let X : List Item = does (zero_of T1) ∷ wipe (w - 2) in
@@ -166,13 +166,13 @@ module _ (c : ComponentFields) (fails : c.fail_at ≡ Some FAIL_AT) (spot : Spot
       (wipe_free (w - 2)) on in
       let on2 = over_all c fails spot q Y (carries_left c spot q Y (leaves ∷ []) hy) refl on1 in
       let e : after o (epilogue w) ≡ after q Y + 10 = after-append o X (Y ++ (leaves ∷ [])) in
-      subst (λ z. Comes c (before z None)) (sym e)
+      subst (λ z. Arrives c (before z None)) (sym e)
       (over_leaves c spot (after q Y) (carries_right c spot q Y (leaves ∷ []) hy) on2)
 
   pub over_proc : (f : FrameShape) (params : List Bool) (body : Block) → FrameFits f params → (o : ℕ)
       → spot.epilogue ≡ o + before_epilogue f params body
-      → Carries c spot o (proc_code f params body) → Comes c (before o None)
-      → Comes c (before (after o (proc_code f params body)) None)
+      → Carries c spot o (proc_code f params body) → Arrives c (before o None)
+      → Arrives c (before (after o (proc_code f params body)) None)
   unfolding before_epilogue is_free ends_or_goes is_quiet
   over_proc f params body fits o at h on =
       let P = check_params 0 params in
@@ -203,4 +203,4 @@ module _ (c : ComponentFields) (fails : c.fail_at ≡ Some FAIL_AT) (spot : Spot
       let last = over_epilogue f.words (o4 + 1) h4.1.1 on5 in
       let e : after o (proc_code f params body) ≡ after (o4 + 1) (epilogue f.words) =
       after-append o1 P (U ++ (B ++ E)) ∙ after-append o2 U (B ++ E) ∙ after-append o3 B E in
-      subst (λ z. Comes c (before z None)) (sym e) last
+      subst (λ z. Arrives c (before z None)) (sym e) last

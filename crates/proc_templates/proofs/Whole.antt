@@ -9,7 +9,7 @@ use Rattle.proc_program.specs.declared.program.Program.{Program}
 use Rattle.proc_program.specs.declared.program.Procedure.{Procedure}
 use Rattle.proc_program.specs.StepView.{block_of}
 use Rattle.flow_rules.specs.declared.flow.Walk.TheVariants.{Before as before, Ended as ended}
-use Rattle.flow_rules.specs.Walk.{Comes}
+use Rattle.flow_rules.specs.Walk.{Arrives}
 use Rattle.proc_templates.specs.Items.{Spot, Laid, lay, FAIL_AT}
 use Rattle.proc_templates.specs.Templates.{proc_code, before_epilogue}
 use Rattle.proc_templates.specs.Compiled.{frame_of, size_of_proc, head_of, lay_proc, lay_procs, laid_of}
@@ -73,7 +73,7 @@ module _ (m : Program) where
 
     one_proc : (l : Laid) (p : Procedure) → ProcReady m p → length (lay_proc m l p).code ≤ MOST_WORDS
         → Sound l → Rest (lay_proc m l p) c
-        → Comes c (before (length l.code) None) → Comes c (before (length (lay_proc m l p).code) None)
+        → Arrives c (before (length l.code) None) → Arrives c (before (length (lay_proc m l p).code) None)
     unfolding before_epilogue frame_of
     one_proc l p ready most s r on =
         let f = frame_of m p in
@@ -87,11 +87,11 @@ module _ (m : Program) where
         let held = carries c spot (omega (arith, low)) code l ready.items (omega (arith, n, most)) s
         (subst (λ x. Rest x c) (proc_laid l p) r) in
         let went = over_proc c fails spot low f p.callbacks b ready.frame (length l.code) refl held on in
-        subst (λ z. Comes c (before z None)) (sym (n ∙ lay-length spot code l)) went
+        subst (λ z. Arrives c (before z None)) (sym (n ∙ lay-length spot code l)) went
 
     pub over_procs : (ps : List Procedure) (l : Laid) → AllReady m ps
         → length (lay_procs m l ps).code ≤ MOST_WORDS → Sound l → Rest (lay_procs m l ps) c
-        → Comes c (before (length l.code) None) → Comes c (before (length (lay_procs m l ps).code) None)
+        → Arrives c (before (length l.code) None) → Arrives c (before (length (lay_procs m l ps).code) None)
     over_procs [] l ready most s r on = on
     over_procs (p ∷ ps) l ready most s r on =
         let e = procs-length ps (lay_proc m l p) ready.1 in
@@ -103,13 +103,13 @@ module _ (m : Program) where
     head_sound = record { sites = λ x h. refl; entries = λ x h. refl; labels = λ x h. refl }
 
     pub over_code : AllReady m m.procs → length (laid_of m).code ≤ MOST_WORDS
-        → length c.code ≡ length (laid_of m).code → Rest (laid_of m) c → Comes c ended
+        → length c.code ≡ length (laid_of m).code → Rest (laid_of m) c → Arrives c ended
     unfolding laid_of
     over_code ready most same r =
         let h = rest_procs m.procs (head_of m) r in
-        let idle = λ (o : ℕ) (lt : o < 2) (on : Comes c (before o None)). over_idle c o
+        let idle = λ (o : ℕ) (lt : o < 2) (on : Arrives c (before o None)). over_idle c o
         (within_here c (head_of m) o h lt) (h.entries o lt) (h.sites o lt) (h.labels o lt) on in
-        let on0 : Comes c (before 0 None) = (0, refl) in
+        let on0 : Arrives c (before 0 None) = (0, refl) in
         let on1 = idle 0 (omega arith) on0 in
         let on2 = idle 1 (omega arith) on1 in
         let went = over_procs m.procs (head_of m) ready most head_sound r on2 in

@@ -7,12 +7,12 @@ use Rattle.component_check.specs.Rules.{c4, c5, c6, c7, c8, c9, rules_of_trusted
 use Rattle.component_check.specs.Verdict.{NoneBroken}
 use Rattle.proc_program.specs.declared.program.Procedure.{Procedure}
 use Rattle.proc_program.specs.declared.program.Program.{Program}
-use Rattle.proc_program.specs.Limits.{IsPart}
+use Rattle.proc_program.specs.Limits.{IsProgram}
 use Rattle.proc_templates.specs.Compiled.{code_words, data_count}
 
 -- a module of which neither code nor data has too many words
 pub record FitsComponent (m : Program) : Type 0 where
-  pub limits : IsPart m
+  pub limits : IsProgram m
   pub code : code_words m ≤ MOST_WORDS
   pub data_words : data_count m ≤ MOST_WORDS
 

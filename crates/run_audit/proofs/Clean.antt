@@ -9,11 +9,12 @@ use Rattle.run_audit.specs.declared.line.Line.{Line}
 use Rattle.run_audit.specs.declared.line.Line.TheVariants.{Call, Ret, Enter, Pass, Leave, End}
 use Rattle.run_audit.specs.Told.{ToldSeen, is_wide, same_told}
 use Rattle.run_audit.specs.Lines.{is_end}
-use Rattle.run_audit.specs.Brackets.{IsOther, Leads}
-use Rattle.run_audit.specs.Brackets.Leads.{at_end, passes as goes_by, opens, closes}
+use Rattle.run_audit.specs.Brackets.{IsOther, LeavesOpen}
+use Rattle.run_audit.specs.Brackets.LeavesOpen.{at_end, passes as goes_by, opens, closes}
 use Rattle.run_audit.specs.Audit.{OpenSeen, below_newest, closed_by, stepped, audit_on, followed}
 use Rattle.run_audit.specs.Traces.{InPlace, AreInPlace, lets_pass, IsWide, HasWidth, HaveWidth, LiesBelow}
-use Rattle.run_audit.specs.Traces.{AreApart, entered_by, Spoils, misplaced, call_width, ret_width, overlaps}
+use Rattle.run_audit.specs.Traces.{CallsAreApart, entered_by, Spoils, misplaced, call_width, ret_width}
+use Rattle.run_audit.specs.Traces.{overlaps}
 use Rattle.run_audit.specs.Traces.{unopened, differs}
 use Rattle.run_audit.proofs.Same.{told_decides, told_same}
 use Rattle.run_audit.proofs.Grammar.{then_leads}
@@ -34,7 +35,7 @@ Descends (f ∷ fs) = AllFrom f.base fs × Descends fs
 pub record Goes (calls : List ToldSeen) (entered : Bool) (l : Line) (u : OpenSeen) : Type 0 where
   pub place : InPlace entered l
   pub width : HasWidth l
-  pub leads : Leads calls (l ∷ []) u.calls
+  pub leads : LeavesOpen calls (l ∷ []) u.calls
   pub entered_is : u.entered ≡ lets_pass l
   pub low : Descends calls → (t : ToldSeen) → l ≡ Call t → LiesBelow t calls
   pub descends : Descends calls → Descends u.calls
@@ -97,7 +98,7 @@ closes_is newest older entered n t false w h = differs w (λ e. let f = (told_de
 closes_is newest older entered n t true w h = record {
   place = tt;
   width = w;
-  leads = subst (λ x. Leads (newest ∷ older) (Ret x ∷ []) older) ((told_decides newest t).0 h)
+  leads = subst (λ x. LeavesOpen (newest ∷ older) (Ret x ∷ []) older) ((told_decides newest t).0 h)
       (closes at_end);
   entered_is = refl;
   low = λ d u e. absurd (let f = e in cc);
@@ -150,9 +151,9 @@ NoEnd (l ∷ ls) = (is_end l ≡ false) × NoEnd ls
 
 pub record Clean (calls : List ToldSeen) (entered : Bool) (ls : List Line) (u : OpenSeen) : Type 0 where
   pub in_place : AreInPlace entered ls
-  pub bracketed : Leads calls ls u.calls
+  pub bracketed : LeavesOpen calls ls u.calls
   pub wide : HaveWidth ls
-  pub apart : AreApart calls ls
+  pub apart : CallsAreApart calls ls
   pub entered_is : u.entered ≡ entered_by entered ls
 
 -- what is followed by one line that goes
@@ -161,7 +162,7 @@ pub first_went : (r : Result OpenSeen AuditFault) (f : OpenSeen → Result OpenS
 first_went (Ok s) f u h = (s, refl, h)
 first_went (Err e) f u h = absurd cc
 
-leads_nowhere : {before now : List ToldSeen} → Leads before [] now → now ≡ before
+leads_nowhere : {before now : List ToldSeen} → LeavesOpen before [] now → now ≡ before
 leads_nowhere at_end = refl
 
 -- the calls that are open after a line
@@ -174,7 +175,8 @@ after calls Pass = calls
 after calls Leave = calls
 after calls End = calls
 
-leads_after : {a c : List ToldSeen} {ls : List Line} (l : Line) → Leads a (l ∷ ls) c → Leads (after a l) ls c
+leads_after : {a c : List ToldSeen} {ls : List Line} (l : Line) → LeavesOpen a (l ∷ ls) c
+    → LeavesOpen (after a l) ls c
 unfolding after
 leads_after (Call t) (opens r) = r
 leads_after (Call t) (goes_by o r) = elim o [ ]
@@ -186,20 +188,21 @@ leads_after Leave (goes_by o r) = r
 leads_after End (goes_by o r) = r
 
 -- one line leads to one list of open calls
-one_way : {a b c : List ToldSeen} {ls : List Line} (l : Line) → Leads a (l ∷ []) b → Leads a (l ∷ ls) c
-    → Leads b ls c
-one_way {c = c} {ls = ls} l r q = subst (λ xs. Leads xs ls c) (sym (leads_nowhere (leads_after l r)))
+one_way : {a b c : List ToldSeen} {ls : List Line} (l : Line) → LeavesOpen a (l ∷ []) b
+    → LeavesOpen a (l ∷ ls) c
+    → LeavesOpen b ls c
+one_way {c = c} {ls = ls} l r q = subst (λ xs. LeavesOpen xs ls c) (sym (leads_nowhere (leads_after l r)))
     (leads_after l q)
 
 apart_by : (calls now : List ToldSeen) (l : Line) (ls : List Line)
     → ((t : ToldSeen) → l ≡ Call t → LiesBelow t calls)
-    → Leads calls (l ∷ []) now → AreApart now ls → AreApart calls (l ∷ ls)
+    → LeavesOpen calls (l ∷ []) now → CallsAreApart now ls → CallsAreApart calls (l ∷ ls)
 apart_by calls now l ls low leads rest [] back t there e r =
     subst (λ (xs : List ToldSeen). LiesBelow t xs) (sym (leads_nowhere r)) (low t (let f = e in cc))
 apart_by calls now l ls low leads rest (x ∷ front) back t there e r =
     let same : x ≡ l = cc in
     let more : ls ≡ front ++ Call t ∷ back = cc in
-    rest front back t there more (one_way l leads (subst (λ y. Leads calls (y ∷ front) there) same r))
+    rest front back t there more (one_way l leads (subst (λ y. LeavesOpen calls (y ∷ front) there) same r))
 
 pub clean_of : (ls : List Line) (calls : List ToldSeen) (entered : Bool) (n : ℕ) (u : OpenSeen) → NoEnd ls
     → followed (at calls entered) n ls ≡ Ok u → Descends calls → Clean calls entered ls u
@@ -207,7 +210,7 @@ clean_of [] calls entered n u no_end h d =
     let same : at calls entered ≡ u = cc in
     record {
       in_place = tt;
-      bracketed = subst (λ (v : OpenSeen). Leads calls [] v.calls) same at_end;
+      bracketed = subst (λ (v : OpenSeen). LeavesOpen calls [] v.calls) same at_end;
       wide = tt;
       apart = λ front back t now e. absurd (nothing front back t e);
       entered_is = sym (ap (λ (v : OpenSeen). v.entered) same);
@@ -236,7 +239,7 @@ newest_above t [] h = refl
 newest_above t (g ∷ gs) h = lt-ltb _ _ h.0
 
 pub follow_clean : (ls : List Line) (calls now : List ToldSeen) (entered : Bool) (n : ℕ)
-    → AreInPlace entered ls → Leads calls ls now → HaveWidth ls → AreApart calls ls
+    → AreInPlace entered ls → LeavesOpen calls ls now → HaveWidth ls → CallsAreApart calls ls
     → followed (at calls entered) n ls ≡ Ok (at now (entered_by entered ls))
 unfolding stepped
 follow_clean [] calls _ entered n place at_end wide apart = refl

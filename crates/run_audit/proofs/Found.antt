@@ -14,7 +14,7 @@ use Rattle.line_fields.specs.Fields.{lines}
 use Rattle.line_fields.proofs.Offers.{parts_some}
 use Rattle.run_audit.specs.Lines.{line_in, is_end}
 use Rattle.run_audit.specs.Audit.{OpenSeen, nothing_open, at_end, audit_on, stepped, judged, audited_from}
-use Rattle.run_audit.specs.Audit.{audited, followed, Answers}
+use Rattle.run_audit.specs.Audit.{audited, followed, AnswersDue}
 use Rattle.run_audit.specs.Traces.{IsLine, AreLines, AreInPlace, IsWide, IsClean, IsTrace}
 use Rattle.run_audit.specs.Traces.{entered_by, Spoils, misplaced, call_width, ret_width, overlaps, unopened}
 use Rattle.run_audit.specs.Traces.{differs, GoesWrong, HasFault}
@@ -332,7 +332,7 @@ told e text h = record {
 }
 
 of_error : (e : AuditFault) (text : List ℕ)
-    → (let r : Result (Unit {0}) AuditFault = Err e in Answers r (audited text)) → OfError e text
+    → (let r : Result (Unit {0}) AuditFault = Err e in AnswersDue r (audited text)) → OfError e text
 of_error (Form n) text h = told (Form n) text h
 of_error (Width n) text h = told (Width n) text h
 of_error (Overlap n) text h = told (Overlap n) text h
@@ -351,7 +351,8 @@ in_err : (e f : AuditFault) → (e ≡ f) ⊎ (e ≡ NoMemory)
 in_err e f (inl h) = inl (ap Err h)
 in_err e f (inr h) = inr (ap Err h)
 
-pub is_right : (r : Result (Unit {0}) AuditFault) (text : List ℕ) → Answers r (audited text) → IsRight r text
+pub is_right : (r : Result (Unit {0}) AuditFault) (text : List ℕ) → AnswersDue r (audited text)
+    → IsRight r text
 is_right (Ok x) text h = record {
   found = answered_trace text h;
   only = λ t. inl refl;

@@ -10,8 +10,9 @@ use Rattle.run_audit.specs.declared.fault.AuditFault.TheVariants.{NoMemory}
 use Rattle.run_audit.specs.declared.line.Line.{Line}
 use Rattle.run_audit.specs.declared.line.Line.TheVariants.{Call, Ret, Enter, Pass, Leave, End}
 use Rattle.run_audit.specs.Lines.{line_in, is_end}
-use Rattle.run_audit.specs.Audit.{OpenSeen, is_ended, at_end, audit_on, stepped, judged, audited_from, Leads}
-use Rattle.run_audit.specs.Audit.{Answers, followed}
+use Rattle.run_audit.specs.Audit.{OpenSeen, is_ended, at_end, audit_on, stepped, judged, audited_from}
+use Rattle.run_audit.specs.Audit.{OpensDue}
+use Rattle.run_audit.specs.Audit.{AnswersDue, followed}
 
 -- ---- lines
 
@@ -100,21 +101,21 @@ few left text is lt = omega (arith, ap length is, parts_len 10 text)
 -- at the end line
 either_answers : (n : ℕ) (b : Bool)
     → (let due : Result (Unit {0}) AuditFault = if b then Ok tt else Err (Form n) in
-    Answers due due)
+    AnswersDue due due)
 either_answers n true = refl
 either_answers n false = refl
 
 pub end_answers : (n : ℕ) (rest : List (List ℕ)) (r due : Result (Unit {0}) AuditFault) → r ≡ at_end n rest
-    → due ≡ at_end n rest → Answers r due
+    → due ≡ at_end n rest → AnswersDue r due
 end_answers n rest r due one two =
-    subst (λ (x : Result (Unit {0}) AuditFault). Answers x due) (sym one)
-    (subst (Answers (at_end n rest)) (sym two) (either_answers n (is_ended rest)))
+    subst (λ (x : Result (Unit {0}) AuditFault). AnswersDue x due) (sym one)
+    (subst (AnswersDue (at_end n rest)) (sym two) (either_answers n (is_ended rest)))
 
 -- a fault of a line is that of the text
 pub line_fails : (A B : Type 0) (e : AuditFault) (new : OpenSeen) (due : Result OpenSeen AuditFault)
     (f : OpenSeen → Result (Unit {0}) AuditFault) (whole : Result (Unit {0}) AuditFault)
-    → (let r : Result A AuditFault = Err e in Leads r new due) → audit_on due f ≡ whole
-    → (let r : Result B AuditFault = Err e in Answers r whole)
+    → (let r : Result A AuditFault = Err e in OpensDue r new due) → audit_on due f ≡ whole
+    → (let r : Result B AuditFault = Err e in AnswersDue r whole)
 line_fails A B (Form n) new due f whole h is = sym is ∙ ap (λ r. audit_on r f) h
 line_fails A B (Width n) new due f whole h is = sym is ∙ ap (λ r. audit_on r f) h
 line_fails A B (Overlap n) new due f whole h is = sym is ∙ ap (λ r. audit_on r f) h

@@ -79,15 +79,15 @@ unfoldable pub audited : List ℕ → Result (Unit {0}) AuditFault
 audited text = audited_from nothing_open 1 (lines text)
 
 -- the answer is the one that is due, unless memory was refused
-abbrev pub Answers : {A : Type 0} → Result A AuditFault → Result (Unit {0}) AuditFault → Type 0
-Answers (Ok x) due = due ≡ Ok tt
-Answers (Err NoMemory) due = Unit {0}
-Answers (Err e) due = due ≡ Err e
+abbrev pub AnswersDue : {A : Type 0} → Result A AuditFault → Result (Unit {0}) AuditFault → Type 0
+AnswersDue (Ok x) due = due ≡ Ok tt
+AnswersDue (Err NoMemory) due = Unit {0}
+AnswersDue (Err e) due = due ≡ Err e
 
-abbrev pub Leads : {A : Type 0} → Result A AuditFault → OpenSeen → Result OpenSeen AuditFault → Type 0
-Leads (Ok x) new due = due ≡ Ok new
-Leads (Err NoMemory) new due = Unit {0}
-Leads (Err e) new due = due ≡ Err e
+abbrev pub OpensDue : {A : Type 0} → Result A AuditFault → OpenSeen → Result OpenSeen AuditFault → Type 0
+OpensDue (Ok x) new due = due ≡ Ok new
+OpensDue (Err NoMemory) new due = Unit {0}
+OpensDue (Err e) new due = due ≡ Err e
 
 -- ---- lines as values
 

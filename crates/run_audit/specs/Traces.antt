@@ -8,7 +8,7 @@ use Rattle.run_audit.specs.declared.line.Line.TheVariants.{Call, Ret, Enter, Pas
 use Rattle.run_audit.specs.Told.{ToldSeen}
 use Rattle.line_fields.specs.Fields.{lines}
 use Rattle.run_audit.specs.Lines.{line_in}
-use Rattle.run_audit.specs.Brackets.{Leads}
+use Rattle.run_audit.specs.Brackets.{LeavesOpen}
 
 -- ---- lists of lines
 
@@ -56,18 +56,18 @@ LiesBelow t [] = Unit {0}
 LiesBelow t (o ∷ os) = (t.last < o.base) × LiesBelow t os
 
 -- from calls that are open on, each call lies below all that are open there
-abbrev pub AreApart : List ToldSeen → List Line → Type 0
-AreApart before ls =
+abbrev pub CallsAreApart : List ToldSeen → List Line → Type 0
+CallsAreApart before ls =
     (front back : List Line) (t : ToldSeen) (now : List ToldSeen) → ls ≡ front ++ Call t ∷ back
-    → Leads before front now
+    → LeavesOpen before front now
     → LiesBelow t now
 
 -- lines that spoil nothing, and the calls that are open after them, newest first
 pub record IsClean (ls : List Line) (open_now : List ToldSeen) : Type 0 where
   pub in_place : AreInPlace false ls
-  pub bracketed : Leads [] ls open_now
+  pub bracketed : LeavesOpen [] ls open_now
   pub wide : HaveWidth ls
-  pub apart : AreApart [] ls
+  pub apart : CallsAreApart [] ls
 
 -- ---- texts
 

@@ -3,7 +3,7 @@ ghost use Rattle.std.specs.Prelude.{◌≡◌, ◌⊎◌, Ok, Err, OnOk, IfErr};
 ghost use Rattle.run_audit.specs.declared.fault.AuditFault.{AuditFault};
 ghost use Rattle.run_audit.specs.declared.fault.AuditFault.TheVariants.{NoMemory};
 ghost use Rattle.run_audit.specs.Traces.{IsTrace, HasFault};
-ghost use Rattle.run_audit.specs.Audit.{audited, is_ended, at_end, Answers};
+ghost use Rattle.run_audit.specs.Audit.{audited, is_ended, at_end, AnswersDue};
 
 use crate::fault::AuditFault;
 use crate::line::line_of;
@@ -36,7 +36,7 @@ fn ended(line: u64, behind: &Parts<'_>) -> Result<(), AuditFault>
 // The answer by the definition.
 #[tactic(auto, unfolding(crate::specs::Audit::audited))]
 fn answer(alloc: Global, text: &[u8]) -> Result<(), AuditFault>
-    ensures { Answers result (audited text.now) }
+    ensures { AnswersDue result (audited text.now) }
 {
     let mut open = Open::new(alloc);
     let mut lines = Parts::of_text(text);
@@ -66,7 +66,7 @@ fn answer(alloc: Global, text: &[u8]) -> Result<(), AuditFault>
 /// Else the first line that spoils the text is told, counted from 1, or that memory was refused.
 pub fn audit(alloc: Global, text: &[u8]) -> Result<(), AuditFault>
     // Which answer.
-    ensures exact { Answers result (audited text.now) }
+    ensures exact { AnswersDue result (audited text.now) }
     // What passes is a trace.
     ensures found { OnOk result (IsTrace text.now) }
     // A trace passes, unless memory is refused.

@@ -1,6 +1,7 @@
 //! The calls that are open at a line.
 ghost use Rattle.std.specs.Prelude.{◌≡◌};
-ghost use Rattle.run_audit.specs.Audit.{nothing_open, below_newest, opened, closed, passes, stepped, Leads};
+ghost use Rattle.run_audit.specs.Audit.{nothing_open, below_newest, opened, closed, passes, stepped};
+ghost use Rattle.run_audit.specs.Audit.{OpensDue};
 
 use crate::fault::AuditFault;
 use crate::line::Line;
@@ -48,7 +49,7 @@ impl<'a> Open<'a> {
 
     // A call of the line of this number.
     fn open(&mut self, line: u64, told: FrameLine<'a>) -> Result<(), AuditFault>
-        ensures { Leads result self.new (opened self.old line told.entry) }
+        ensures { OpensDue result self.new (opened self.old line told.entry) }
     {
         if !told.is_wide() {
             return Err(AuditFault::Width(line));
@@ -63,7 +64,7 @@ impl<'a> Open<'a> {
 
     // A return of the line of this number.
     fn close(&mut self, line: u64, told: &FrameLine<'_>) -> Result<(), AuditFault>
-        ensures { Leads result self.new (closed self.old line told.now) }
+        ensures { OpensDue result self.new (closed self.old line told.now) }
     {
         if !told.is_wide() {
             return Err(AuditFault::Width(line));
@@ -83,7 +84,7 @@ impl<'a> Open<'a> {
 
     // A pass line of this number.
     fn pass(&mut self, line: u64) -> Result<(), AuditFault>
-        ensures { Leads result self.new (passes self.old line) }
+        ensures { OpensDue result self.new (passes self.old line) }
     {
         if !self.entered {
             return Err(AuditFault::Form(line));
@@ -97,7 +98,7 @@ impl<'a> Open<'a> {
     /// After an error nothing is said of what is open.
     #[tactic(auto, unfolding(crate::specs::Audit::stepped))]
     pub(crate) fn step(&mut self, number: u64, line: Line<'a>) -> Result<(), AuditFault>
-        ensures { Leads result self.new (stepped self.old number line.entry) }
+        ensures { OpensDue result self.new (stepped self.old number line.entry) }
     {
         match line {
             Line::Call(told) => self.open(number, told),

@@ -41,7 +41,7 @@ use Rattle.overlay_machine.specs.Events.{owner_now, shown_word, called_event}
 use Rattle.overlay_machine.specs.Events.{entered_event, jumped, event_after, note_by, step_event}
 use Rattle.overlay_machine.specs.Step.{case_of}
 use Rattle.overlay_machine.specs.Link.{Link, IsTrusted, IsStackCell, ranges_of}
-use Rattle.overlay_machine.specs.Linked.{Linked}
+use Rattle.overlay_machine.specs.Linked.{IsLink}
 use Rattle.overlay_machine.specs.Safe.{IsSafe}
 use Rattle.overlay_machine.specs.Invariant.{PcPart, at_fail, at_row, outside, Invariant}
 use Rattle.overlay_machine.proofs.Offers.{entry_kind, listed_at, found_is, any_is, position_is}
@@ -169,7 +169,7 @@ arg arg1 = A1
 arg arg2 = A2
 arg arg3 = A3
 
-module _ (g : Link) (linked : Linked g) (q : OState) (t : State Word) (inv : Invariant g q t)
+module _ (g : Link) (linked : IsLink g) (q : OState) (t : State Word) (inv : Invariant g q t)
     (told : Told g.layout q) where
   begins : (p : PartSeen) (o : ℕ) → IsTrusted g p → o < length p.component.code
       → look q.maps.regs.pc ≡ Mem (code_at (ranges_of p) o) → begins_entry p.component o ≡ true

@@ -22,7 +22,7 @@ use Rattle.overlay_machine.specs.State.{OpenFrame, OState, frame_of}
 use Rattle.overlay_machine.specs.Flat.{flat, flat_code, flat_range, flat_data}
 use Rattle.overlay_machine.specs.Agree.{IsForeign}
 use Rattle.overlay_machine.specs.Link.{Link}
-use Rattle.overlay_machine.specs.Linked.{Linked}
+use Rattle.overlay_machine.specs.Linked.{IsLink}
 use Rattle.overlay_machine.specs.Safe.{IsSafe, IsMet}
 use Rattle.overlay_machine.proofs.Offers.{foreign}
 use Rattle.run_lines.specs.declared.pairs.PassedPair.TheVariants.{Nothing}
@@ -75,7 +75,7 @@ code_opened s = opened_of (flat_code (Some s))
 abbrev code_look : Opened
 code_look = record { seal = 0; content = SealC (record { base = 0; end = 0; cur = pos 0 }) }
 
-module _ (g : Link) (linked : Linked g) (q : OState) where
+module _ (g : Link) (linked : IsLink g) (q : OState) where
   abbrev shown : OWord → Word
   shown w = flat g.layout q.frames w
 

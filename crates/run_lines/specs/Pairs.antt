@@ -21,7 +21,7 @@ use Rattle.overlay_machine.specs.State.{OState}
 use Rattle.overlay_machine.specs.Step.{Ending, goes, halts, fails, return_by}
 use Rattle.overlay_machine.specs.Flat.{flat}
 use Rattle.overlay_machine.specs.Link.{Link}
-use Rattle.overlay_machine.specs.Linked.{Linked}
+use Rattle.overlay_machine.specs.Linked.{IsLink}
 use Rattle.overlay_machine.specs.Safe.{IsSafe}
 use Rattle.overlay_machine.specs.Invariant.{Invariant}
 use Rattle.overlay_machine.specs.Events.{step_event}
@@ -91,7 +91,7 @@ own_pair l o w v =
 -- of two words that untrusted code may hold, the plain words that they stand for are told as they are
 abbrev pub PairsAreOwn : Type 0
 PairsAreOwn =
-    (g : Link) (o : OState) (w v : OWord) → Linked g → IsSafe g o.frames w → IsSafe g o.frames v
+    (g : Link) (o : OState) (w v : OWord) → IsLink g → IsSafe g o.frames w → IsSafe g o.frames v
     → pair_of g.layout (flat g.layout o.frames w) (flat g.layout o.frames v) ≡ own_pair g.layout o w v
 
 abbrev pub own_pairs_of : Layout → OState → Pairs
@@ -104,6 +104,6 @@ own_pairs_of l o = record {
 -- where a step of the overlay has an `enter` line, so are its pairs told
 abbrev pub PassesAreOwn : Type 0
 PassesAreOwn =
-    (g : Link) (o q : OState) (t : State Word) (part k : ℕ) (back : Back) → Linked g → Invariant g q t
+    (g : Link) (o q : OState) (t : State Word) (part k : ℕ) (back : Back) → IsLink g → Invariant g q t
     → step_event g.layout o q ≡ Some (Entered part k back)
     → pairs_of g.layout (flat_view g.layout q) ≡ own_pairs_of g.layout q

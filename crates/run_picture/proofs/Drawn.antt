@@ -3,7 +3,7 @@ use Rattle.std.proofs.Common.{◌≡◌, ℕ, true, false, List, Result, Ok, Err
 use Rattle.run_audit.specs.declared.fault.AuditFault.{AuditFault}
 use Rattle.run_audit.specs.declared.fault.AuditFault.TheVariants.{Form, Width, Overlap, Unopened, Mismatch}
 use Rattle.run_audit.specs.declared.fault.AuditFault.TheVariants.{NoMemory}
-use Rattle.run_audit.specs.Audit.{Answers, audited}
+use Rattle.run_audit.specs.Audit.{AnswersDue, audited}
 use Rattle.run_picture.specs.declared.fault.DrawFault.{DrawFault}
 use Rattle.run_picture.specs.declared.fault.DrawFault.TheVariants.{TooLong, Audit}
 use Rattle.run_picture.specs.Picture.{Draws, is_too_long, drawn_if, drawn, picture}
@@ -21,7 +21,7 @@ fault_is : (text : List ℕ) (e : AuditFault) → is_too_long text ≡ false →
 fault_is text e h k = if_short text h ∙ ap (λ r. drawn_if r text) k
 
 pub spoiled : {A : Type 0} (view : A → List ℕ) (text : List ℕ) (e : AuditFault) → is_too_long text ≡ false
-    → (let r : Result (Unit {0}) AuditFault = Err e in Answers r (audited text))
+    → (let r : Result (Unit {0}) AuditFault = Err e in AnswersDue r (audited text))
     → (let r : Result A DrawFault = Err (Audit e) in Draws view r (drawn text))
 spoiled view text (Form n) h k = fault_is text (Form n) h k
 spoiled view text (Width n) h k = fault_is text (Width n) h k

@@ -11,32 +11,32 @@ use Rattle.run_picture.specs.Page.{PageSeen, width, height}
 use Rattle.run_picture.specs.Groups.{groups}
 use Rattle.run_picture.specs.Picture.{lanes, mark, mark_above, marks_text, front, page_text, page_for}
 use Rattle.run_picture.specs.Picture.{picture}
-use Rattle.run_picture.specs.SvgLaws.{IsText, none, plain, reference, EscapesAreTexts, Document}
+use Rattle.run_picture.specs.SvgLaws.{IsEscaped, none, plain, reference, EscapesAreTexts, Document}
 use Rattle.run_picture.specs.SvgLaws.{document_text, PicturesAreDocuments}
 use Rattle.run_picture.proofs.Joined.{shapes_append}
 
 -- ---- texts
 
-one_text : (b : ℕ) (s : List ℕ) → IsText s → IsText (escaped_byte b ++ s)
+one_text : (b : ℕ) (s : List ℕ) → IsEscaped s → IsEscaped (escaped_byte b ++ s)
 one_text b s h = amp (nat_eq b 38) refl
   where
     quot : nat_eq b 38 ≡ false → nat_eq b 60 ≡ false → nat_eq b 62 ≡ false → (t : Bool) → nat_eq b 34 ≡ t
-        → IsText (escaped_byte b ++ s)
+        → IsEscaped (escaped_byte b ++ s)
     quot n1 n2 n3 true e = rw (n1, n2, n3, e) (reference (codes "&quot;") (inr (inr (inr refl))) h)
     quot n1 n2 n3 false e =
         rw (n1, n2, n3, e)
         (plain b (eqb-false b 38 n1, eqb-false b 60 n2, eqb-false b 62 n3, eqb-false b 34 e) h)
 
     gt : nat_eq b 38 ≡ false → nat_eq b 60 ≡ false → (t : Bool) → nat_eq b 62 ≡ t
-        → IsText (escaped_byte b ++ s)
+        → IsEscaped (escaped_byte b ++ s)
     gt n1 n2 true e = rw (n1, n2, e) (reference (codes "&gt;") (inr (inr (inl refl))) h)
     gt n1 n2 false e = quot n1 n2 e (nat_eq b 34) refl
 
-    lt : nat_eq b 38 ≡ false → (t : Bool) → nat_eq b 60 ≡ t → IsText (escaped_byte b ++ s)
+    lt : nat_eq b 38 ≡ false → (t : Bool) → nat_eq b 60 ≡ t → IsEscaped (escaped_byte b ++ s)
     lt n1 true e = rw (n1, e) (reference (codes "&lt;") (inr (inl refl)) h)
     lt n1 false e = gt n1 e (nat_eq b 62) refl
 
-    amp : (t : Bool) → nat_eq b 38 ≡ t → IsText (escaped_byte b ++ s)
+    amp : (t : Bool) → nat_eq b 38 ≡ t → IsEscaped (escaped_byte b ++ s)
     amp true e = rw e (reference (codes "&amp;") (inl refl) h)
     amp false e = lt e (nat_eq b 60) refl
 

@@ -15,13 +15,13 @@ IsReference name =
     (name ≡ codes "&amp;") ⊎ ((name ≡ codes "&lt;") ⊎ ((name ≡ codes "&gt;") ⊎ (name ≡ codes "&quot;")))
 
 -- plain bytes, and references to the others
-pub data IsText : List ℕ → Type 0 where
-  none : IsText []
-  plain : {s : List ℕ} (b : ℕ) → IsPlain b → IsText s → IsText (b ∷ s)
-  reference : {s : List ℕ} (name : List ℕ) → IsReference name → IsText s → IsText (name ++ s)
+pub data IsEscaped : List ℕ → Type 0 where
+  none : IsEscaped []
+  plain : {s : List ℕ} (b : ℕ) → IsPlain b → IsEscaped s → IsEscaped (b ∷ s)
+  reference : {s : List ℕ} (name : List ℕ) → IsReference name → IsEscaped s → IsEscaped (name ++ s)
 
 abbrev pub EscapesAreTexts : Type 0
-EscapesAreTexts = (s : List ℕ) → IsText (escaped s)
+EscapesAreTexts = (s : List ℕ) → IsEscaped (escaped s)
 
 -- ---- the whole
 

@@ -18,7 +18,7 @@ use Rattle.proc_semantics.specs.Rules.{Level, level, with_place, enough, body_of
 use Rattle.proc_semantics.specs.Marked.{Whence, Frame, Regs}
 use Rattle.same_meanings.specs.Same.{tracing, Levelled, Continuation, Sides, numbered, SameBehaviour}
 use Rattle.same_meanings.specs.Same.{SameContinuation}
-use Rattle.same_meanings.specs.Straight.{AllStraight, Outcome, body_outcome, a_number, a_closure, an_other}
+use Rattle.same_meanings.specs.Straight.{AllStraight, Completion, body_outcome, a_number, a_closure, an_other}
 use Rattle.same_meanings.specs.Straight.{SameValues, no_values, and_value, SameOutcome, both_break, both_stop}
 use Rattle.same_meanings.specs.Straight.{both_give, SameStraight, StraightDecide}
 use Rattle.same_meanings.proofs.Steps.{same_as, both_deeper, both_higher, ticked, ticked_too, ticks}
@@ -119,7 +119,7 @@ fed_same W W' ints pairs =
 -- ---- bodies
 
 module _ (S : Sides) (n : ℕ) (q q' : Continuation) (s : SameContinuation S n q q') where
-  went_same : (p p' : Procedure) (k k' : LevelledNext) (o o' : Outcome) → SameOutcome S.Stores o o'
+  went_same : (p p' : Procedure) (k k' : LevelledNext) (o o' : Completion) → SameOutcome S.Stores o o'
       → SameBehaviour S n (went o (λ d. finish tracing S.one p.need (q d)) k)
       (went o' (λ d. finish tracing S.other p'.need (q' d)) k')
   went_same p p' k k' _ _ both_break = both_fail S n

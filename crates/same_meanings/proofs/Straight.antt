@@ -16,7 +16,7 @@ use Rattle.proc_semantics.specs.Rules.{Next, Level, with_number, with_place, res
 use Rattle.proc_semantics.specs.Rules.{element, operated, assigned, stmt, block, body_of, finish}
 use Rattle.proc_semantics.specs.Marked.{Whence, Frame}
 use Rattle.same_meanings.specs.Same.{tracing, Levelled, Continuation}
-use Rattle.same_meanings.specs.Straight.{IsPure, IsStraight, AllStraight, Outcome, Breaks, Stops, Gives}
+use Rattle.same_meanings.specs.Straight.{IsPure, IsStraight, AllStraight, Completion, Breaks, Stops, Gives}
 use Rattle.same_meanings.specs.Straight.{GoesOn, with_some, followed, value_by, set_to, step_outcome}
 use Rattle.same_meanings.specs.Straight.{block_outcome, body_outcome}
 use Rattle.same_meanings.proofs.Comes.{tick}
@@ -25,7 +25,7 @@ abbrev pub LevelledNext : Type 0
 LevelledNext = ℕ → Next tracing
 
 -- what an outcome tells
-abbrev pub went : Outcome → Continuation → LevelledNext → Levelled
+abbrev pub went : Completion → Continuation → LevelledNext → Levelled
 went Breaks back k d = tracing.failing
 went (Stops v) back k d = tracing.halting v
 went (Gives v st) back k d = back d v st
@@ -81,7 +81,7 @@ module _ (P : Levelled → Type 0) (ticking : (m : Levelled) → P m → P (λ d
       (second (Value_ env st b) x o k st q)) p))
 
   -- what goes on with a value has the outcome of it
-  some_tells : (o : Option ℤ) (out : ℤ → Outcome) (back : Continuation) (k : LevelledNext)
+  some_tells : (o : Option ℤ) (out : ℤ → Completion) (back : Continuation) (k : LevelledNext)
       (next : Continuation) (st : Store) → ((v : ℤ) → P (went (out v) back k) → P (λ d. next d v st))
       → P (went (with_some o out) back k) → P (λ d. with_number tracing o (next d) st)
   some_tells None out back k next st h p = p
@@ -99,13 +99,14 @@ module _ (P : Levelled → Type 0) (ticking : (m : Levelled) → P m → P (λ d
   place_tells None v back k env st p = p
   place_tells (Some o) v back k env st p = p
 
-  branch_tells : (t : Bool) (x y : Outcome) (back : Continuation) (k : LevelledNext) (m m' : ℕ → Store → _)
+  branch_tells : (t : Bool) (x y : Completion) (back : Continuation) (k : LevelledNext) (m m' : ℕ → Store → _)
       (st : Store) → (P (went x back k) → P (λ d. m d st)) → (P (went y back k) → P (λ d. m' d st))
       → P (went (if t then x else y) back k) → P (λ d. (if t then m d else m' d) st)
   branch_tells true x y back k m m' st h h' p = h p
   branch_tells false x y back k m m' st h h' p = h' p
 
-  behind : (o : Outcome) (out : List Value → Store → Outcome) (back : Continuation) (k next : LevelledNext)
+  behind : (o : Completion) (out : List Value → Store → Completion) (back : Continuation)
+      (k next : LevelledNext)
       → ((env : List Value) (st : Store) → P (went (out env st) back k) → P (λ d. next d env st))
       → P (went (followed o out) back k) → P (went o back next)
   behind Breaks out back k next h p = p
@@ -163,7 +164,7 @@ module _ (P : Levelled → Type 0) (ticking : (m : Levelled) → P m → P (λ d
         (behind (step_outcome f.home s env st) (block_outcome f.home ss) back k
         (λ d. block tracing W (l d) f ss (back d) (k d)) (block_tells ss i.1 back k) p)
 
-  ended : (o : Outcome) (p : Procedure) (q : Continuation) (k : LevelledNext)
+  ended : (o : Completion) (p : Procedure) (q : Continuation) (k : LevelledNext)
       → P (went (followed o (λ env st. Gives (pos 0) st)) (λ d. finish tracing W p.need (q d)) k)
       → P (went o (λ d. finish tracing W p.need (q d)) (λ d env. finish tracing W p.need (q d) (pos 0)))
   ended Breaks p q k h = h

@@ -41,17 +41,17 @@ abbrev mutual
 
 -- what a statement comes to: a failure, the end of all with a value, the end of the procedure with a value,
 -- or what stands after it
-pub data Outcome : Type 0 where
-  Breaks : Outcome
-  Stops : ℤ → Outcome
-  Gives : ℤ → Store → Outcome
-  GoesOn : List Value → Store → Outcome
+pub data Completion : Type 0 where
+  Breaks : Completion
+  Stops : ℤ → Completion
+  Gives : ℤ → Store → Completion
+  GoesOn : List Value → Store → Completion
 
-abbrev pub with_some : {A : Type 0} → Option A → (A → Outcome) → Outcome
+abbrev pub with_some : {A : Type 0} → Option A → (A → Completion) → Completion
 with_some None f = Breaks
 with_some (Some x) f = f x
 
-abbrev pub followed : Outcome → (List Value → Store → Outcome) → Outcome
+abbrev pub followed : Completion → (List Value → Store → Completion) → Completion
 followed Breaks f = Breaks
 followed (Stops v) f = Stops v
 followed (Gives v st) f = Gives v st
@@ -68,12 +68,12 @@ module _ (home : ℕ) where
   value_by env st (Binary o a b) =
       if_there (value_by env st a) (λ x. if_there (value_by env st b) (λ y. result_of o x y))
 
-  abbrev pub set_to : Location → ℤ → List Value → Store → Outcome
+  abbrev pub set_to : Location → ℤ → List Value → Store → Completion
   set_to (Local i) v env st = GoesOn (slice_set env i (Num v)) st
   set_to (Global o) v env st = GoesOn env (set_word st home o v)
 
   abbrev mutual
-    pub step_outcome : Statement → List Value → Store → Outcome
+    pub step_outcome : Statement → List Value → Store → Completion
     step_outcome (Set x e) env st = with_some (value_by env st e) (λ v. set_to x v env st)
     step_outcome (SetAt a i e) env st =
         with_some (value_by env st i) (λ i. with_some (value_by env st e)
@@ -86,12 +86,12 @@ module _ (home : ℕ) where
     step_outcome (Return e) env st = with_some (value_by env st e) (λ v. Gives v st)
     step_outcome (Halt e) env st = with_some (value_by env st e) (λ v. Stops v)
 
-    pub block_outcome : Block → List Value → Store → Outcome
+    pub block_outcome : Block → List Value → Store → Completion
     block_outcome no_steps env st = GoesOn env st
     block_outcome (step s ss) env st = followed (step_outcome s env st) (block_outcome ss)
 
   -- of a procedure: after its last statement it gives 0
-  abbrev pub body_outcome : Procedure → List Value → Store → Outcome
+  abbrev pub body_outcome : Procedure → List Value → Store → Completion
   body_outcome p env st =
       followed (block_outcome (block_of p.body) (env ++ replicate p.locals (Num (pos 0))) st)
       (λ env st. Gives (pos 0) st)
@@ -110,7 +110,7 @@ pub data SameValues : List Value → List Value → Type 0 where
       → SameValues (v ∷ vs) (w ∷ ws)
 
 -- outcomes with one value, and globals that belong to each other
-pub data SameOutcome (Stores : Store → Store → Type 0) : Outcome → Outcome → Type 0 where
+pub data SameOutcome (Stores : Store → Store → Type 0) : Completion → Completion → Type 0 where
   both_break : SameOutcome Stores Breaks Breaks
   both_stop : (v : ℤ) → SameOutcome Stores (Stops v) (Stops v)
   both_give : (v : ℤ) (st st' : Store) → Stores st st' → SameOutcome Stores (Gives v st) (Gives v st')

@@ -45,7 +45,7 @@ use Rattle.source_events.specs.declared.End.TheVariants.{Waiting}
 use Rattle.source_events.specs.Outs.{OutLine, call_out, leave_out}
 use Rattle.proc_semantics.specs.Values.{World}
 use Rattle.template_runs.specs.Runs.{is_inside}
-use Rattle.source_laws.specs.Sources.{Shows, MeansAlways, MeaningEnds}
+use Rattle.source_laws.specs.Sources.{RunShows, MeansAlways, MeaningEnds}
 use Rattle.source_laws.specs.Sources as shown
 use Rattle.source_laws.specs.Trace.{event_outs, event_items, weighed}
 use Rattle.source_starts.specs.Sources.{SourcesDoWhatTheyMean}
@@ -66,7 +66,7 @@ pub record Comes (j : ℕ) (ls : List Line) (es : List OutLine) (is : List Item)
   pub reached : Reached L enters.o0 j p
   pub lines : Told L enters.o0 j ls p
   pub weight : ℕ
-  pub shows : Shows L enters.o0 j weight es is p
+  pub shows : RunShows L enters.o0 j weight es is p
 
 begins : Comes 0 [] [] [] enters.o0
 begins = record { reached = reached.begins; lines = told.none_yet; weight = 0; shows = shown.none_yet }
@@ -91,10 +91,10 @@ tells {j} {n} {ls} {more} {es} {going} {is} {coming} {p} {q} {v} r m t = record 
       (ap (lines_for L (flat_view L q)) m.event ∙ t.lines) (told.and_then r.lines m.goes_on));
   weight = next_weight;
   shows =
-      subst (λ (k : ℕ). Shows L enters.o0 (j + k) next_weight (es ++ going) (is ++ coming) q) m.weight
-      (subst (λ (xs : List OutLine). Shows L enters.o0 (j + weight_of L p) next_weight (es ++ xs)
+      subst (λ (k : ℕ). RunShows L enters.o0 (j + k) next_weight (es ++ going) (is ++ coming) q) m.weight
+      (subst (λ (xs : List OutLine). RunShows L enters.o0 (j + weight_of L p) next_weight (es ++ xs)
       (is ++ coming) q) (ap (event_outs L (flat_view L q)) m.event ∙ t.outs)
-      (subst (λ (xs : List Item). Shows L enters.o0 (j + weight_of L p) next_weight
+      (subst (λ (xs : List Item). RunShows L enters.o0 (j + weight_of L p) next_weight
       (es ++ event_outs L (flat_view L q) (step_event L p q)) (is ++ xs) q)
       (ap (event_items L (flat_view L q)) m.event ∙ t.items) (shown.and_then r.shows m.goes_on)));
 }

@@ -13,7 +13,7 @@ use Rattle.overlay_machine.specs.declared.words.OWord.TheVariants.{Plain}
 use Rattle.overlay_machine.specs.Words.{look}
 use Rattle.overlay_machine.specs.State.{OpenFrame}
 use Rattle.overlay_machine.specs.Link.{Link, IsTrusted, ranges_of, data_region}
-use Rattle.overlay_machine.specs.Linked.{Linked}
+use Rattle.overlay_machine.specs.Linked.{IsLink}
 use Rattle.source_laws.proofs.Refined.{World, Frame, pair_of}
 use Rattle.proc_semantics.specs.Values.{Store, global_word, set_word}
 use Rattle.proc_semantics.specs.declared.value.Pair.{Pair}
@@ -27,7 +27,7 @@ use Rattle.proc_program.specs.declared.program.Handle.TheVariants.{Own, Imported
 use Rattle.run_lines.specs.Feed.{integer_in}
 
 -- the numbers up to an address of a part's data
-pub data_fits : (g : Link) (linked : Linked g) (p : PartSeen) → IsTrusted g p → (o a : ℕ)
+pub data_fits : (g : Link) (linked : IsLink g) (p : PartSeen) → IsTrusted g p → (o a : ℕ)
     → o < length p.component.data_words → a ≤ p.component.data_base + o → fits_64 (pos a) ≡ true
 data_fits g linked p ip o a lt le =
     let small = linked.small (data_region p) (linked.data_there p ip) in
@@ -87,7 +87,7 @@ module _ (world : World) (StoreIs : Store → (ℕ → OWord) → Type 0) (p : P
         (pair_of world home env (Own j))
 
 -- in which part and below which frames a procedure works; its own frame, its places and its globals
-pub record Work (g : Link) (linked : Linked g) (StoreIs : Store → (ℕ → OWord) → Type 0) : Type 0 where
+pub record Work (g : Link) (linked : IsLink g) (StoreIs : Store → (ℕ → OWord) → Type 0) : Type 0 where
   pub p : PartSeen
   pub ip : IsTrusted g p
   pub failing : Placed g linked p 0 Fail
@@ -109,7 +109,7 @@ pub record Work (g : Link) (linked : Linked g) (StoreIs : Store → (ℕ → OWo
 pub record AtWork : Type 1 where
   pub world : World
   pub g : Link
-  pub linked : Linked g
+  pub linked : IsLink g
   pub StoreIs : Store → (ℕ → OWord) → Type 0
   pub work : Work g linked StoreIs
   open work use {p, f, s}

@@ -19,7 +19,7 @@ use Rattle.overlay_machine.specs.declared.words.OWord.TheVariants.{Plain}
 use Rattle.overlay_machine.specs.Words.{look}
 use Rattle.overlay_machine.specs.State.{OpenFrame}
 use Rattle.overlay_machine.specs.Link.{Link, IsTrusted}
-use Rattle.overlay_machine.specs.Linked.{Linked}
+use Rattle.overlay_machine.specs.Linked.{IsLink}
 use Rattle.proc_semantics.specs.declared.value.Pair.{Pair}
 use Rattle.proc_semantics.specs.declared.value.Target.{Target}
 use Rattle.proc_semantics.specs.declared.value.Value.{Value}
@@ -63,7 +63,7 @@ t1_apart (suc (suc (suc (suc i)))) = λ e. cc
 abbrev Zero : OWord
 Zero = Plain (Int (pos 0))
 
-module _ (g : Link) (linked : Linked g) (p : PartSeen) (ip : IsTrusted g p) (top : ℕ) (mem : ℕ → OWord)
+module _ (g : Link) (linked : IsLink g) (p : PartSeen) (ip : IsTrusted g p) (top : ℕ) (mem : ℕ → OWord)
     (fs : List OpenFrame) where
   argument_free : (i : ℕ) → Free g linked (argument i)
   argument_free zero = free_a0 g linked
@@ -222,7 +222,7 @@ rep_at zero i a lt = absurd (omega (arith, lt))
 rep_at (suc n) zero a lt = refl
 rep_at (suc n) (suc i) a lt = rep_at n i a (omega (arith, lt))
 
-module _ (g : Link) (linked : Linked g) (Begins : Target → PartSeen → ℕ → Type 0) where
+module _ (g : Link) (linked : IsLink g) (Begins : Target → PartSeen → ℕ → Type 0) where
   abbrev Handed : List Value → List (Option OWord) → List OWord → Type 0
   Handed = Passed g linked Begins
 

@@ -43,7 +43,7 @@ use Rattle.overlay_machine.specs.Flat.{flat}
 use Rattle.overlay_machine.specs.Step.{fails as failing_step, overlay_step, call_step, step_by, weight_of}
 use Rattle.overlay_machine.specs.Step.{weight_by, own_stack, at_call, new_frame, with_frames, ask, need}
 use Rattle.overlay_machine.specs.Link.{Link, IsTrusted, ranges_of}
-use Rattle.overlay_machine.specs.Linked.{Linked}
+use Rattle.overlay_machine.specs.Linked.{IsLink}
 use Rattle.overlay_machine.proofs.Offers.{own_from, frame_in}
 use Rattle.overlay_machine.specs.Safe.{IsMet}
 use Rattle.run_lines.specs.Layout.{is_trusted, part_name, site_of}
@@ -86,7 +86,7 @@ four_are (x0 ∷ x1 ∷ x2 ∷ x3 ∷ x4 ∷ xs) q len hd = absurd (omega (arith
 abbrev zeros_of : ℕ → List OWord
 zeros_of n = replicate n (Plain (Int (pos 0)))
 
-module _ (g : Link) (linked : Linked g) (Begins : Target → PartSeen → ℕ → Type 0) where
+module _ (g : Link) (linked : IsLink g) (Begins : Target → PartSeen → ℕ → Type 0) where
   -- two words that are a pair under one seal
   pub record Sealing (c : CapFields) (d : Sealable) (seal : ℕ) (x y : OWord) : Type 0 where
     pub code : x ≡ Plain (Sealed seal (MemIn c))

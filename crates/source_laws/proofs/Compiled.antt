@@ -30,7 +30,7 @@ use Rattle.overlay_machine.specs.declared.words.OWord.TheVariants.{Plain}
 use Rattle.overlay_machine.specs.Words.{look}
 use Rattle.overlay_machine.specs.State.{OpenFrame, OState}
 use Rattle.overlay_machine.specs.Link.{Link, IsTrusted}
-use Rattle.overlay_machine.specs.Linked.{Linked}
+use Rattle.overlay_machine.specs.Linked.{IsLink}
 use Rattle.run_lines.specs.Layout.{part_name, site_of}
 use Rattle.proc_program.specs.StepView.{block_of}
 use Rattle.proc_semantics.specs.Values.{Store, taken}
@@ -77,7 +77,7 @@ two_front (x ∷ y ∷ ws) a b e f =
     let t : y ≡ b = cc in
     (ws, ap (λ z. z ∷ y ∷ ws) s ∙ ap (λ z. a ∷ z ∷ ws) t)
 
-module _ (world : World) (g : Link) (linked : Linked g) (Begins : Target → PartSeen → ℕ → Type 0)
+module _ (world : World) (g : Link) (linked : IsLink g) (Begins : Target → PartSeen → ℕ → Type 0)
     (StoreIs : Store → (ℕ → OWord) → Type 0) where
   abbrev pub Regs : Registers → OState → Type 0
   Regs = RegsAre g linked Begins

@@ -11,7 +11,7 @@ use Rattle.overlay_machine.specs.Words.{look}
 use Rattle.overlay_machine.specs.State.{OState}
 use Rattle.overlay_machine.specs.Flat.{flat}
 use Rattle.overlay_machine.specs.Link.{Link}
-use Rattle.overlay_machine.specs.Linked.{Linked}
+use Rattle.overlay_machine.specs.Linked.{IsLink}
 use Rattle.run_lines.specs.Feed.{integers_in, feed_pairs}
 use Rattle.run_lines.specs.Lines.{args_of, feed_pair}
 use Rattle.run_lines.specs.Pairs.{pair_of, pairs_of}
@@ -24,7 +24,7 @@ use Rattle.template_runs.proofs.Offers.{is_half, Valid}
 use Rattle.source_laws.proofs.Callings.{flat_reg}
 use Rattle.source_laws.proofs.Parameters.{PairIs, fed_none, fed, all_fed, RegsAre}
 
-module _ (world : World) (g : Link) (linked : Linked g) (Begins : Target → PartSeen → ℕ → Type 0) where
+module _ (world : World) (g : Link) (linked : IsLink g) (Begins : Target → PartSeen → ℕ → Type 0) where
   -- two words that code outside may hold are the pair that is told of them
   abbrev pub FedWords : Type 0
   FedWords =

@@ -38,7 +38,7 @@ use Rattle.source_laws.specs.Trace.{Final, Running, Outside, HaltedWith, Failed,
 use Rattle.source_laws.specs.Good as good
 use Rattle.source_laws.specs.Seen as seen
 use Rattle.source_laws.specs.Seen.{Shown, Trace, shown_of, events_of, arg_shown, args_shown, thing_of}
-use Rattle.source_laws.specs.Words.{Tells, none_yet, and_then, words_at, back_at, word_from, TellsSo}
+use Rattle.source_laws.specs.Words.{RunTells, none_yet, and_then, words_at, back_at, word_from, TellsSo}
 use Rattle.source_laws.specs.Words.{WordsTold, WhenceTold}
 use Rattle.source_laws.proofs.Refined.{Report, Entry, World}
 use Rattle.source_laws.proofs.Follows.{Fits}
@@ -219,7 +219,7 @@ module _ (l : Layout) where
   trace_step k p q e = ap (λ x. seen.show l p x (seen.trace l k)) e
 
   tells_trace : (o : OState) (es : List Shown) (is : List (Thing OWord Entry)) (p : OState)
-      → Tells l o es is p
+      → RunTells l o es is p
       → (i : ℕ) × (n : ℕ) × ((k : ℕ) → seen.trace l (i + k) o ≡ seen.shown es is n (seen.trace l k p))
   tells_trace o _ _ _ none_yet = (
     0,
@@ -311,7 +311,7 @@ four_items l q e = by (lines.event_items l (flat_view l q) e)
     by (i ∷ is) = (one i, by is)
 
 four_told : (l : Layout) (o : OState) (es : List Shown) (is : List (Thing OWord Entry)) (p : OState)
-    → Tells l o es is p → Four is
+    → RunTells l o es is p → Four is
 four_told l o _ _ _ none_yet = tt
 four_told l o _ _ q (and_then {es = es} {is = is} {p = p} s e) =
     four_both is (seen.event_items l q (step_event l p q)) (four_told l o es is p s)
@@ -371,7 +371,7 @@ module _ (marks : Marks OWord) where
 
   -- the refined meaning of a run's items, read as words, is that of the items with their words
   pub whence_same : (world : values.World) (stack : ℕ) (l : Layout) (o : OState) (es : List Shown)
-      (is : List (Thing OWord Entry)) (p : OState) → Tells l o es is p → (f : ℕ)
+      (is : List (Thing OWord Entry)) (p : OState) → RunTells l o es is p → (f : ℕ)
       → report_to (word_from marks is) (back_at is) (refined world stack (map item_of is) f)
       ≡ marked_meaning OWord Entry marks world stack is f
   whence_same world stack l o es is p tells f =

@@ -32,7 +32,7 @@ use Rattle.overlay_machine.specs.Link.{Link, ranges_of}
 use Rattle.std.specs.List.{Contains}
 use Rattle.overlay_machine.specs.Safe.{IsMet}
 use Rattle.overlay_machine.specs.Invariant.{FrameLies, FramesLie}
-use Rattle.overlay_machine.specs.Linked.{Linked}
+use Rattle.overlay_machine.specs.Linked.{IsLink}
 use Rattle.overlay_machine.proofs.Offers.{own_from, frame_in, frame_of-cons, below_all}
 use Rattle.run_lines.specs.Layout.{part_name, site_of}
 use Rattle.run_lines.specs.Views.{flat_view}
@@ -54,7 +54,7 @@ use Rattle.source_laws.proofs.Meanwhile.{ends_law}
 use Rattle.source_laws.proofs.Waiting.{IsFor, Resumes, WaitLaw, LeaveLaw, call_waits}
 use Rattle.source_laws.proofs.Waits.{rest_length}
 
-module _ (g : Link) (linked : Linked g) (p : PartSeen) (k : ℕ) (q : OState) (v : Valid g linked q)
+module _ (g : Link) (linked : IsLink g) (p : PartSeen) (k : ℕ) (q : OState) (v : Valid g linked q)
     (at : At g linked p k q) (h : Placed g linked p k (Xjmp Rcode Rdata)) (i j : ℕ)
     (ec : q.maps.regs.rcode ≡ RetCode i) (ed : q.maps.regs.rdata ≡ RetData j)
     (f : OpenFrame) (fs : List OpenFrame) (frames : q.frames ≡ f ∷ fs) where

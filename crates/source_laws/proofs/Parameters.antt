@@ -32,7 +32,7 @@ use Rattle.overlay_machine.specs.declared.words.OWord.TheVariants.{Plain, RetCod
 use Rattle.overlay_machine.specs.Words.{look}
 use Rattle.overlay_machine.specs.State.{OpenFrame, OState}
 use Rattle.overlay_machine.specs.Link.{Link, IsTrusted}
-use Rattle.overlay_machine.specs.Linked.{Linked}
+use Rattle.overlay_machine.specs.Linked.{IsLink}
 use Rattle.proc_semantics.specs.declared.value.Target.{Target}
 use Rattle.proc_semantics.specs.declared.value.Pair.{Pair}
 use Rattle.source_events.specs.declared.End.TheVariants.{Fail as Fails}
@@ -78,7 +78,7 @@ sealed_of (Sealed s x) e = record { seal = s; inner = x; is = refl; normal = by 
     by true h = cc
     by false h = refl
 
-module _ (g : Link) (linked : Linked g) (Begins : Target → PartSeen → ℕ → Type 0) where
+module _ (g : Link) (linked : IsLink g) (Begins : Target → PartSeen → ℕ → Type 0) where
   -- ---- what registers hold
 
   -- a register's pair, as its word and the next one show it
@@ -161,7 +161,7 @@ argument_stays (suc (suc zero)) rs x y = refl
 argument_stays (suc (suc (suc zero))) rs x y = refl
 argument_stays (suc (suc (suc (suc i)))) rs x y = refl
 
-module _ (g : Link) (linked : Linked g) (p : PartSeen) (ip : IsTrusted g p)
+module _ (g : Link) (linked : IsLink g) (p : PartSeen) (ip : IsTrusted g p)
     (failing : Placed g linked p 0 Fail) (top : ℕ) (fs : List OpenFrame) (end n : ℕ) (m : Comp)
     (mem : ℕ → OWord) (ows : List OState) (lv : Live) where
   abbrev Inside : OState → Type 0
@@ -397,7 +397,7 @@ hold_none v (Some vs) e = absurd cc
 none_some : (env : List Value) → None ≡ Some env → ⊥
 none_some env e = cc
 
-module _ (g : Link) (linked : Linked g) (Begins : Target → PartSeen → ℕ → Type 0) where
+module _ (g : Link) (linked : IsLink g) (Begins : Target → PartSeen → ℕ → Type 0) where
   abbrev Regs' : List Register → List (Option OWord) → List OWord → Type 0
   Regs' = RegsFrom g linked Begins
 

@@ -13,7 +13,7 @@ use Rattle.linked_starts.specs.Parts.{PartSeen}
 use Rattle.trusted_border.specs.declared.layout.SiteCode.{SiteCode}
 use Rattle.trusted_border.specs.Layout.{site_at}
 use Rattle.overlay_machine.specs.Link.{Link, IsTrusted}
-use Rattle.overlay_machine.specs.Linked.{Linked}
+use Rattle.overlay_machine.specs.Linked.{IsLink}
 use Rattle.overlay_machine.proofs.Offers.{site_of}
 use Rattle.run_lines.specs.Layout.{site_of as numbered_site}
 use Rattle.proc_templates.specs.Items.{Spot, Item, does, guards, goes, goes_if, finishes, label, site, entry}
@@ -36,7 +36,7 @@ word_is (Some (Mem c)) i e = absurd cc
 word_is (Some (Seal c)) i e = absurd cc
 word_is (Some (Sealed n x)) i e = absurd cc
 
-module _ (g : Link) (linked : Linked g) (p : PartSeen) where
+module _ (g : Link) (linked : IsLink g) (p : PartSeen) where
   pub placed_of : (k : ℕ) (i : Instr) → Stands p.component k i → Placed g linked p k i
   unfolding instr_at
   placed_of k i s =
@@ -72,7 +72,7 @@ module _ (g : Link) (linked : Linked g) (p : PartSeen) where
     subst (λ q. Stand g linked p spot.epilogue q xs) (behind-words k x) (stand_of spot (behind k x) xs h.1),
   )
 
-module _ (g : Link) (linked : Linked g) (p : PartSeen) (end : ℕ) where
+module _ (g : Link) (linked : IsLink g) (p : PartSeen) (end : ℕ) where
   -- where a site begins, the layout has it
   pub site_here : (k : ℕ) → IsTrusted g p → k < length p.component.code → begins_site p.component k ≡ true
       → (i : ℕ) × (u : SiteCode) × SiteHere g linked p k i u

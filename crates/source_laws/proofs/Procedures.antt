@@ -11,7 +11,7 @@ use Rattle.linked_starts.specs.Parts.{PartSeen}
 use Rattle.overlay_machine.specs.declared.words.OWord.{OWord}
 use Rattle.overlay_machine.specs.State.{OpenFrame}
 use Rattle.overlay_machine.specs.Link.{Link, IsTrusted}
-use Rattle.overlay_machine.specs.Linked.{Linked}
+use Rattle.overlay_machine.specs.Linked.{IsLink}
 use Rattle.proc_templates.specs.Items.{does, leaves, zero_of, wiped}
 use Rattle.proc_templates.specs.Templates.{arguments, check_params, checks_words, push, pushed, wipe}
 use Rattle.proc_templates.specs.Templates.{take_back}
@@ -62,7 +62,7 @@ last_words =
     T1
     ∷ zero_of T2 ∷ (map zero_of wiped ++ (Xjmp Rcode Rdata ∷ []))
 
-module _ (g : Link) (linked : Linked g) (p : PartSeen) (ip : IsTrusted g p) (end top : ℕ) (mem : ℕ → OWord)
+module _ (g : Link) (linked : IsLink g) (p : PartSeen) (ip : IsTrusted g p) (end top : ℕ) (mem : ℕ → OWord)
     (fs : List OpenFrame) where
   pub prologue_of : (rs : List Reg) (k : ℕ) → Stand g linked p end k (push rs)
       → Code g linked p k (prologue g linked p ip top mem fs rs)

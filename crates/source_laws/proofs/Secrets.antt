@@ -80,7 +80,7 @@ module _ (g : Link) where
   ends_from a _ (and_then {p} u s lo hi) j x q k = ends_from a p u (suc j) x q (ends_later s lo hi k)
 
   pub gives_back : (s : StartSeen) → g.layout ≡ layout s
-      → ((n : ℕ) → Quiet g S B [] n (overlay_at s).state) → (a p q : OState) → secrets.Ends s a p q
+      → ((n : ℕ) → Quiet g S B [] n (overlay_at s).state) → (a p q : OState) → secrets.LeavesAt s a p q
       → GivesBack g.layout a q
   gives_back s same quiet a p q h =
       let r = h.entered in

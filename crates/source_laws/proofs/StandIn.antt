@@ -13,7 +13,7 @@ use Rattle.overlay_machine.specs.Events.{owner_now}
 use Rattle.overlay_machine.specs.State.{OState}
 use Rattle.overlay_machine.specs.Starting.{overlay_at}
 use Rattle.overlay_machine.specs.Link.{Link, IsTrusted}
-use Rattle.overlay_machine.specs.Linked.{Linked}
+use Rattle.overlay_machine.specs.Linked.{IsLink}
 use Rattle.run_lines.specs.Layout.{layout, part_name, entry_name}
 use Rattle.proc_program.specs.declared.program.Program.{Program}
 use Rattle.proc_semantics.specs.declared.value.Target.{Target}
@@ -34,7 +34,7 @@ use Rattle.source_laws.specs.Wiped.{WipedAlways}
 
 -- How the modules show in a link: which entry of which part a procedure has, and how their globals stand in
 -- the data of parts. The compiler's components and the layout of a linked start give what is asked of them.
-module _ (world : World) (g : Link) (linked : Linked g) (Begins : Target → PartSeen → ℕ → Type 0)
+module _ (world : World) (g : Link) (linked : IsLink g) (Begins : Target → PartSeen → ℕ → Type 0)
     (StoreIs : Store → (ℕ → OWord) → Type 0) where
   pub record StandIn : Type 0 where
     -- the layout has the names of trusted parts and of their entries, and the sites by their seals

@@ -20,7 +20,7 @@ use Rattle.source_laws.specs.Trace.{Running, Outside, HaltedWith, Failed, rests,
 use Rattle.source_laws.specs.Trace.{event_items, standing, ended, weighed, show, trace, Trace, Final}
 use Rattle.template_runs.specs.Runs.{is_inside}
 use Rattle.source_laws.specs.Good.{MeaningAgrees}
-use Rattle.source_laws.specs.Sources.{Shows, none_yet, and_then, MeaningEnds, MeaningBegins, MeaningTakes}
+use Rattle.source_laws.specs.Sources.{RunShows, none_yet, and_then, MeaningEnds, MeaningBegins, MeaningTakes}
 use Rattle.source_laws.specs.Sources.{MeansAt, AgreeingRunsMean}
 use Rattle.source_laws.proofs.Integers.{where_ends, where_begins}
 
@@ -40,7 +40,7 @@ module _ (l : Layout) where
 
   -- a run shows what its first steps show, and then the rest
   pub shows_trace : (o : OState) (j n : ℕ) (es : List OutLine) (is : List Item) (p : OState)
-      → Shows l o j n es is p → (i : ℕ) × ((k : ℕ) → trace l (i + k) o ≡ shown es is n (trace l k p))
+      → RunShows l o j n es is p → (i : ℕ) × ((k : ℕ) → trace l (i + k) o ≡ shown es is n (trace l k p))
   shows_trace o _ _ _ _ _ none_yet = (
     0,
     λ k. (let z : 0 + k ≡ k = omega arith in
@@ -84,7 +84,7 @@ module _ (world : World) (stack : ℕ) (l : Layout) (o : OState)
   M : Comp
   M fuel feed = meaning world stack feed fuel
 
-  module _ (j n : ℕ) (es : List OutLine) (is : List Item) (p : OState) (s : Shows l o j n es is p) where
+  module _ (j n : ℕ) (es : List OutLine) (is : List Item) (p : OState) (s : RunShows l o j n es is p) where
     -- what is said of the run that ends after these steps, with what comes next
     agrees_at : (k m : ℕ) (f : Final) → trace l k p ≡ rests m f
         → MeaningAgrees 0 (record { out = es; items = is; weight = n + m; final = f })

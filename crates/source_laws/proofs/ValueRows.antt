@@ -12,7 +12,7 @@ use Rattle.overlay_machine.specs.declared.words.OWord.{OWord}
 use Rattle.overlay_machine.specs.declared.words.OWord.TheVariants.{Plain}
 use Rattle.overlay_machine.specs.State.{OpenFrame, OState}
 use Rattle.overlay_machine.specs.Link.{Link, IsTrusted}
-use Rattle.overlay_machine.specs.Linked.{Linked}
+use Rattle.overlay_machine.specs.Linked.{IsLink}
 use Rattle.proc_language.specs.declared.tree.Op.{Op}
 use Rattle.proc_language.specs.declared.tree.Op.TheVariants as operator
 use Rattle.proc_program.specs.declared.program.Array.{Array}
@@ -38,7 +38,7 @@ value_is operator.Minus x y = refl
 value_is operator.Less x y = ap Some (bit_same (int_lt x y))
 value_is operator.Equal x y = ap Some (bit_same (int_eq x y))
 
-module _ (world : World) (g : Link) (linked : Linked g) (p : PartSeen) (ip : IsTrusted g p) (w top : ℕ)
+module _ (world : World) (g : Link) (linked : IsLink g) (p : PartSeen) (ip : IsTrusted g p) (w top : ℕ)
     (fs : List OpenFrame)
     (ow : Owing fs) (n : ℕ) where
   abbrev Inside : ℤ → List OWord → (ℕ → OWord) → OState → Type 0

@@ -21,7 +21,7 @@ use Rattle.overlay_machine.specs.Step.{Ending, goes, halts, fails, overlay_step,
 use Rattle.overlay_machine.specs.Invariant.{FramesLie, FrameLies}
 use Rattle.overlay_machine.specs.Events.{step_event, entered_event, shown_word}
 use Rattle.overlay_machine.specs.Link.{Link, IsTrusted, ranges_of}
-use Rattle.overlay_machine.specs.Linked.{Linked}
+use Rattle.overlay_machine.specs.Linked.{IsLink}
 use Rattle.overlay_machine.proofs.Offers.{Returned, put_back-other}
 use Rattle.run_lines.specs.Layout.{part_name, entry_name, site_of}
 use Rattle.run_lines.specs.Views.{flat_view}
@@ -54,7 +54,7 @@ pub rest_length : (ws : List OWord) (j : ℕ) → length ws ≡ j + 1 → length
 rest_length [] j e = absurd (omega (arith, e))
 rest_length (w ∷ ws) j e = omega (arith, e)
 
-module _ (g : Link) (linked : Linked g) where
+module _ (g : Link) (linked : IsLink g) where
   -- the items of an entry and of a return, as the state after them shows them
   abbrev thing : OState → Item → Thing
   thing q i = thing_of g.layout q i

@@ -25,7 +25,7 @@ use Rattle.proc_semantics.specs.Marked.{Whence, Calls, Leaves, refined, event_to
 use Rattle.source_laws.specs.Secrets.{HasCome, begins, comes, Until, still_there, one_more, LetsGo}
 use Rattle.source_laws.specs.Secrets.{LeavesNothing, ComesFrom, RanLast, at_start, outside}
 use Rattle.source_laws.specs.Seen.{Back, Shown, event_outs, event_items, trace, standing}
-use Rattle.source_laws.specs.Words.{Tells, word_from, back_at}
+use Rattle.source_laws.specs.Words.{RunTells, word_from, back_at}
 use Rattle.source_laws.specs.Words as words
 use Rattle.source_laws.specs.Wiped.{low_of, last_outside, TellsSince, none_yet, and_then, WipedAlways}
 use Rattle.source_laws.proofs.Refined.{World, Thing, Event, meaning}
@@ -48,7 +48,7 @@ no_items l q = ap (λ t. t.items) (trace_rests l q) ∙ standing_items l (is_ins
 
 module _ (l : Layout) where
   pub tells_of : (o : OState) (es : List Shown) (is : List Thing) (b p : OState) → TellsSince l o es is b p
-      → Tells l o es is p
+      → RunTells l o es is p
   tells_of o _ _ _ _ none_yet = words.none_yet
   tells_of o _ _ _ q (and_then {es = es} {is = is} {b = b} {p = p} t e) =
       words.and_then (tells_of o es is b p t) e

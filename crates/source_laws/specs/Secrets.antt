@@ -65,7 +65,7 @@ pub data Goes (l : Layout) (a : OState) : OState → Type 0 where
       → (is_inside l q ≡ false → length a.frames < length q.frames) → Goes l a q
 
 -- and with the next step it leaves
-pub record Ends (s : StartSeen) (a p q : OState) : Type 0 where
+pub record LeavesAt (s : StartSeen) (a p q : OState) : Type 0 where
   pub entered : HasEntered s a
   pub until : Goes (layout s) a p
   pub inside : is_inside (layout s) p ≡ true
@@ -96,4 +96,4 @@ pub record LeavesNothing (g : Link) (s : StartSeen) : Type 0 where
   pub shows : (o p q : OState) → LetsGo s o p q → ShowsNoMore g o p q
   pub tidied : (b o p q : OState) → ComesFrom s b o → LetsGo s o p q → IsTidied g b q
   pub wiped : (b o p q : OState) → RanLast s o b → LetsGo s o p q → (low : Option ℕ) × Wiped g low b q
-  pub gives_back : (a p q : OState) → Ends s a p q → GivesBack g.layout a q
+  pub gives_back : (a p q : OState) → LeavesAt s a p q → GivesBack g.layout a q

@@ -25,11 +25,11 @@ use Rattle.source_laws.specs.Good.{MeaningAgrees}
 
 -- from one overlay a run of this weight comes to another, which is a matched point: of it the weight of the
 -- steps that began in trusted code, what went out of the modules, and the items of the feed
-pub data Shows (l : Layout) (o : OState) : ℕ → ℕ → List OutLine → List Item → OState → Type 0 where
-  none_yet : Shows l o 0 0 [] [] o
-  and_then : {j n : ℕ} {es : List OutLine} {is : List Item} {p q : OState} → Shows l o j n es is p
+pub data RunShows (l : Layout) (o : OState) : ℕ → ℕ → List OutLine → List Item → OState → Type 0 where
+  none_yet : RunShows l o 0 0 [] [] o
+  and_then : {j n : ℕ} {es : List OutLine} {is : List Item} {p q : OState} → RunShows l o j n es is p
       → overlay_step l p ≡ goes q
-      → Shows l o (j + weight_of l p) (n + weighed (is_inside l p) (weight_of l p))
+      → RunShows l o (j + weight_of l p) (n + weighed (is_inside l p) (weight_of l p))
       (es ++ event_outs l (flat_view l q) (step_event l p q))
       (is ++ event_items l (flat_view l q) (step_event l p q)) q
 
@@ -77,7 +77,7 @@ pub record MeansAt (world : World) (stack : ℕ) (l : Layout) (n : ℕ) (es : Li
 abbrev pub MeansAlways : World → ℕ → StartSeen → Type 0
 MeansAlways world stack s =
     (j n : ℕ) (es : List OutLine) (is : List Item) (p : OState)
-    → Shows (layout s) (overlay_at s).state j n es is p → MeansAt world stack (layout s) n es is p
+    → RunShows (layout s) (overlay_at s).state j n es is p → MeansAt world stack (layout s) n es is p
 
 -- the meaning agrees with the run of each number of steps
 abbrev pub AgreesAlways : World → ℕ → StartSeen → Type 0

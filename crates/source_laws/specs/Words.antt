@@ -18,11 +18,11 @@ use Rattle.proc_semantics.specs.Marked.{Marks, Thing, Whence, OwnWord, ImportWor
 use Rattle.proc_semantics.specs.Marked.{report_to, marked_meaning}
 
 -- from one overlay a run comes to another: of it what went out, and what came in, each with its words
-pub data Tells (l : Layout) (o : OState) : List Shown → List (Thing OWord Back) → OState → Type 0 where
-  none_yet : Tells l o [] [] o
-  and_then : {es : List Shown} {is : List (Thing OWord Back)} {p q : OState} → Tells l o es is p
+pub data RunTells (l : Layout) (o : OState) : List Shown → List (Thing OWord Back) → OState → Type 0 where
+  none_yet : RunTells l o [] [] o
+  and_then : {es : List Shown} {is : List (Thing OWord Back)} {p q : OState} → RunTells l o es is p
       → overlay_step l p ≡ goes q
-      → Tells l o (es ++ event_outs l q (step_event l p q)) (is ++ event_items l q (step_event l p q)) q
+      → RunTells l o (es ++ event_outs l q (step_event l p q)) (is ++ event_items l q (step_event l p q)) q
 
 -- the words that came with an item
 abbrev pub words_at : List (Thing OWord Back) → ℕ → List OWord
@@ -50,7 +50,7 @@ TellsSo inside es told = ((rest : List Shown) × (told ≡ es ++ rest)) × (insi
 abbrev pub WordsTold : Marks OWord → World → ℕ → StartSeen → Type 0
 WordsTold marks world stack s =
     (es : List Shown) (is : List (Thing OWord Back)) (p : OState)
-    → Tells (layout s) (overlay_at s).state es is p
+    → RunTells (layout s) (overlay_at s).state es is p
     → (enough : ℕ) × ((f : ℕ) → enough ≤ f
     → TellsSo (is_inside (layout s) p) es (events_of (marked_meaning OWord Back marks world stack is f)))
 
@@ -59,7 +59,7 @@ WordsTold marks world stack s =
 abbrev pub WhenceTold : Marks OWord → World → ℕ → StartSeen → Type 0
 WhenceTold marks world stack s =
     (es : List Shown) (is : List (Thing OWord Back)) (p : OState)
-    → Tells (layout s) (overlay_at s).state es is p
+    → RunTells (layout s) (overlay_at s).state es is p
     → (enough : ℕ) × ((f : ℕ) → enough ≤ f
     → TellsSo (is_inside (layout s) p) es (events_of (report_to (word_from marks is) (back_at is)
     (refined world stack (map (λ x. x.item) is) f))))

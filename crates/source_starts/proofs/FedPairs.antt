@@ -29,7 +29,7 @@ use Rattle.overlay_machine.specs.Words.{look}
 use Rattle.overlay_machine.specs.State.{OpenFrame, OState}
 use Rattle.overlay_machine.specs.Flat.{flat}
 use Rattle.overlay_machine.specs.Link.{Link, ranges_of}
-use Rattle.overlay_machine.specs.Linked.{Linked}
+use Rattle.overlay_machine.specs.Linked.{IsLink}
 use Rattle.overlay_machine.specs.Names.{NamesTold}
 use Rattle.overlay_machine.specs.Safe.{IsSafeCap}
 use Rattle.overlay_machine.specs.Starting.{overlay_at}
@@ -93,7 +93,7 @@ linear_is n (SealC c) = refl
 module _ (modules : List ModuleFields) (parts : List PartSeen) (size : ℕ) (s : StartSeen)
     (is : IsLinkedStart parts size s) (aligned : Aligned modules (trusted_parts parts))
     (limits : Each IsModule modules) (resolved : Each (λ m. name_faults m ≡ []) modules)
-    (linked : Linked (the_link parts size s is)) (own : PairsAreOwn) where
+    (linked : IsLink (the_link parts size s is)) (own : PairsAreOwn) where
   abbrev G : Link
   G = the_link parts size s is
 

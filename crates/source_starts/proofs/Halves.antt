@@ -20,7 +20,7 @@ use Rattle.trusted_border.specs.Layout.{runs_part, site_code}
 use Rattle.trusted_border.specs.Reaches.{site_of_seal}
 use Rattle.overlay_machine.specs.declared.words.OWord.TheVariants.{Plain}
 use Rattle.overlay_machine.specs.Link.{Link, IsTrusted, IsUntrusted, ranges_of}
-use Rattle.overlay_machine.specs.Linked.{Linked}
+use Rattle.overlay_machine.specs.Linked.{IsLink}
 use Rattle.overlay_machine.specs.Safe.{IsOpenSeal}
 use Rattle.overlay_machine.proofs.Offers.{found_at, numbered_is, crossing_code_is as code_is}
 use Rattle.run_lines.specs.Layout.{is_trusted}
@@ -31,7 +31,7 @@ use Rattle.source_laws.proofs.Offers.{Half, Sealing}
 pub half_of : (n : ℕ) (c : CapFields) → lin_is c.lin ≡ false → Half (Plain (Sealed n (MemIn c)))
 half_of n c e = record { stays_whole = e; stays_face = e; no_number = refl; sealed = rw e refl }
 
-module _ (g : Link) (linked : Linked g) (Begins : Target → PartSeen → ℕ → Type 0) where
+module _ (g : Link) (linked : IsLink g) (Begins : Target → PartSeen → ℕ → Type 0) where
   open_closure : (p : PartSeen) → IsUntrusted g p → IsOpenSeal g p.component.closure
   open_closure p u = let t = eq-eqb p.component.closure p.component.closure refl in (p, u, rw t refl)
 

@@ -23,7 +23,7 @@ use Rattle.source_events.specs.Outs.{OutLine}
 use Rattle.template_runs.specs.Runs.{is_inside}
 use Rattle.source_laws.specs.Trace.{event_outs, event_items, weighed}
 use Rattle.source_laws.specs.Sources as runs
-use Rattle.source_laws.specs.Sources.{Shows}
+use Rattle.source_laws.specs.Sources.{RunShows}
 
 module _ (l : Layout) (v : View) where
   -- a pass line sends nothing out
@@ -53,7 +53,7 @@ module _ (l : Layout) (v : View) where
 module _ (l : Layout) (o : OState) (join : OutsJoin) (items_join : ItemsJoin) (entries : EntriesAreItems)
     (tell : StepsTellSo) where
   pub lines_show : (j : ℕ) (ls : List Line) (p : OState) → Told l o j ls p
-      → (n : ℕ) × Shows l o j n (line.outs_of ls) (line.items_of l.stack.base ls) p
+      → (n : ℕ) × RunShows l o j n (line.outs_of ls) (line.items_of l.stack.base ls) p
   lines_show _ _ _ none_yet = (0, runs.none_yet)
   lines_show _ _ q (and_then {j = j} {ls = ls} {p = p} t e) =
       let h = lines_show j ls p t in
@@ -68,16 +68,16 @@ module _ (l : Layout) (o : OState) (join : OutsJoin) (items_join : ItemsJoin) (e
       ∙ ap (λ xs. line.items_of l.stack.base ls ++ xs)
       (items_same l (flat_view l q) entries (step_event l p q)) in (
         h.0 + weighed (is_inside l p) (weight_of l p),
-        subst (λ xs. Shows l o (j + weight_of l p) (h.0 + weighed (is_inside l p) (weight_of l p)) xs
+        subst (λ xs. RunShows l o (j + weight_of l p) (h.0 + weighed (is_inside l p) (weight_of l p)) xs
             (line.items_of l.stack.base (ls ++ step_lines l p q)) q) (sym outs)
-            (subst (λ ys. Shows l o (j + weight_of l p) (h.0 + weighed (is_inside l p) (weight_of l p))
+            (subst (λ ys. RunShows l o (j + weight_of l p) (h.0 + weighed (is_inside l p) (weight_of l p))
             (line.outs_of ls ++ event_outs l (flat_view l q) (step_event l p q)) ys q) (sym items)
             (runs.and_then h.1 e)),
       )
 
 -- steps that show something lead to where they come to
 pub shows_lead : (l : Layout) (o : OState) (j n : ℕ) (es : List OutLine) (is : List Item) (p : OState)
-    → Shows l o j n es is p → Leads l o j n p
+    → RunShows l o j n es is p → Leads l o j n p
 shows_lead l o _ _ _ _ _ runs.none_yet = cuts.no_step
 shows_lead l o _ _ _ _ q (runs.and_then {j = j} {n = n} {es = es} {is = is} {p = p} h e) =
     cuts.and_step (shows_lead l o j n es is p h) e

@@ -35,7 +35,7 @@ use Rattle.overlay_machine.specs.Words.{look}
 use Rattle.overlay_machine.specs.State.{OState}
 use Rattle.overlay_machine.specs.Step.{own_stack}
 use Rattle.overlay_machine.specs.Link.{Link, IsTrusted, ranges_of}
-use Rattle.overlay_machine.specs.Linked.{Linked}
+use Rattle.overlay_machine.specs.Linked.{IsLink}
 use Rattle.overlay_machine.specs.Safe.{IsSafe}
 use Rattle.overlay_machine.specs.Invariant.{Invariant, PcPart, at_fail, at_row, outside}
 use Rattle.overlay_machine.specs.Starting.{overlay_at}
@@ -121,7 +121,7 @@ stack_is (p ∷ ps) size stack e = by_size (is_stack_size size) e
 module _ (modules : List ModuleFields) (parts : List PartSeen) (size : ℕ) (s : StartSeen)
     (is : IsLinkedStart parts size s) (aligned : Aligned modules (trusted_parts parts))
     (limits : Each IsModule modules) (resolved : Each (λ m. name_faults m ≡ []) modules)
-    (linked : Linked (the_link parts size s is))
+    (linked : IsLink (the_link parts size s is))
     (holds : Invariant (the_link parts size s is) (overlay_at s).state s.state.maps) where
   abbrev pub G : Link
   G = the_link parts size s is

@@ -23,7 +23,7 @@ use Rattle.linked_starts.specs.LinkedStarts.{IsLinkedStart}
 use Rattle.overlay_machine.specs.declared.words.OWord.{OWord}
 use Rattle.overlay_machine.specs.declared.words.OWord.TheVariants.{Plain}
 use Rattle.overlay_machine.specs.Link.{Link, IsTrusted, IsUntrusted, ranges_of}
-use Rattle.overlay_machine.specs.Linked.{Linked}
+use Rattle.overlay_machine.specs.Linked.{IsLink}
 use Rattle.overlay_machine.specs.Invariant.{Invariant}
 use Rattle.overlay_machine.specs.Starting.{overlay_at}
 use Rattle.overlay_machine.proofs.Offers.{listed_at}
@@ -35,7 +35,7 @@ use Rattle.proc_program.specs.declared.program.ProgramImport as program
 use Rattle.proc_program.specs.declared.program.Program.{Program}
 use Rattle.proc_program.specs.declared.program.Procedure.{Procedure}
 use Rattle.proc_program.specs.Lower.{part_of}
-use Rattle.proc_program.specs.Limits.{IsPart}
+use Rattle.proc_program.specs.Limits.{IsProgram}
 use Rattle.proc_program.proofs.Offers.{part_fits}
 use Rattle.proc_templates.specs.Compiled.{pair_count, imports_of}
 use Rattle.proc_semantics.specs.declared.value.Target.{Target}
@@ -60,7 +60,7 @@ use Rattle.run_items.proofs.Offers.{signed_fits}
 module _ (modules : List ModuleFields) (parts : List PartSeen) (size : ℕ) (s : StartSeen)
     (is : IsLinkedStart parts size s) (aligned : Aligned modules (trusted_parts parts))
     (limits : Each IsModule modules) (resolved : Each (λ m. name_faults m ≡ []) modules)
-    (linked : Linked (the_link parts size s is))
+    (linked : IsLink (the_link parts size s is))
     (holds : Invariant (the_link parts size s is) (overlay_at s).state s.state.maps) where
   abbrev pub G : Link
   G = the_link parts size s is
@@ -277,7 +277,7 @@ module _ (modules : List ModuleFields) (parts : List PartSeen) (size : ℕ) (s :
       (sym (ap (λ (xs : List Import). slice_get xs n) h.placed.imports) ∙ here) in
       (λ e. omega (arith, b, e), λ e. omega (arith, b, e)))))
 
-  pub module_fits : (i : ℕ) (p : PartSeen) (h : Home modules parts i p) → IsPart (part_of h.source)
+  pub module_fits : (i : ℕ) (p : PartSeen) (h : Home modules parts i p) → IsProgram (part_of h.source)
   module_fits i p h = part_fits h.source (each_at IsModule modules i h.source limits h.source_is)
 
   abbrev pub first_store : Store

@@ -22,7 +22,7 @@ use Rattle.overlay_machine.specs.Step.{goes, overlay_step, weight_of}
 use Rattle.overlay_machine.specs.Runs.{Reached}
 use Rattle.overlay_machine.specs.Flat.{flat, beside, flat_data, IsFlat}
 use Rattle.overlay_machine.specs.Link.{Link, has_cell, regions}
-use Rattle.overlay_machine.specs.Linked.{Linked}
+use Rattle.overlay_machine.specs.Linked.{IsLink}
 use Rattle.overlay_machine.specs.Invariant.{Invariant}
 use Rattle.overlay_machine.specs.Safe.{IsMet}
 use Rattle.overlay_machine.specs.Starting.{AgreesFromStart, StartsBegin}
@@ -39,7 +39,7 @@ use Rattle.source_starts.specs.Links.{overlay_link}
 use Rattle.source_starts.specs.Sources.{SourcesLeaveNothing}
 use Rattle.source_starts.proofs.StartWords.{held_at}
 
-module _ (g : Link) (linked : Linked g) (s : StartSeen) (same : g.layout ≡ layout s)
+module _ (g : Link) (linked : IsLink g) (s : StartSeen) (same : g.layout ≡ layout s)
     (holds : (j : ℕ) (p : OState) → Matched s j p → (u : State Word) × Invariant g p u)
     (head : Headline s) where
   -- later in a run, from a state on: a call that was made before it and is open was open there

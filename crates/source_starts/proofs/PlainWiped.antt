@@ -19,7 +19,7 @@ use Rattle.overlay_machine.specs.Step.{goes, overlay_step}
 use Rattle.overlay_machine.specs.Runs.{Reached}
 use Rattle.overlay_machine.specs.Flat.{flat, beside, IsFlat}
 use Rattle.overlay_machine.specs.Link.{Link}
-use Rattle.overlay_machine.specs.Linked.{Linked}
+use Rattle.overlay_machine.specs.Linked.{IsLink}
 use Rattle.overlay_machine.specs.Invariant.{Invariant}
 use Rattle.overlay_machine.specs.Starting.{overlay_at, AgreesFromStart, StartsBegin}
 use Rattle.run_lines.specs.Layout.{layout}
@@ -37,7 +37,7 @@ use Rattle.source_starts.specs.Links.{overlay_link}
 use Rattle.source_starts.proofs.StartWords.{held_at}
 use Rattle.source_starts.proofs.PlainSecrets.{Trail, trail_step, here, was_in_reach}
 
-module _ (g : Link) (linked : Linked g) (s : StartSeen) (same : g.layout ≡ layout s)
+module _ (g : Link) (linked : IsLink g) (s : StartSeen) (same : g.layout ≡ layout s)
     (holds : (j : ℕ) (p : OState) → Matched s j p → (u : State Word) × Invariant g p u)
     (head : Headline s) where
   -- since code outside ran last

@@ -20,7 +20,7 @@ use Rattle.template_runs.specs.Runs.{is_inside}
 use Rattle.proc_semantics.specs.Values.{World}
 use Rattle.proc_semantics.specs.Marked.{Marks, Thing, Event, Calls, Leaves, Whence, refined, arg_to, event_to}
 use Rattle.source_laws.specs.Seen.{Back, Shown, args_shown, call_shown, shown_of, event_outs, event_items}
-use Rattle.source_laws.specs.Words.{Tells, none_yet, and_then, word_from, back_at, WhenceTold, TellsSo}
+use Rattle.source_laws.specs.Words.{RunTells, none_yet, and_then, word_from, back_at, WhenceTold, TellsSo}
 use Rattle.source_starts.specs.PlainWords.{CallTold, PlainCallTold, PlainRunsTellWords}
 use Rattle.source_starts.specs.Words.{SourcesTellWords}
 
@@ -71,25 +71,26 @@ call_told l q i base word back (Leaves part v low e) h =
 
 module _ (s : StartSeen) (head : Headline s) where
   tells_matched : (es : List Shown) (is : List (Thing OWord Back)) (p : OState)
-      → Tells (layout s) (overlay_at s).state es is p → (j : ℕ) × Matched s j p
+      → RunTells (layout s) (overlay_at s).state es is p → (j : ℕ) × Matched s j p
   tells_matched _ _ _ none_yet = (0, Reached.begins)
   tells_matched _ _ _ (and_then {es = es} {is = is} {p = p} t e) =
       let r = tells_matched es is p t in (r.0 + weight_of (layout s) p, Reached.goes_on r.1 e)
 
   pub plain_told : (marks : Marks OWord) (world : World) (stack : ℕ) → WhenceTold marks world stack s
       → (es : List Shown) (is : List (Thing OWord Back)) (p q : OState)
-      → Tells (layout s) (overlay_at s).state es is p → overlay_step (layout s) p ≡ goes q
+      → RunTells (layout s) (overlay_at s).state es is p → overlay_step (layout s) p ≡ goes q
       → (i base last : ℕ) → step_event (layout s) p q ≡ Some (Called false i base last)
       → PlainCallTold marks world stack s es is q base
   plain_told marks world stack told es is p q tells steps i base last ev =
       let l = layout s in
-      let more : Tells l (overlay_at s).state (es ++ event_outs l q (step_event l p q))
+      let more : RunTells l (overlay_at s).state (es ++ event_outs l q (step_event l p q))
       (is ++ event_items l q (step_event l p q)) q = and_then tells steps in
-      let more2 : Tells l (overlay_at s).state (es ++ call_shown l q i base ∷ []) (is ++ []) q =
-      subst (λ z. Tells l (overlay_at s).state (es ++ event_outs l q z) (is ++ event_items l q z) q) ev more
+      let more2 : RunTells l (overlay_at s).state (es ++ call_shown l q i base ∷ []) (is ++ []) q =
+      subst (λ z. RunTells l (overlay_at s).state (es ++ event_outs l q z) (is ++ event_items l q z) q) ev
+      more
       in
-      let more3 : Tells l (overlay_at s).state (es ++ call_shown l q i base ∷ []) is q =
-      subst (λ z. Tells l (overlay_at s).state (es ++ call_shown l q i base ∷ []) z q)
+      let more3 : RunTells l (overlay_at s).state (es ++ call_shown l q i base ∷ []) is q =
+      subst (λ z. RunTells l (overlay_at s).state (es ++ call_shown l q i base ∷ []) z q)
       (append-nil is) more2 in
       let r = tells_matched (es ++ call_shown l q i base ∷ []) is q more3 in
       let m = head.agrees.matched r.0 q r.1 in

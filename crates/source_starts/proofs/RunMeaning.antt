@@ -12,7 +12,7 @@ use Rattle.headline.specs.Headline.{HeadlineHolds}
 use Rattle.run_lines.proofs.Offers.{reached_by}
 use Rattle.proc_language.specs.declared.module.ModuleFields.{ModuleFields}
 use Rattle.proc_program.specs.Lower.{part_of}
-use Rattle.source_laws.specs.Sources.{Shows}
+use Rattle.source_laws.specs.Sources.{RunShows}
 use Rattle.source_starts.specs.Links.{first_state}
 use Rattle.source_starts.specs.Sources.{SourcesDoWhatTheyMean, AreSources}
 use Rattle.source_starts.specs.RunMeans.{RunsMean, StacksBegin, CutsShow, runs_trusted}
@@ -36,7 +36,7 @@ module _ (headline : HeadlineHolds) (outs : OutsJoin) (joined : ItemsJoin) (entr
       let x = (headline (placed a.parts a.size) a.size s a.is_start).lines steps in
       let k = lines_show l o outs joined entries tell j (written s steps) p x.0 in
       let e = greatest s steps j k.0 p (shows_lead l o j k.0 es items p k.1) x.1 in
-      subst (λ n. Shows l o j n es items p) (sym e.2) k.1
+      subst (λ n. RunShows l o j n es items p) (sym e.2) k.1
 
 module _ (headline : HeadlineHolds) (stops : StopsAreCuts) (show : CutsShow)
     (mean : SourcesDoWhatTheyMean) where

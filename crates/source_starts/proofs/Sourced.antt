@@ -16,7 +16,7 @@ use Rattle.proc_program.specs.declared.program.Program.{Program}
 use Rattle.proc_program.specs.declared.program.Procedure.{Procedure}
 use Rattle.proc_program.specs.StepView.{block_of}
 use Rattle.proc_program.specs.Lower.{procedure_of, procedures_of, part_of, words_in}
-use Rattle.proc_program.specs.Limits.{scope_of, ProcedureFits, IsPart}
+use Rattle.proc_program.specs.Limits.{scope_of, ProcedureFits, IsProgram}
 use Rattle.proc_templates.specs.Items.{Laid}
 use Rattle.proc_templates.specs.Templates.{proc_code}
 use Rattle.proc_templates.specs.Compiled.{frame_of, first_temporary, size_of_proc, code_words, head_of}
@@ -135,6 +135,6 @@ all_length m (p ∷ ps) l f =
     let e : length (lay_proc m l p).code + n ≡ length l.code + (size_of_proc p + n) = omega (arith, g) in
     h ∙ e ∙ ap (λ k. length l.code + k) (sym (sum_by-cons size_of_proc p ps))
 
-pub code_length : (m : Program) → IsPart m → length (component_of m).code ≡ code_words m
+pub code_length : (m : Program) → IsProgram m → length (component_of m).code ≡ code_words m
 unfolding component_of laid_of code_words
 code_length m f = all_length m m.procs (head_of m) f.procs.1

@@ -21,7 +21,7 @@ use Rattle.trusted_border.specs.declared.layout.SiteCode.{SiteCode}
 use Rattle.trusted_border.specs.Names.{site_of, part_name}
 use Rattle.overlay_machine.specs.declared.words.OWord.{OWord}
 use Rattle.overlay_machine.specs.Link.{Link, IsTrusted, ranges_of}
-use Rattle.overlay_machine.specs.Linked.{Linked}
+use Rattle.overlay_machine.specs.Linked.{IsLink}
 use Rattle.overlay_machine.specs.Invariant.{Invariant}
 use Rattle.overlay_machine.specs.Names.{NamesTold, declared_site}
 use Rattle.overlay_machine.specs.Starting.{overlay_at}
@@ -34,7 +34,7 @@ use Rattle.proc_program.specs.declared.program.Program.{Program}
 use Rattle.proc_program.specs.declared.program.Procedure.{Procedure}
 use Rattle.proc_program.specs.declared.program.Handle.TheVariants.{Own, Imported}
 use Rattle.proc_program.specs.Lower.{part_of, import_of, words_in}
-use Rattle.proc_program.specs.Limits.{scope_of, ProcedureFits, IsPart}
+use Rattle.proc_program.specs.Limits.{scope_of, ProcedureFits, IsProgram}
 use Rattle.proc_program.specs.StepView.{block_of}
 use Rattle.proc_program.proofs.Offers.{globals-length, procs-length}
 use Rattle.proc_templates.specs.Items.{FAIL_AT, Spot}
@@ -69,7 +69,7 @@ use Rattle.component_file.proofs.Offers.{inside as there_is}
 module _ (modules : List ModuleFields) (parts : List PartSeen) (size : ℕ) (s : StartSeen)
     (is : IsLinkedStart parts size s) (aligned : Aligned modules (trusted_parts parts))
     (limits : Each IsModule modules) (resolved : Each (λ m. name_faults m ≡ []) modules)
-    (linked : Linked (the_link parts size s is))
+    (linked : IsLink (the_link parts size s is))
     (holds : Invariant (the_link parts size s is) (overlay_at s).state s.state.maps) where
   abbrev pub G : Link
   G = the_link parts size s is
@@ -103,7 +103,7 @@ module _ (modules : List ModuleFields) (parts : List PartSeen) (size : ℕ) (s :
     no_faults : name_faults h.source ≡ []
     no_faults = each_at (λ m. name_faults m ≡ []) modules i h.source resolved h.source_is
 
-    part_is : IsPart U
+    part_is : IsProgram U
     part_is = module_fits modules parts size s is aligned limits resolved linked holds i p h
 
     trusted : IsTrusted G p

@@ -22,7 +22,7 @@ use Rattle.linked_starts.specs.Standing.{placed}
 use Rattle.overlay_machine.specs.declared.words.OWord.{OWord}
 use Rattle.overlay_machine.specs.declared.words.OWord.TheVariants.{Plain}
 use Rattle.overlay_machine.specs.Link.{Link, IsTrusted, IsUntrusted, ranges_of, regions, data_region}
-use Rattle.overlay_machine.specs.Linked.{Linked}
+use Rattle.overlay_machine.specs.Linked.{IsLink}
 use Rattle.overlay_machine.specs.Safe.{IsOpenSeal}
 use Rattle.overlay_machine.specs.Keeping.{link_of, HoldsFor}
 use Rattle.overlay_machine.specs.Starting.{overlay_at, StartsBegin}
@@ -57,7 +57,7 @@ module _ (parts : List PartSeen) (size : ℕ) (s : StartSeen) (is : IsLinkedStar
   abbrev pub first_words : ℕ → OWord
   first_words a = unwrap_or (cell (overlay_at s).state.maps.cells a) (Plain (Int (pos 0)))
 
-  module _ (linked : Linked the_link) (holds : Invariant the_link (overlay_at s).state s.state.maps) where
+  module _ (linked : IsLink the_link) (holds : Invariant the_link (overlay_at s).state s.state.maps) where
     pub data_there : (p : PartSeen) (d : ℕ) → IsTrusted the_link p → d < length p.component.data_words
         → cell (overlay_at s).state.maps.cells (p.component.data_base + d) ≡ Some
         (first_words (p.component.data_base + d))

@@ -9,7 +9,7 @@ use Rattle.linked_starts.specs.Parts.{PartSeen}
 use Rattle.overlay_machine.specs.declared.words.OWord.{OWord}
 use Rattle.overlay_machine.specs.declared.words.OWord.TheVariants.{Plain}
 use Rattle.overlay_machine.specs.Link.{Link, IsTrusted, data_region}
-use Rattle.overlay_machine.specs.Linked.{Linked}
+use Rattle.overlay_machine.specs.Linked.{IsLink}
 use Rattle.overlay_machine.proofs.Offers.{listed_at, same_region}
 use Rattle.proc_language.specs.declared.module.ModuleFields.{ModuleFields}
 use Rattle.proc_program.specs.Lower.{part_of}
@@ -77,7 +77,7 @@ pub data_size : (modules : List ModuleFields) (parts : List PartSeen) (i : ℕ) 
 unfolding data_count
 data_size modules parts i p h = ap length h.placed.data_is ∙ data-length (part_of h.source)
 
-module _ (modules : List ModuleFields) (g : Link) (linked : Linked g) (apart : NamesApart g.parts)
+module _ (modules : List ModuleFields) (g : Link) (linked : IsLink g) (apart : NamesApart g.parts)
     (first : ℕ → OWord) where
   abbrev Homed : ℕ → PartSeen → Type 0
   Homed = Home modules g.parts

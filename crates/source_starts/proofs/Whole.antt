@@ -26,7 +26,7 @@ use Rattle.overlay_machine.specs.declared.words.OWord.TheVariants.{Plain}
 use Rattle.overlay_machine.specs.State.{OState}
 use Rattle.overlay_machine.specs.Events.{owner_now}
 use Rattle.overlay_machine.specs.Link.{Link, IsTrusted, ranges_of}
-use Rattle.overlay_machine.specs.Linked.{Linked}
+use Rattle.overlay_machine.specs.Linked.{IsLink}
 use Rattle.overlay_machine.specs.Names.{NamesTold, EntryNamed}
 use Rattle.overlay_machine.specs.Invariant.{Invariant}
 use Rattle.overlay_machine.specs.Starting.{overlay_at, StartsBegin}
@@ -60,7 +60,7 @@ use Rattle.source_starts.proofs.Standings.{Stored, stands, name_is}
 module _ (modules : List ModuleFields) (parts : List PartSeen) (size : ℕ) (s : StartSeen)
     (is : IsLinkedStart parts size s) (beside : Aligned modules (trusted_parts parts))
     (limits : Each IsModule modules) (resolved : Each (λ m. name_faults m ≡ []) modules)
-    (linked : Linked (the_link parts size s is))
+    (linked : IsLink (the_link parts size s is))
     (holds : Invariant (the_link parts size s is) (overlay_at s).state s.state.maps) (own : PairsAreOwn) where
   abbrev G : Link
   G = the_link parts size s is

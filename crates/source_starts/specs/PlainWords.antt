@@ -18,7 +18,7 @@ use Rattle.proc_program.specs.Lower.{part_of}
 use Rattle.proc_semantics.specs.Values.{World}
 use Rattle.proc_semantics.specs.Marked.{Marks, Thing, Event, Calls, Arg, Whence, refined, arg_to}
 use Rattle.source_laws.specs.Seen.{Back, Shown, args_shown}
-use Rattle.source_laws.specs.Words.{Tells, word_from, back_at}
+use Rattle.source_laws.specs.Words.{RunTells, word_from, back_at}
 use Rattle.source_starts.specs.Links.{Linking, first_state}
 use Rattle.source_starts.specs.Sources.{LinkedSources}
 use Rattle.source_starts.specs.Words.{slots_of}
@@ -56,7 +56,7 @@ pub record PlainCallTold (marks : Marks OWord) (world : World) (stack : ℕ) (s 
 abbrev pub PlainWordsTold : List ModuleFields → Linking → Type 0
 PlainWordsTold modules a =
     (es : List Shown) (is : List (Thing OWord Back)) (p q : OState)
-    → Tells (layout a.start) (first_state a) es is p → overlay_step (layout a.start) p ≡ goes q
+    → RunTells (layout a.start) (first_state a) es is p → overlay_step (layout a.start) p ≡ goes q
     → (i base last : ℕ) → step_event (layout a.start) p q ≡ Some (Called false i base last)
     → PlainCallTold (slots_of modules a) (map part_of modules) a.size a.start es is q base
 

@@ -19,7 +19,7 @@ use Rattle.source_events.specs.declared.Item.{Item}
 use Rattle.source_events.specs.declared.End.TheVariants.{Halt, Fail, Waiting}
 use Rattle.source_events.specs.Outs.{OutLine, LeaveIntegers}
 use Rattle.proc_semantics.specs.Values.{World}
-use Rattle.source_laws.specs.Sources.{Shows, MeaningEnds, MeaningBegins, MeaningTakes}
+use Rattle.source_laws.specs.Sources.{RunShows, MeaningEnds, MeaningBegins, MeaningTakes}
 use Rattle.source_starts.specs.Links.{first_state}
 use Rattle.source_starts.specs.Sources.{LinkedStart, LinkedSources, world_of}
 
@@ -70,7 +70,7 @@ pub record RunMeans (world : World) (size : ℕ) (s : StartSeen) (steps : ℕ) :
 abbrev pub CutsShow : Type 0
 CutsShow =
     (a : LinkedStart) (steps : ℕ)
-    → Shows (layout a.start) (first_state a.link) (cut a.start steps).at (trusted_weight a.start steps)
+    → RunShows (layout a.start) (first_state a.link) (cut a.start steps).at (trusted_weight a.start steps)
     (went_out a.start steps) (came_in a.start steps) (cut_overlay a.start steps)
 
 -- of every run of linked sources

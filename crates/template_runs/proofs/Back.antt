@@ -34,7 +34,7 @@ use Rattle.overlay_machine.specs.Step.{fails, with_frames, overlay_step}
 use Rattle.overlay_machine.specs.Events.{owner_now}
 use Rattle.overlay_machine.specs.Link.{Link, IsTrusted, ranges_of}
 use Rattle.overlay_machine.specs.Safe.{IsSafe}
-use Rattle.overlay_machine.specs.Linked.{Linked}
+use Rattle.overlay_machine.specs.Linked.{IsLink}
 use Rattle.overlay_machine.specs.Agree.{IsForeign}
 use Rattle.overlay_machine.proofs.Offers.{found_at, numbered_is, foreign, Crossed}
 use Rattle.flow_rules.specs.Holds.{code_at, data_cap, PcAt}
@@ -59,7 +59,7 @@ unfolding need
 need_halts f None k h e = cc
 need_halts f (Some x) k h e = h x e
 
-module _ (g : Link) (linked : Linked g) (named : Named g) (p : PartSeen) (k : ℕ) (o : OState)
+module _ (g : Link) (linked : IsLink g) (named : Named g) (p : PartSeen) (k : ℕ) (o : OState)
     (v : Valid g linked o) (at : At g linked p k o) (h : Placed g linked p k (Xjmp Rcode Rdata))
     (x y : Word) (ex : o.maps.regs.rcode ≡ Plain x) (ey : o.maps.regs.rdata ≡ Plain y)
     (safe : (d : Reg) → d ≢ Pc → d ≢ Dat → IsShown g o.frames (reg o.maps.regs d)) where

@@ -39,7 +39,7 @@ use Rattle.overlay_machine.specs.Step.{at_call, with_frames, overlay_step, weigh
 use Rattle.overlay_machine.specs.Step.{state_resumed}
 use Rattle.overlay_machine.specs.Events.{step_event, note_by, note_call, site_opened, event_after}
 use Rattle.overlay_machine.specs.Link.{Link, IsTrusted, ranges_of}
-use Rattle.overlay_machine.specs.Linked.{Linked, SiteOf}
+use Rattle.overlay_machine.specs.Linked.{IsLink, SiteOf}
 use Rattle.overlay_machine.proofs.Offers.{words_from-at, all_there-from, put_back-in, put_back-other}
 use Rattle.overlay_machine.proofs.Offers.{own_from, own_is, stack_cells, safe_stk, Returned}
 use Rattle.overlay_machine.proofs.Offers.{length-words_from}
@@ -59,7 +59,7 @@ opened_sealed n (SealIn s) = refl
 int_lt_pos : (a b : ℕ) → a < b → int_lt (pos a) (pos b) ≡ true
 int_lt_pos a b h = lt-ltb a b h
 
-module _ (g : Link) (linked : Linked g) where
+module _ (g : Link) (linked : IsLink g) where
   -- a site of a part stands at an offset
   pub record SiteHere (p : PartSeen) (k i : ℕ) (u : SiteCode) : Type 0 where
     pub index : ℕ

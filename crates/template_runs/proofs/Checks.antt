@@ -29,7 +29,7 @@ use Rattle.overlay_machine.specs.declared.words.OWord.TheVariants.{Plain}
 use Rattle.overlay_machine.specs.Words.{look}
 use Rattle.overlay_machine.specs.State.{OState}
 use Rattle.overlay_machine.specs.Link.{Link, IsTrusted, ranges_of}
-use Rattle.overlay_machine.specs.Linked.{Linked}
+use Rattle.overlay_machine.specs.Linked.{IsLink}
 use Rattle.overlay_machine.proofs.Offers.{in_code, code_small}
 use Rattle.template_runs.proofs.Numbers.{fits_small}
 use Rattle.std.proofs.lemmas.Option.{slice_get_within}
@@ -45,7 +45,7 @@ is_half (Mem c) = false
 is_half (Seal s) = false
 is_half (Sealed n x) = if is_linear (Sealed n x) then false else true
 
-module _ (g : Link) (linked : Linked g) (p : PartSeen) (f : ℕ) (failing : Placed g linked p f Fail) where
+module _ (g : Link) (linked : IsLink g) (p : PartSeen) (f : ℕ) (failing : Placed g linked p f Fail) where
   -- the word at the part's `fail`
   pub fail_law : (want : Failing g.layout) → (o : OState) (c : ℕ) → Valid g linked o → At g linked p f o
       → 1 ≤ c → want.runs.Good c o

@@ -9,7 +9,7 @@ use Rattle.call_sequence.specs.SequenceRuns.{IsOutsideRange}
 use Rattle.overlay_machine.specs.declared.words.OWord.{OWord}
 use Rattle.overlay_machine.specs.State.{OState, Cells}
 use Rattle.overlay_machine.specs.Link.{Link}
-use Rattle.overlay_machine.specs.Linked.{Linked}
+use Rattle.overlay_machine.specs.Linked.{IsLink}
 use Rattle.overlay_machine.proofs.Offers.{put_back-in, put_back-other}
 use Rattle.template_runs.specs.Public.{IsFreeAt}
 use Rattle.template_runs.specs.Border.{IsWipedFrom, zero, low_at}
@@ -374,7 +374,7 @@ module _ (g : Link) where
               (before_back a w (inl (omega (arith, u, joins))) there)
 
   -- where no cell is live, those that are told of are wiped
-  pub clean_wiped : Linked g → (b q : OState) (low : Option ℕ) (end told : ℕ) → end ≤ g.layout.stack.end
+  pub clean_wiped : IsLink g → (b q : OState) (low : Option ℕ) (end told : ℕ) → end ≤ g.layout.stack.end
       → Clean b low (record { words = 0; top = end; told = told }) q
       → IsWipedFrom g (low_at SB end low) end b q
   clean_wiped linked b q low end told within h = record {

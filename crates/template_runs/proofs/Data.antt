@@ -26,7 +26,7 @@ use Rattle.overlay_machine.specs.declared.words.OWord.TheVariants.{Plain}
 use Rattle.overlay_machine.specs.Words.{look}
 use Rattle.overlay_machine.specs.State.{OpenFrame, OState}
 use Rattle.overlay_machine.specs.Link.{Link, IsTrusted, ranges_of}
-use Rattle.overlay_machine.specs.Linked.{Linked}
+use Rattle.overlay_machine.specs.Linked.{IsLink}
 use Rattle.template_runs.proofs.Slots.{Holds, holds_other}
 use Rattle.template_runs.specs.Public.{IsFreeAt}
 use Rattle.template_runs.specs.Runs.{RunsOn}
@@ -55,7 +55,7 @@ not_free g p d ip lt free = elim (free.1 p ip) as (λ _. ⊥) [
 abbrev pub with_reg : OState → Reg → OWord → Word → OState
 with_reg o r x next = record o { maps = put (put o.maps (R r) x) (R Pc) (Plain next) }
 
-module _ (g : Link) (linked : Linked g) (p : PartSeen) (ip : IsTrusted g p) (w top : ℕ) (fs : List OpenFrame)
+module _ (g : Link) (linked : IsLink g) (p : PartSeen) (ip : IsTrusted g p) (w top : ℕ) (fs : List OpenFrame)
   where
     -- inside the procedure, with data at an address
     abbrev pub Away : ℤ → List OWord → (ℕ → OWord) → OState → Type 0

@@ -21,7 +21,7 @@ use Rattle.overlay_machine.specs.declared.words.OWord.TheVariants.{Plain}
 use Rattle.overlay_machine.specs.Words.{look}
 use Rattle.overlay_machine.specs.State.{OpenFrame, OState}
 use Rattle.overlay_machine.specs.Link.{Link, IsTrusted, ranges_of, data_region}
-use Rattle.overlay_machine.specs.Linked.{Linked}
+use Rattle.overlay_machine.specs.Linked.{IsLink}
 use Rattle.template_runs.proofs.Numbers.{fits_small, fits_less}
 use Rattle.proc_templates.specs.Items.{zero_of}
 use Rattle.template_runs.specs.Runs.{RunsOn, Failing}
@@ -40,7 +40,7 @@ index_tests length =
     Lt G1 G0 (Imm (pos 0)) ∷ Jnz T2 G1
     ∷ Lt G1 G0 (Imm (pos length)) ∷ Minus G1 G1 (Imm (pos 1)) ∷ Jnz T2 G1 ∷ []
 
-module _ (g : Link) (linked : Linked g) where
+module _ (g : Link) (linked : IsLink g) where
   module _ (p : PartSeen) (ip : IsTrusted g p) (w top : ℕ) (fs : List OpenFrame) where
     abbrev Away' : ℤ → List OWord → (ℕ → OWord) → OState → Type 0
     Away' = Away g linked p ip w top fs

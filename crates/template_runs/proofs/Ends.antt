@@ -44,7 +44,7 @@ use Rattle.overlay_machine.specs.Events.{step_event, note_by, note_return, note_
 use Rattle.overlay_machine.specs.Events.{jump_seal, jumped}
 use Rattle.overlay_machine.specs.Link.{Link, IsTrusted, ranges_of}
 use Rattle.overlay_machine.specs.Safe.{IsOpenSeal}
-use Rattle.overlay_machine.specs.Linked.{Linked}
+use Rattle.overlay_machine.specs.Linked.{IsLink}
 use Rattle.overlay_machine.proofs.Offers.{Crossed, xjmp_crossed, Leads_to, to_safe, to_entry, leads_to}
 use Rattle.overlay_machine.proofs.Offers.{plain_is, Returned, returned}
 use Rattle.std.proofs.lemmas.Option.{slice_get_within}
@@ -121,7 +121,7 @@ content_linear (Sealed n (SealIn m)) o d e u = absurd (let k : Seal m ≡ Mem d 
         content_of m None = Seal m
         content_of m (Some o) = unsealed o.content
 
-module _ (g : Link) (linked : Linked g) (p : PartSeen) (k : ℕ) (o : OState) (v : Valid g linked o)
+module _ (g : Link) (linked : IsLink g) (p : PartSeen) (k : ℕ) (o : OState) (v : Valid g linked o)
     (at : At g linked p k o) (h : Placed g linked p k (Xjmp Rcode Rdata)) where
   within : k < length p.component.code
   within = slice_get_within p.component.code k _ h.has

@@ -22,7 +22,7 @@ use Rattle.overlay_machine.specs.Words.{look}
 use Rattle.overlay_machine.specs.State.{OpenFrame, OState}
 use Rattle.overlay_machine.specs.Step.{case_of}
 use Rattle.overlay_machine.specs.Link.{Link, IsTrusted, IsStackCell, ranges_of}
-use Rattle.overlay_machine.specs.Linked.{Linked}
+use Rattle.overlay_machine.specs.Linked.{IsLink}
 use Rattle.overlay_machine.specs.Safe.{IsSafe}
 use Rattle.overlay_machine.proofs.Offers.{View, at_entry, in_part, out, view, never_entry, pc_false}
 use Rattle.template_runs.specs.Public.{IsPublic}
@@ -53,7 +53,7 @@ any_kind G1 a b = refl
 any_kind G2 a b = refl
 
 -- at an entry all registers but pc and data are safe
-module _ (g : Link) (linked : Linked g) (p : PartSeen) (e : ℕ) (o : OState) (v : Valid g linked o)
+module _ (g : Link) (linked : IsLink g) (p : PartSeen) (e : ℕ) (o : OState) (v : Valid g linked o)
     (at : At g linked p e o) (entry : begins_entry p.component e ≡ true) where
   by_row : (q : PartSeen) (k : ℕ) → begins_entry q.component k ≡ true → (there : Row)
       → RowAt q.component k there
@@ -79,7 +79,7 @@ module _ (g : Link) (linked : Linked g) (p : PartSeen) (e : ℕ) (o : OState) (v
       (view g linked o.frames o.maps v.holds.code v.holds.pc) d np nd
 
 -- a prologue for which the stack is too small
-module _ (g : Link) (linked : Linked g) (p : PartSeen) (ip : IsTrusted g p) (top : ℕ) (mem : ℕ → OWord)
+module _ (g : Link) (linked : IsLink g) (p : PartSeen) (ip : IsTrusted g p) (top : ℕ) (mem : ℕ → OWord)
     (fs : List OpenFrame) where
   pub prologue_fails : (rs : List Reg) (ws words : List OWord) (k : ℕ) (want : Failing g.layout) (c : ℕ)
       (o : OState) → Code g linked p k (prologue g linked p ip top mem fs rs)

@@ -36,7 +36,7 @@ use Rattle.overlay_machine.specs.Step.{goes, fails, case_of, step_by, entry_step
 use Rattle.overlay_machine.specs.Step.{overlay_step, weight_of, weight_by}
 use Rattle.overlay_machine.specs.Events.{step_event, note_by, event_after}
 use Rattle.overlay_machine.specs.Link.{Link, IsTrusted, ranges_of}
-use Rattle.overlay_machine.specs.Linked.{Linked}
+use Rattle.overlay_machine.specs.Linked.{IsLink}
 use Rattle.overlay_machine.specs.Safe.{IsSafe}
 use Rattle.overlay_machine.proofs.Offers.{own_is, mem_safe, in_stack, site_of}
 use Rattle.run_lines.specs.Feed.{integer_in}
@@ -52,7 +52,7 @@ pub none_fits : (b : Bool) (z : ℤ) → (if b then Some z else None) ≡ None �
 none_fits true z k = cc
 none_fits false z k = refl
 
-module _ (g : Link) (linked : Linked g) (p : PartSeen) (k : ℕ) where
+module _ (g : Link) (linked : IsLink g) (p : PartSeen) (k : ℕ) where
   -- ---- the entry
 
   module _ (o : OState) (v : Valid g linked o) (at : At g linked p k o)
@@ -183,7 +183,7 @@ module _ (g : Link) (linked : Linked g) (p : PartSeen) (k : ℕ) where
 
 -- ---- the prologue
 
-module _ (g : Link) (linked : Linked g) (p : PartSeen) (ip : IsTrusted g p) (top : ℕ) (mem : ℕ → OWord)
+module _ (g : Link) (linked : IsLink g) (p : PartSeen) (ip : IsTrusted g p) (top : ℕ) (mem : ℕ → OWord)
     (fs : List OpenFrame) where
   -- a slot for each of these registers
   abbrev pub prologue : List Reg → List Instr

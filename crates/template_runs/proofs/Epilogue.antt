@@ -19,7 +19,7 @@ use Rattle.overlay_machine.specs.declared.words.OWord.TheVariants.{Plain}
 use Rattle.overlay_machine.specs.Words.{look}
 use Rattle.overlay_machine.specs.State.{OpenFrame, OState}
 use Rattle.overlay_machine.specs.Link.{Link, IsTrusted}
-use Rattle.overlay_machine.specs.Linked.{Linked}
+use Rattle.overlay_machine.specs.Linked.{IsLink}
 use Rattle.template_runs.specs.Runs.{RunsOn}
 use Rattle.template_runs.proofs.Steps.{At, Placed, Code, next_pc, go}
 use Rattle.template_runs.proofs.Rows.{moved, Here, Free, free_t1, free_t2, free_c1, free_c2, free_a1, free_a2}
@@ -32,7 +32,7 @@ last_of : (x : OWord) (ws : List OWord) → (front : List OWord) × (y : OWord) 
 last_of x [] = ([], x, refl)
 last_of x (w ∷ ws) = let r = last_of w ws in (x ∷ r.0, r.1, ap (λ l. x ∷ l) r.2)
 
-module _ (g : Link) (linked : Linked g) (p : PartSeen) (ip : IsTrusted g p) (top : ℕ) (mem : ℕ → OWord)
+module _ (g : Link) (linked : IsLink g) (p : PartSeen) (ip : IsTrusted g p) (top : ℕ) (mem : ℕ → OWord)
     (fs : List OpenFrame) where
   -- ---- slots wiped, from the last one on
 

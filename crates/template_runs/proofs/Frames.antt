@@ -31,7 +31,7 @@ use Rattle.overlay_machine.specs.declared.words.OWord.TheVariants.{Plain}
 use Rattle.overlay_machine.specs.Words.{look}
 use Rattle.overlay_machine.specs.State.{OpenFrame, OState, Cells, framed}
 use Rattle.overlay_machine.specs.Link.{Link, IsTrusted, ranges_of}
-use Rattle.overlay_machine.specs.Linked.{Linked}
+use Rattle.overlay_machine.specs.Linked.{IsLink}
 use Rattle.overlay_machine.proofs.Offers.{stack_small, stack_cells}
 use Rattle.template_runs.proofs.Numbers.{fits_small, fits_less}
 use Rattle.template_runs.specs.Public.{IsPublic}
@@ -67,7 +67,7 @@ slice_last : (ws : List OWord) (x : OWord) → slice_get (ws ++ x ∷ []) (lengt
 slice_last [] x = refl
 slice_last (w ∷ ws) x = slice_last ws x
 
-module _ (g : Link) (linked : Linked g) (p : PartSeen) (ip : IsTrusted g p) (top : ℕ) (mem : ℕ → OWord)
+module _ (g : Link) (linked : IsLink g) (p : PartSeen) (ip : IsTrusted g p) (top : ℕ) (mem : ℕ → OWord)
     (fs : List OpenFrame) (k : ℕ) where
   abbrev stack_at : ℤ → OWord
   stack_at z = Plain (Mem (part_stack_cap (ranges_of p) top z))

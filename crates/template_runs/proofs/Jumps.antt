@@ -19,7 +19,7 @@ use Rattle.overlay_machine.specs.declared.words.OWord.TheVariants.{Plain}
 use Rattle.overlay_machine.specs.Words.{look}
 use Rattle.overlay_machine.specs.State.{OpenFrame, OState}
 use Rattle.overlay_machine.specs.Link.{Link, IsTrusted, ranges_of}
-use Rattle.overlay_machine.specs.Linked.{Linked}
+use Rattle.overlay_machine.specs.Linked.{IsLink}
 use Rattle.overlay_machine.proofs.Offers.{in_code, code_small}
 use Rattle.template_runs.proofs.Numbers.{fits_small}
 use Rattle.template_runs.specs.Runs.{Makes, RunsOn, is_inside}
@@ -30,7 +30,7 @@ use Rattle.template_runs.proofs.Data.{Away, with_reg, set_law, skip_law, skipped
 use Rattle.template_runs.proofs.Elements.{free_t2}
 use Rattle.proc_templates.specs.Items.{leading}
 
-module _ (g : Link) (linked : Linked g) (p : PartSeen) (ip : IsTrusted g p) (w top : ℕ) (fs : List OpenFrame)
+module _ (g : Link) (linked : IsLink g) (p : PartSeen) (ip : IsTrusted g p) (w top : ℕ) (fs : List OpenFrame)
     (words : List OWord) (mem : ℕ → OWord) (z : ℤ) where
   abbrev Away' : OState → Type 0
   Away' = Away g linked p ip w top fs z words mem

@@ -28,7 +28,7 @@ use Rattle.overlay_machine.specs.State.{OState, frame_of}
 use Rattle.overlay_machine.specs.Step.{fails, step_by, return_step, return_by, overlay_step}
 use Rattle.overlay_machine.specs.Flat.{flat}
 use Rattle.overlay_machine.specs.Link.{Link}
-use Rattle.overlay_machine.specs.Linked.{Linked}
+use Rattle.overlay_machine.specs.Linked.{IsLink}
 use Rattle.overlay_machine.specs.Safe.{IsSafe, IsMet}
 use Rattle.overlay_machine.specs.Agree.{IsForeign}
 use Rattle.overlay_machine.proofs.Offers.{OneSite, code_site, data_site, foreign_refuses, data_refuses}
@@ -72,7 +72,7 @@ second_refuses l w (Some x) (Some y) (inr h) f e =
         → x ≡ record { seal = n; content = MemC c }
     one x n c e = cc
 
-module _ (g : Link) (linked : Linked g) (p : PartSeen) (k : ℕ) (q : OState) (v : Valid g linked q)
+module _ (g : Link) (linked : IsLink g) (p : PartSeen) (k : ℕ) (q : OState) (v : Valid g linked q)
     (at : At g linked p k q) (h : Placed g linked p k (Xjmp Rcode Rdata))
     (safe : (d : Reg) → d ≢ Pc → d ≢ Dat → IsSafe g q.frames (reg q.maps.regs d)) where
   step_is : (is_plain q.maps.regs.rcode && is_plain q.maps.regs.rdata) ≡ false

@@ -46,7 +46,7 @@ use Rattle.overlay_machine.specs.Events.{step_event, note_by, note_return, note_
 use Rattle.overlay_machine.specs.Events.{jump_seal, entered_event}
 use Rattle.overlay_machine.specs.Link.{Link, IsTrusted, ranges_of, data_region}
 use Rattle.overlay_machine.specs.Safe.{IsSafe, IsSafeCap, IsOpenSeal}
-use Rattle.overlay_machine.specs.Linked.{Linked}
+use Rattle.overlay_machine.specs.Linked.{IsLink}
 use Rattle.overlay_machine.proofs.Offers.{mem_of_face, plain_both, target_bounds, target_reg, mem_safe}
 use Rattle.overlay_machine.proofs.Offers.{not_trusted, open_safe, same_region, safe_closed, pc_untrusted}
 use Rattle.overlay_machine.proofs.Offers.{Crossed, xjmp_crossed, Leads_to, to_safe, to_entry, leads_to}
@@ -94,7 +94,7 @@ pub unsealed_public : (g : Link) (c : Content) → IsPublic g (Plain (unsealed c
 unsealed_public g (MemC c) p k ip e = cc
 unsealed_public g (SealC s) p k ip e = cc
 
-module _ (g : Link) (linked : Linked g) where
+module _ (g : Link) (linked : IsLink g) where
   -- untrusted code runs
   pub record Out (o : OState) : Type 0 where
     pub valid : Valid g linked o

@@ -30,7 +30,7 @@ use Rattle.overlay_machine.specs.declared.words.OWord.TheVariants.{Plain}
 use Rattle.overlay_machine.specs.Words.{look}
 use Rattle.overlay_machine.specs.State.{OpenFrame, OState, Cells, framed}
 use Rattle.overlay_machine.specs.Link.{Link, IsTrusted, ranges_of, stack_region, data_region}
-use Rattle.overlay_machine.specs.Linked.{Linked}
+use Rattle.overlay_machine.specs.Linked.{IsLink}
 use Rattle.overlay_machine.proofs.Offers.{stack_small, same_region, stack_there, open_stack_at}
 use Rattle.template_runs.specs.Public.{IsPublic, IsFreeAt}
 use Rattle.template_runs.specs.Runs.{RunsOn}
@@ -39,7 +39,7 @@ use Rattle.template_runs.proofs.Steps.{At, Code, next_pc, go, go_set}
 use Rattle.template_runs.proofs.Slots.{Holds, with_at, length-with_at, holds_get, holds_set}
 use Rattle.component_file.proofs.Offers.{inside as there_before}
 
-module _ (g : Link) (linked : Linked g) where
+module _ (g : Link) (linked : IsLink g) where
   -- the words of trusted data
   abbrev pub DataIs : (ℕ → OWord) → Cells → Type 0
   DataIs mem m = (p : PartSeen) (d : ℕ) → IsTrusted g p → d < length p.component.data_words

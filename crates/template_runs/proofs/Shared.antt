@@ -3,12 +3,12 @@ use Rattle.std.proofs.Common.{ap, ◌∙◌, sym}
 use Rattle.std.specs.Prelude.{◌≡◌, ◌∷◌}
 use Rattle.overlay_machine.specs.State.{OState}
 use Rattle.overlay_machine.specs.Link.{Link}
-use Rattle.overlay_machine.specs.Linked.{Linked}
+use Rattle.overlay_machine.specs.Linked.{IsLink}
 use Rattle.template_runs.specs.Sharing.{RunsOutside, GoesOn, SharedAloneIsEntered}
 use Rattle.template_runs.specs.Sharing as sharing
 use Rattle.template_runs.proofs.Outside.{Out, Leaves, stays, enters, returns, leaves}
 
-module _ (g : Link) (linked : Linked g) (o q : OState) where
+module _ (g : Link) (linked : IsLink g) (o q : OState) where
   outside : RunsOutside g o → Out g linked o
   outside h = record {
     valid = record { plain = h.plain; holds = h.holds; private = h.private };

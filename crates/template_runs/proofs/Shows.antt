@@ -27,7 +27,7 @@ use Rattle.overlay_machine.specs.Words.{look}
 use Rattle.overlay_machine.specs.State.{OpenFrame, OState}
 use Rattle.overlay_machine.specs.Step.{new_frame}
 use Rattle.overlay_machine.specs.Link.{Link, IsTrusted, ranges_of}
-use Rattle.overlay_machine.specs.Linked.{Linked}
+use Rattle.overlay_machine.specs.Linked.{IsLink}
 use Rattle.overlay_machine.proofs.Offers.{Crossed, mem_safe, stack_cells, mem_plain}
 use Rattle.template_runs.specs.Border.{Opened, code_word, half_word, content_of, zero, ShowsCall, ShowsLeave}
 use Rattle.template_runs.proofs.Outside.{opened_is}
@@ -65,7 +65,7 @@ still_zero : (x y : OWord) → (x ≡ y) ⊎ (x ≡ zero_word Plain) → y ≡ z
 still_zero x y (inl e) z = e ∙ z
 still_zero x y (inr e) z = e
 
-module _ (g : Link) (linked : Linked g) where
+module _ (g : Link) (linked : IsLink g) where
   -- a stack that is given away is all there
   pub given_there : (q : OState) → Valid g linked q → (end : ℕ) → end ≤ g.layout.stack.end
       → q.maps.regs.stk ≡ Plain (Mem (stack_cap g.layout.stack.base end end))

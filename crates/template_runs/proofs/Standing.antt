@@ -10,7 +10,7 @@ use Rattle.flow_rules.specs.Places.{begins_entry}
 use Rattle.linked_starts.specs.Parts.{PartSeen}
 use Rattle.trusted_border.specs.declared.layout.SiteCode.{SiteCode}
 use Rattle.overlay_machine.specs.Link.{Link}
-use Rattle.overlay_machine.specs.Linked.{Linked}
+use Rattle.overlay_machine.specs.Linked.{IsLink}
 use Rattle.run_lines.specs.Layout.{site_of}
 use Rattle.proc_templates.specs.Items.{Item, does, guards, goes, goes_if, finishes, label, site, entry}
 use Rattle.proc_templates.specs.Items.{leaves, zero_of, wiped, leading}
@@ -37,7 +37,7 @@ pub words-append : (a b : List Item) → words_in (a ++ b) ≡ words_in a + word
 words-append [] b = omega arith
 words-append (x ∷ a) b = let e = words-append a b in omega (arith, e)
 
-module _ (g : Link) (linked : Linked g) (p : PartSeen) (end : ℕ) where
+module _ (g : Link) (linked : IsLink g) (p : PartSeen) (end : ℕ) where
   -- a site of a part, of this number among the part's
   pub record Called (k n : ℕ) : Type 0 where
     pub number : ℕ

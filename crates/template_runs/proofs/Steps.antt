@@ -28,7 +28,7 @@ use Rattle.overlay_machine.specs.Step.{case_of, case_fetched, step_by, other_ste
 use Rattle.overlay_machine.specs.Step.{weight_of, weight_by}
 use Rattle.overlay_machine.specs.Events.{step_event, note_by, event_after}
 use Rattle.overlay_machine.specs.Link.{Link, IsTrusted, ranges_of}
-use Rattle.overlay_machine.specs.Linked.{Linked}
+use Rattle.overlay_machine.specs.Linked.{IsLink}
 use Rattle.std.proofs.lemmas.Option.{slice_get_within}
 use Rattle.overlay_machine.proofs.Offers.{in_code, site_of}
 use Rattle.run_lines.specs.Views.{flat_view}
@@ -36,7 +36,7 @@ use Rattle.template_runs.specs.Public.{IsPublic, IsFreeAt}
 use Rattle.template_runs.specs.Runs.{is_inside, Makes, RunsOn, Failing, Halting, Sets, no_cell, one_cell}
 use Rattle.template_runs.proofs.Valid.{Valid, valid_same, valid_set}
 
-module _ (g : Link) (linked : Linked g) where
+module _ (g : Link) (linked : IsLink g) where
   -- trusted code runs, at an offset of a part
   pub record At (p : PartSeen) (k : ℕ) (o : OState) : Type 0 where
     pub trusted : IsTrusted g p

@@ -21,7 +21,7 @@ use Rattle.overlay_machine.specs.Words.{look}
 use Rattle.overlay_machine.specs.State.{OpenFrame, OState}
 use Rattle.overlay_machine.specs.Flat.{flat, flat_range}
 use Rattle.overlay_machine.specs.Link.{Link}
-use Rattle.overlay_machine.specs.Linked.{Linked}
+use Rattle.overlay_machine.specs.Linked.{IsLink}
 use Rattle.overlay_machine.specs.Safe.{IsMet}
 use Rattle.overlay_machine.proofs.Offers.{frame_in}
 use Rattle.overlay_machine.specs.Invariant.{PcPart, at_fail, at_row, outside}
@@ -47,7 +47,7 @@ int_back (Seal c) v e = absurd cc
 int_back (Sealed n x) v e = absurd cc
 
 -- untrusted code runs where pc isn't trusted
-module _ (g : Link) (linked : Linked g) where
+module _ (g : Link) (linked : IsLink g) where
   pub out_of : (o : OState) → Valid g linked o → is_inside g.layout o ≡ false
       → ((r : Reg) → IsPublic g (reg o.maps.regs r)) → Out g linked o
   out_of o v left public = by v.holds.pc

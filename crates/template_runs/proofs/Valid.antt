@@ -15,7 +15,7 @@ use Rattle.overlay_machine.specs.Words.{look}
 use Rattle.overlay_machine.specs.State.{OpenFrame, OState, Cells}
 use Rattle.overlay_machine.specs.Step.{Ending, goes, halts, fails, overlay_step, rest_words}
 use Rattle.overlay_machine.specs.Link.{Link}
-use Rattle.overlay_machine.specs.Linked.{Linked}
+use Rattle.overlay_machine.specs.Linked.{IsLink}
 use Rattle.overlay_machine.specs.Invariant.{Invariant, KeepsAgreeing}
 use Rattle.overlay_machine.proofs.Offers.{put_back-in, put_back-other, kept}
 use Rattle.template_runs.specs.Public.{IsPublic, IsFreeAt, ArePublic, FramesPublic, KeepsPrivate}
@@ -76,7 +76,7 @@ rest_public : (g : Link) (ws : List OWord) → ArePublic g ws → ArePublic g (r
 rest_public g [] h = tt
 rest_public g (w ∷ ws) h = h.1
 
-module _ (g : Link) (linked : Linked g) where
+module _ (g : Link) (linked : IsLink g) where
   -- the invariant holds, beside some plain state, and what is private is kept
   pub record Valid (o : OState) : Type 0 where
     pub plain : State Word

@@ -18,7 +18,7 @@ use Rattle.overlay_machine.specs.Words.{look}
 use Rattle.overlay_machine.specs.State.{OpenFrame, OState, Cells}
 use Rattle.overlay_machine.specs.Step.{goes, overlay_step}
 use Rattle.overlay_machine.specs.Link.{Link, IsTrusted, ranges_of}
-use Rattle.overlay_machine.specs.Linked.{Linked}
+use Rattle.overlay_machine.specs.Linked.{IsLink}
 use Rattle.overlay_machine.specs.Invariant.{Invariant}
 use Rattle.template_runs.specs.Public.{IsShown, IsSharedAt, KeepsPrivate}
 
@@ -51,4 +51,4 @@ pub data GoesOn (g : Link) (o q : OState) : Type 0 where
 
 abbrev pub SharedAloneIsEntered : Type 0
 SharedAloneIsEntered =
-    (g : Link) (o q : OState) → Linked g → RunsOutside g o → overlay_step g.layout o ≡ goes q → GoesOn g o q
+    (g : Link) (o q : OState) → IsLink g → RunsOutside g o → overlay_step g.layout o ≡ goes q → GoesOn g o q

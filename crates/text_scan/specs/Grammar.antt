@@ -36,12 +36,12 @@ IsTokenText Equal text = text ≡ equals ∷ equals ∷ []
 IsTokenText NewLine text = text ≡ newline ∷ []
 
 -- the token ends before what follows it in its line; a newline stands in no line
-abbrev pub Ends : TokenKind → List ℕ → Type 0
-Ends Name after = is_name_byte (first_of after) ≡ false
-Ends (Number n) after = is_digit (first_of after) ≡ false
-Ends (Sign s) after = s ≡ equals → first_of after ≡ equals → ⊥
-Ends Equal after = Unit {0}
-Ends NewLine after = ⊥
+abbrev pub IsLongest : TokenKind → List ℕ → Type 0
+IsLongest Name after = is_name_byte (first_of after) ≡ false
+IsLongest (Number n) after = is_digit (first_of after) ≡ false
+IsLongest (Sign s) after = s ≡ equals → first_of after ≡ equals → ⊥
+IsLongest Equal after = Unit {0}
+IsLongest NewLine after = ⊥
 
 -- ---- lines
 
@@ -55,7 +55,7 @@ IsComment text after = (more : List ℕ) × (text ≡ hash ∷ more) × (after �
 -- the bytes are a piece of a line, of this token or none, and what follows is no part of it
 abbrev pub IsPiece : Option TokenKind → List ℕ → List ℕ → Type 0
 IsPiece None text after = IsBlank text ⊎ IsComment text after
-IsPiece (Some kind) text after = IsTokenText kind text × Ends kind after
+IsPiece (Some kind) text after = IsTokenText kind text × IsLongest kind after
 
 -- the line is these pieces, one after another
 abbrev pub IsCut : List (Option TokenKind × List ℕ) → List ℕ → Type 0

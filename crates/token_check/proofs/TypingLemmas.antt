@@ -13,7 +13,7 @@ use Rattle.token_check.specs.declared.fault.TokenFault.{TokenFault}
 use Rattle.token_check.specs.declared.fault.TokenFault.TheVariants as fault
 use Rattle.token_language.specs.Tokens.{tokens_of}
 use Rattle.token_check.specs.Tokens.{Full, is_full, is_clear, equal_sets, token_at}
-use Rattle.token_check.specs.Walk.{Walked, walk_on, After, filled, emptied, let_go, joined, comes_back}
+use Rattle.token_check.specs.Walk.{Walked, walk_on, FullAfter, filled, emptied, let_go, joined, comes_back}
 use Rattle.token_check.specs.Walk.{to_after, expr_walk, args_walk, stmt_walk, block_walk, at_first, at_last}
 use Rattle.token_check.specs.Walk.{proc_walk, procs_walk, module_walk}
 use Rattle.token_check.specs.Typing.{Fills, Empties, Joins, ComesBack, IsClear, ExprTyped, ArgsTyped}
@@ -76,7 +76,7 @@ empties_back None at s t h = absurd h
 empties_back (Some i) at s t h = ap (λ b. if b then Ok (slice_set s i false) else Err (fault.Empty at)) h.0 ∙
     ok_ap _ t h.1
 
-lets_go : (at : ℕ) (s : Full) (after : After) → Goes (let_go at s) after → (is_clear s ≡ true) ×
+lets_go : (at : ℕ) (s : Full) (after : FullAfter) → Goes (let_go at s) after → (is_clear s ≡ true) ×
     (None ≡ after)
 unfolding let_go
 lets_go at s after h = by (is_clear s) refl h
@@ -86,12 +86,12 @@ lets_go at s after h = by (is_clear s) refl h
     by true e k = (e, ok_same None after k)
     by false e k = absurd (not_ok _ after k)
 
-lets_go_back : (at : ℕ) (s : Full) (after : After) → is_clear s ≡ true → None ≡ after →
+lets_go_back : (at : ℕ) (s : Full) (after : FullAfter) → is_clear s ≡ true → None ≡ after →
     Goes (let_go at s) after
 unfolding let_go
 lets_go_back at s after e h = ap (λ b. if b then Ok None else Err (fault.Kept at)) e ∙ ok_ap None after h
 
-joins : (at : ℕ) (a b after : After) → Goes (joined at a b) after → Joins a b after
+joins : (at : ℕ) (a b after : FullAfter) → Goes (joined at a b) after → Joins a b after
 unfolding joined
 joins at None b after h = ok_same b after h
 joins at (Some s) None after h = ok_same (Some s) after h
@@ -102,7 +102,7 @@ joins at (Some s) (Some t) after h = by (equal_sets s t) refl h
     by true e k = (sets_same s t e, ok_same (Some s) after k)
     by false e k = absurd (not_ok _ after k)
 
-joins_back : (at : ℕ) (a b after : After) → Joins a b after → Goes (joined at a b) after
+joins_back : (at : ℕ) (a b after : FullAfter) → Joins a b after → Goes (joined at a b) after
 unfolding joined
 joins_back at None b after h = ok_ap b after h
 joins_back at (Some s) None after h = ok_ap (Some s) after h
@@ -110,7 +110,7 @@ joins_back at (Some s) (Some t) after h =
     ap (λ b. if b then Ok (Some s) else Err (fault.Split at)) (ap (equal_sets s) (sym h.0) ∙ sets_self s) ∙
     ok_ap (Some s) after h.1
 
-comes : (at : ℕ) (s t : Full) (u after : After) → Goes (comes_back at s t u) after → ComesBack s u ×
+comes : (at : ℕ) (s t : Full) (u after : FullAfter) → Goes (comes_back at s t u) after → ComesBack s u ×
     (Some t ≡ after)
 unfolding comes_back
 comes at s t None after h = (tt, ok_same (Some t) after h)
@@ -121,7 +121,7 @@ comes at s t (Some v) after h = by (equal_sets s v) refl h
     by true e k = (sets_same s v e, ok_same (Some t) after k)
     by false e k = absurd (not_ok _ after k)
 
-comes_again : (at : ℕ) (s t : Full) (u after : After) → ComesBack s u → Some t ≡ after →
+comes_again : (at : ℕ) (s t : Full) (u after : FullAfter) → ComesBack s u → Some t ≡ after →
     Goes (comes_back at s t u) after
 unfolding comes_back
 comes_again at s t None after h k = ok_ap (Some t) after k
@@ -152,16 +152,16 @@ module _ (tokens : List Name) where
         let p = parts (emptied (token_at tokens x) x.at s) (λ u. args_walk tokens args u) t h in
         (p.0, empties (token_at tokens x) x.at s p.0 p.1, args_typed args p.0 t p.2)
 
-  then_on : (w : Walked Full) (after : After) → Goes (to_after tokens w) after → (t : Full) × Goes w t ×
+  then_on : (w : Walked Full) (after : FullAfter) → Goes (to_after tokens w) after → (t : Full) × Goes w t ×
       (Some t ≡ after)
   then_on w after h = let p = parts w (λ t. Ok (Some t)) after h in (p.0, p.1, ok_same (Some p.0) after p.2)
 
-  on_then : (w : Walked Full) (t : Full) (after : After) → Goes w t → Some t ≡ after →
+  on_then : (w : Walked Full) (t : Full) (after : FullAfter) → Goes w t → Some t ≡ after →
       Goes (to_after tokens w) after
   on_then w t after h k = made w (λ t. Ok (Some t)) t after h (ok_ap (Some t) after k)
 
   mutual
-    stmt_typed : (x : Stmt) (s : Full) (after : After) → Goes (stmt_walk tokens x s) after →
+    stmt_typed : (x : Stmt) (s : Full) (after : FullAfter) → Goes (stmt_walk tokens x s) after →
         StmtTyped tokens x s after
     stmt_typed (set at end x e) s after h =
         let p = then_on (expr_walk tokens e s) after h in (p.0, expr_typed e s p.0 p.1, p.2)
@@ -212,7 +212,7 @@ module _ (tokens : List Name) where
         let p = then_on (emptied (token_at tokens x) x.at s) after h in
         (p.0, empties (token_at tokens x) x.at s p.0 p.1, p.2)
 
-    block_typed : (b : Block) (before after : After) → Goes (block_walk tokens b before) after →
+    block_typed : (b : Block) (before after : FullAfter) → Goes (block_walk tokens b before) after →
         BlockTyped tokens b before after
     block_typed no_stmts before after h = ok_same before after h
     block_typed (stmt x b) None after h = absurd (not_ok _ after h)
@@ -241,7 +241,7 @@ module _ (tokens : List Name) where
         (args_go args h.0 t h.2)
 
   mutual
-    stmt_goes : (x : Stmt) (s : Full) (after : After) → StmtTyped tokens x s after →
+    stmt_goes : (x : Stmt) (s : Full) (after : FullAfter) → StmtTyped tokens x s after →
         Goes (stmt_walk tokens x s) after
     stmt_goes (set at end x e) s after h = on_then _ h.0 after (expr_goes e s h.0 h.1) h.2
     stmt_goes (set_at at end x i e) s after h =
@@ -270,7 +270,7 @@ module _ (tokens : List Name) where
     stmt_goes (spend at end x) s after h =
         on_then _ h.0 after (empties_back (token_at tokens x) x.at s h.0 h.1) h.2
 
-    block_goes : (b : Block) (before after : After) → BlockTyped tokens b before after →
+    block_goes : (b : Block) (before after : FullAfter) → BlockTyped tokens b before after →
         Goes (block_walk tokens b before) after
     block_goes no_stmts before after h = ok_ap before after h
     block_goes (stmt x b) None after h = absurd h
@@ -279,15 +279,15 @@ module _ (tokens : List Name) where
 
 -- ---- procedures
 
-last_clear : (end : ℕ) (u after : After) → Goes (at_last end u) after → IsClear u
+last_clear : (end : ℕ) (u after : FullAfter) → Goes (at_last end u) after → IsClear u
 last_clear end None after h = tt
 last_clear end (Some s) after h = (lets_go end s after h).0
 
-clear_last : (end : ℕ) (u : After) → IsClear u → Goes (at_last end u) None
+clear_last : (end : ℕ) (u : FullAfter) → IsClear u → Goes (at_last end u) None
 clear_last end None h = refl
 clear_last end (Some s) h = lets_go_back end s None h refl
 
-proc_typed : (p : TokenProc) (after : After) → Goes (proc_walk p) after → ProcTyped p
+proc_typed : (p : TokenProc) (after : FullAfter) → Goes (proc_walk p) after → ProcTyped p
 proc_typed p after h =
     let w = block_walk (tokens_of p) (block_of p.body) (Some (at_first p)) in
     let q = parts w (at_last p.end) after h in (

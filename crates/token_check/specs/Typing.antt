@@ -10,7 +10,7 @@ use Rattle.token_language.specs.StmtView.{block_of}
 use Rattle.proc_language.specs.Limits.{Each}
 use Rattle.token_language.specs.Tokens.{tokens_of}
 use Rattle.token_check.specs.Tokens.{Full, is_full, is_clear, token_at}
-use Rattle.token_check.specs.Walk.{After, at_first}
+use Rattle.token_check.specs.Walk.{FullAfter, at_first}
 
 -- this token is empty, and is filled
 abbrev pub Fills : Option ℕ → Full → Full → Type 0
@@ -23,18 +23,18 @@ Empties None s t = ⊥
 Empties (Some i) s t = (is_full s i ≡ true) × (slice_set s i false ≡ t)
 
 -- two ways meet with equal sets; where one of them doesn't go on, the other does alone
-abbrev pub Joins : After → After → After → Type 0
+abbrev pub Joins : FullAfter → FullAfter → FullAfter → Type 0
 Joins None b after = b ≡ after
 Joins (Some s) None after = Some s ≡ after
 Joins (Some s) (Some t) after = (s ≡ t) × (Some s ≡ after)
 
 -- a loop's body that goes on ends with the set from before the test
-abbrev pub ComesBack : Full → After → Type 0
+abbrev pub ComesBack : Full → FullAfter → Type 0
 ComesBack before None = Unit {0}
 ComesBack before (Some t) = before ≡ t
 
 -- where it goes on, no token is full
-abbrev pub IsClear : After → Type 0
+abbrev pub IsClear : FullAfter → Type 0
 IsClear None = Unit {0}
 IsClear (Some s) = is_clear s ≡ true
 
@@ -54,18 +54,18 @@ module _ (tokens : List Name) where
     ArgsTyped (token x args) s t = (u : Full) × Empties (token_at tokens x) s u × ArgsTyped args u t
 
   abbrev mutual
-    pub StmtTyped : Stmt → Full → After → Type 0
+    pub StmtTyped : Stmt → Full → FullAfter → Type 0
     StmtTyped (set at end x e) s after = (t : Full) × ExprTyped e s t × (Some t ≡ after)
     StmtTyped (set_at at end x i e) s after =
         (u : Full) × ExprTyped i s u × (t : Full) × ExprTyped e u t × (Some t ≡ after)
     StmtTyped (do_call at end f args) s after = (t : Full) × ArgsTyped args s t × (Some t ≡ after)
     StmtTyped (if_then at end c a) s after =
-        (t : Full) × ExprTyped c s t × (u : After) × BlockTyped a (Some t) u × Joins u (Some t) after
+        (t : Full) × ExprTyped c s t × (u : FullAfter) × BlockTyped a (Some t) u × Joins u (Some t) after
     StmtTyped (if_else at end c a b) s after =
-        (t : Full) × ExprTyped c s t × (u : After) × BlockTyped a (Some t) u
-        × (v : After) × BlockTyped b (Some t) v × Joins u v after
+        (t : Full) × ExprTyped c s t × (u : FullAfter) × BlockTyped a (Some t) u
+        × (v : FullAfter) × BlockTyped b (Some t) v × Joins u v after
     StmtTyped (while at end c a) s after =
-        (t : Full) × ExprTyped c s t × (u : After) × BlockTyped a (Some t) u × ComesBack s u ×
+        (t : Full) × ExprTyped c s t × (u : FullAfter) × BlockTyped a (Some t) u × ComesBack s u ×
         (Some t ≡ after)
     StmtTyped (return at end e) s after = (t : Full) × ExprTyped e s t × (is_clear t ≡ true) × (None ≡ after)
     StmtTyped (halt at end e) s after = (t : Full) × ExprTyped e s t × (is_clear t ≡ true) × (None ≡ after)
@@ -73,14 +73,14 @@ module _ (tokens : List Name) where
     StmtTyped (spend at end x) s after = (t : Full) × Empties (token_at tokens x) s t × (Some t ≡ after)
 
     -- a statement stands only where something goes on
-    pub BlockTyped : Block → After → After → Type 0
+    pub BlockTyped : Block → FullAfter → FullAfter → Type 0
     BlockTyped no_stmts before after = before ≡ after
     BlockTyped (stmt x b) None after = ⊥
-    BlockTyped (stmt x b) (Some s) after = (t : After) × StmtTyped x s t × BlockTyped b t after
+    BlockTyped (stmt x b) (Some s) after = (t : FullAfter) × StmtTyped x s t × BlockTyped b t after
 
 abbrev pub ProcTyped : TokenProc → Type 0
 ProcTyped p =
-    (after : After) × BlockTyped (tokens_of p) (block_of p.body) (Some (at_first p)) after × IsClear after
+    (after : FullAfter) × BlockTyped (tokens_of p) (block_of p.body) (Some (at_first p)) after × IsClear after
 
 abbrev pub IsTyped : TokenModuleFields → Type 0
 IsTyped m = Each ProcTyped m.procs

@@ -23,8 +23,8 @@ walk_on (Ok x) f = f x
 walk_on (Err e) f = Err e
 
 -- the set after a statement; None where nothing goes on
-abbrev pub After : Type 0
-After = Option Full
+abbrev pub FullAfter : Type 0
+FullAfter = Option Full
 
 unfoldable pub filled : Option ℕ → ℕ → Full → Walked Full
 filled None at full = Err (fault.Full at)
@@ -35,17 +35,17 @@ emptied None at full = Err (fault.Empty at)
 emptied (Some i) at full = if is_full full i then Ok (slice_set full i false) else Err (fault.Empty at)
 
 -- no token is full any more
-unfoldable pub let_go : ℕ → Full → Walked After
+unfoldable pub let_go : ℕ → Full → Walked FullAfter
 let_go at full = if is_clear full then Ok None else Err (fault.Kept at)
 
 -- two ways meet
-unfoldable pub joined : ℕ → After → After → Walked After
+unfoldable pub joined : ℕ → FullAfter → FullAfter → Walked FullAfter
 joined at None b = Ok b
 joined at (Some s) None = Ok (Some s)
 joined at (Some s) (Some t) = if equal_sets s t then Ok (Some s) else Err (fault.Split at)
 
 -- the body of a loop comes back with the set from before the test; after the loop stands that after the test
-unfoldable pub comes_back : ℕ → Full → Full → After → Walked After
+unfoldable pub comes_back : ℕ → Full → Full → FullAfter → Walked FullAfter
 comes_back at before tested None = Ok (Some tested)
 comes_back at before tested (Some t) = if equal_sets before t then Ok (Some tested) else Err (fault.Split at)
 
@@ -77,11 +77,11 @@ module _ (tokens : List Name) where
     args_walk (token x args) full =
         walk_on (emptied (token_at tokens x) x.at full) (λ full. args_walk args full)
 
-  abbrev pub to_after : Walked Full → Walked After
+  abbrev pub to_after : Walked Full → Walked FullAfter
   to_after w = walk_on w (λ full. Ok (Some full))
 
   abbrev mutual
-    pub stmt_walk : Stmt → Full → Walked After
+    pub stmt_walk : Stmt → Full → Walked FullAfter
     stmt_walk (set at end x e) full = to_after (expr_walk e full)
     stmt_walk (set_at at end x i e) full = walk_on (expr_walk i full) (λ full. to_after (expr_walk e full))
     stmt_walk (do_call at end f args) full = to_after (args_walk args full)
@@ -100,7 +100,7 @@ module _ (tokens : List Name) where
     stmt_walk (make at end x) full = to_after (filled (token_at tokens x) x.at full)
     stmt_walk (spend at end x) full = to_after (emptied (token_at tokens x) x.at full)
 
-    pub block_walk : Block → After → Walked After
+    pub block_walk : Block → FullAfter → Walked FullAfter
     block_walk no_stmts after = Ok after
     block_walk (stmt s b) None = Err (fault.Dead (first_place s))
     block_walk (stmt s b) (Some full) = walk_on (stmt_walk s full) (λ after. block_walk b after)
@@ -110,11 +110,11 @@ abbrev pub at_first : TokenProc → Full
 at_first p = params_full p.params 0 (none_full MOST_TOKENS)
 
 -- and ends with none full
-abbrev pub at_last : ℕ → After → Walked After
+abbrev pub at_last : ℕ → FullAfter → Walked FullAfter
 at_last end None = Ok None
 at_last end (Some full) = let_go end full
 
-abbrev pub proc_walk : TokenProc → Walked After
+abbrev pub proc_walk : TokenProc → Walked FullAfter
 proc_walk p = walk_on (block_walk (tokens_of p) (block_of p.body) (Some (at_first p))) (at_last p.end)
 
 abbrev pub procs_walk : List TokenProc → Walked (Unit {0})

@@ -1,6 +1,6 @@
 //! The first fault of the names of a module with tokens.
 ghost use Rattle.std.specs.Prelude.{◌≡◌, ◌↔◌, List, ◌∷◌, IsOk, IfErr};
-ghost use Rattle.proc_names.specs.Faults.{first, earlier, IsFirst};
+ghost use Rattle.proc_names.specs.Faults.{first, earlier, IsFirstFault};
 ghost use Rattle.token_language.specs.declared.tree.TokenArg.{TokenArg};
 ghost use Rattle.token_language.specs.View.{args_of};
 ghost use Rattle.token_language.specs.StmtView.{block_of};
@@ -25,7 +25,7 @@ use token_language::{
 /// no memory.
 pub fn resolve_tokens(m: &TokenModule) -> Result<(), NameFault>
     ensures fine { IsOk result ↔ IsTokenResolved m.now }
-    ensures first { IfErr result (IsFirst (token_name_faults m.now)) }
+    ensures first { IfErr result (IsFirstFault (token_name_faults m.now)) }
     // The same as a function: so there is one answer.
     ensures is { result ≡ resolved_tokens m.now }
 {

@@ -13,7 +13,7 @@ use Rattle.token_language.specs.Tree.{Expr, number, var, element, call, op, Stmt
 use Rattle.token_language.specs.Tree.{if_then, if_else, while, return, halt, make, spend}
 use Rattle.token_language.specs.View.{args_of}
 use Rattle.token_language.specs.StmtView.{block_of}
-use Rattle.proc_grammar.specs.Makes.{Makes, TokenMakes}
+use Rattle.proc_grammar.specs.Makes.{Actions, TokenActions}
 
 -- the place of an expression's first token
 abbrev pub place_of : Expr → ℕ
@@ -47,7 +47,7 @@ abbrev pub local_tokens : TokenLocal → ℕ
 local_tokens (local.Plain x) = 0
 local_tokens (local.Token x) = 1
 
-abbrev pub token_makes : TokenMakes TokenArg Stmt TokenParam TokenLocal
+abbrev pub token_makes : TokenActions TokenArg Stmt TokenParam TokenLocal
 token_makes = record {
   param = param.Token;
   local = local.Token;
@@ -56,7 +56,7 @@ token_makes = record {
   spend = spend;
 }
 
-abbrev pub token_trees : Makes Expr TokenArg Stmt TokenParam TokenLocal TokenProc TokenModuleFields
+abbrev pub token_trees : Actions Expr TokenArg Stmt TokenParam TokenLocal TokenProc TokenModuleFields
 token_trees = record {
   number = number;
   var = var;

@@ -26,7 +26,7 @@ use Rattle.token_language.specs.Tree.{Expr, Block}
 use Rattle.token_language.specs.Tokens.{tokens_of}
 use Rattle.token_language.specs.Erased.{erased_expr, erased_block, erased_proc, erased}
 use Rattle.token_check.specs.Tokens.{Full, is_clear}
-use Rattle.token_check.specs.Walk.{After}
+use Rattle.token_check.specs.Walk.{FullAfter}
 use Rattle.token_check.specs.Typing.{Joins, ComesBack, ExprTyped}
 use Rattle.token_semantics.specs.Hands.{Hands}
 use Rattle.token_semantics.specs.Told.{Comp, or_fail}
@@ -101,7 +101,7 @@ module _ (modules : List TokenModuleFields) where
   abbrev pub RPlaces : Running → (List Value → Store → Comp) → plain.Next → Type 0
   RPlaces r k k' = (env : List Value) → ValuesTakeNone modules env → RStore r (k env) (k' env)
 
-  abbrev pub RNext : ℕ → Running → After → Next → plain.Next → Type 0
+  abbrev pub RNext : ℕ → Running → FullAfter → Next → plain.Next → Type 0
   RNext room r None k k' = Unit {0}
   RNext room r (Some s) k k' =
       (hands : Hands) → HandsAre room s hands → RPlaces (plus r hands) (k hands) k'
@@ -111,12 +111,12 @@ module _ (modules : List TokenModuleFields) where
       (hands : Hands) → HandsAre room s hands → (ns : List ℕ) → length ns ≡ c
       → RPlaces (with_numbers (plus r hands) ns) (k hands ns) k'
 
-  pub next_at : (room : ℕ) (r : Running) (a b : After) (k : Next) (k' : plain.Next) → a ≡ b
+  pub next_at : (room : ℕ) (r : Running) (a b : FullAfter) (k : Next) (k' : plain.Next) → a ≡ b
       → RNext room r b k k'
       → RNext room r a k k'
   next_at room r a b k k' e h = subst (λ c. RNext room r c k k') (sym e) h
 
-  pub joined_next : (room : ℕ) (r : Running) (a b after : After) (k : Next) (k' : plain.Next)
+  pub joined_next : (room : ℕ) (r : Running) (a b after : FullAfter) (k : Next) (k' : plain.Next)
       → Joins a b after
       → RNext room r after k k' → RNext room r a k k' × RNext room r b k k'
   joined_next room r None b after k k' e h = (tt, next_at room r b after k k' e h)
@@ -125,7 +125,7 @@ module _ (modules : List TokenModuleFields) where
       let f = sym (ap Some e.0) ∙ e.1 in
       (next_at room r (Some s) after k k' e.1 h, next_at room r (Some t) after k k' f h)
 
-  pub back_again : (room : ℕ) (r : Running) (s : Full) (u : After) (k : Next) (k' : plain.Next)
+  pub back_again : (room : ℕ) (r : Running) (s : Full) (u : FullAfter) (k : Next) (k' : plain.Next)
       → ComesBack s u
       → RNext room r (Some s) k k' → RNext room r u k k'
   back_again room r s None k k' e h = tt
@@ -148,7 +148,7 @@ module _ (modules : List TokenModuleFields) where
     pub waits : (r : Running) (c : Option Wait) (c' : Option plain.Wait) → RWait r c c'
         → RStore r (l.wait c) (l'.wait c')
     pub turns : (m : TokenModuleFields) (p : TokenProc) (f : Activation) → slice_get modules f.home ≡ Some m
-        → (r : Running) (n : ℕ) (c : Expr) (a : Block) (s t : Full) (u : After)
+        → (r : Running) (n : ℕ) (c : Expr) (a : Block) (s t : Full) (u : FullAfter)
         → ExprTyped (tokens_of p) c s t
         → BlockGoes (tokens_of p) a (Some t) u → ComesBack s u → ExprFits m p c → BlockFits m p a
         → (back : Along) (back' : plain.Then) → RBack (length (tokens_of p)) r back back'

@@ -29,7 +29,7 @@ use Rattle.token_language.specs.Limits.{TokensFit}
 use Rattle.token_language.specs.Erased.{erased_block, erased_proc, erased}
 use Rattle.token_language.proofs.Offers.{block_of-stmts_in}
 use Rattle.token_check.specs.Tokens.{params_full}
-use Rattle.token_check.specs.Walk.{After, at_first}
+use Rattle.token_check.specs.Walk.{FullAfter, at_first}
 use Rattle.token_check.specs.Typing.{IsClear, ProcTyped, IsTyped}
 use Rattle.token_semantics.specs.Hands.{begun}
 use Rattle.token_semantics.specs.Told.{Comp, or_fail}
@@ -104,7 +104,7 @@ module _ (modules : List TokenModuleFields) (accepted : All IsAccepted modules) 
   finish_same size need r k k' h s clear hands are v st =
       leave_same size s hands are r clear _ _ (ticks_same r (1 + need) (k v st) (k' v st) (h v st))
 
-  end_same : (size need : ℕ) (r : Running) (after : After) (k : Then) (k' : plain.Then) → RThen r k k'
+  end_same : (size need : ℕ) (r : Running) (after : FullAfter) (k : Then) (k' : plain.Then) → RThen r k k'
       → IsClear after → RNext modules size (calling r) after (λ hands env. finish need k hands (pos 0))
       (λ env. plain.finish w need k' (pos 0))
   end_same size need r None k k' h clear = tt

@@ -20,7 +20,7 @@ use Rattle.token_names.specs.TokenFaults.{is_plain, token_faults, variable_fault
 use Rattle.token_names.specs.TokenFaults.{call_faults}
 use Rattle.token_names.specs.TokenFaults.{handed_faults, expr_faults, args_faults, stmt_faults, block_faults}
 use Rattle.token_check.specs.Tokens.{Full, is_clear, none_full, params_full, token_at}
-use Rattle.token_check.specs.Walk.{After, at_first}
+use Rattle.token_check.specs.Walk.{FullAfter, at_first}
 use Rattle.token_check.specs.Typing.{Fills, Empties, Joins, ComesBack, IsClear, ExprTyped, ArgsTyped}
 use Rattle.token_check.specs.Typing.{StmtTyped, BlockTyped, ProcTyped}
 use Rattle.proc_language.specs.declared.TheConstants.{MOST_TOKENS}
@@ -28,18 +28,19 @@ use Rattle.token_semantics.proofs.Resolved.{filled, parts}
 
 module _ (tokens : List Name) where
   abbrev mutual
-    pub StmtGoes : Stmt → Full → After → Type 0
+    pub StmtGoes : Stmt → Full → FullAfter → Type 0
     StmtGoes (set at end x e) s after = (t : Full) × ExprTyped tokens e s t × (Some t ≡ after)
     StmtGoes (set_at at end x i e) s after =
         (u : Full) × ExprTyped tokens i s u × (t : Full) × ExprTyped tokens e u t × (Some t ≡ after)
     StmtGoes (do_call at end f xs) s after = (t : Full) × ArgsTyped tokens xs s t × (Some t ≡ after)
     StmtGoes (if_then at end c a) s after =
-        (t : Full) × ExprTyped tokens c s t × (u : After) × BlockGoes a (Some t) u × Joins u (Some t) after
+        (t : Full) × ExprTyped tokens c s t × (u : FullAfter) × BlockGoes a (Some t) u
+        × Joins u (Some t) after
     StmtGoes (if_else at end c a b) s after =
-        (t : Full) × ExprTyped tokens c s t × (u : After) × BlockGoes a (Some t) u
-        × (v : After) × BlockGoes b (Some t) v × Joins u v after
+        (t : Full) × ExprTyped tokens c s t × (u : FullAfter) × BlockGoes a (Some t) u
+        × (v : FullAfter) × BlockGoes b (Some t) v × Joins u v after
     StmtGoes (while at end c a) s after =
-        (t : Full) × ExprTyped tokens c s t × (u : After) × BlockGoes a (Some t) u × ComesBack s u
+        (t : Full) × ExprTyped tokens c s t × (u : FullAfter) × BlockGoes a (Some t) u × ComesBack s u
         × (Some t ≡ after)
     StmtGoes (return at end e) s after =
         (t : Full) × ExprTyped tokens e s t × (is_clear t ≡ true) × (None ≡ after)
@@ -48,15 +49,15 @@ module _ (tokens : List Name) where
     StmtGoes (make at end x) s after = (t : Full) × Fills (token_at tokens x) s t × (Some t ≡ after)
     StmtGoes (spend at end x) s after = (t : Full) × Empties (token_at tokens x) s t × (Some t ≡ after)
 
-    pub BlockGoes : Block → After → After → Type 0
+    pub BlockGoes : Block → FullAfter → FullAfter → Type 0
     BlockGoes no_stmts before after = before ≡ after
     BlockGoes (stmt x b) None after = None ≡ after
-    BlockGoes (stmt x b) (Some s) after = (t : After) × StmtGoes x s t × BlockGoes b t after
+    BlockGoes (stmt x b) (Some s) after = (t : FullAfter) × StmtGoes x s t × BlockGoes b t after
 
   -- ---- checked code
 
   mutual
-    stmt_goes : (x : Stmt) (s : Full) (after : After) → StmtTyped tokens x s after → StmtGoes x s after
+    stmt_goes : (x : Stmt) (s : Full) (after : FullAfter) → StmtTyped tokens x s after → StmtGoes x s after
     stmt_goes (set at end x e) s after h = h
     stmt_goes (set_at at end x i e) s after h = h
     stmt_goes (do_call at end f xs) s after h = h
@@ -69,14 +70,14 @@ module _ (tokens : List Name) where
     stmt_goes (make at end x) s after h = h
     stmt_goes (spend at end x) s after h = h
 
-    block_goes : (b : Block) (before after : After) → BlockTyped tokens b before after
+    block_goes : (b : Block) (before after : FullAfter) → BlockTyped tokens b before after
         → BlockGoes b before after
     block_goes no_stmts before after h = h
     block_goes (stmt x b) None after h = absurd h
     block_goes (stmt x b) (Some s) after h = (h.0, stmt_goes x s h.0 h.1, block_goes b h.0 after h.2)
 
 abbrev pub ProcGoes : TokenProc → Type 0
-ProcGoes p = (after : After) × BlockGoes (tokens_of p) (block_of p.body)
+ProcGoes p = (after : FullAfter) × BlockGoes (tokens_of p) (block_of p.body)
     (Some (at_first p)) after × IsClear after
 
 pub checked_goes : (p : TokenProc) → ProcTyped p → ProcGoes p

@@ -28,7 +28,7 @@ use Rattle.token_language.specs.Tokens.{tokens_of}
 use Rattle.token_language.specs.Erased.{erased_expr, erased_args, erased_before, erased_block, erased_proc}
 use Rattle.token_language.specs.Erased.{erased}
 use Rattle.token_check.specs.Tokens.{Full}
-use Rattle.token_check.specs.Walk.{After}
+use Rattle.token_check.specs.Walk.{FullAfter}
 use Rattle.token_check.specs.Typing.{ComesBack, ExprTyped, ArgsTyped}
 use Rattle.token_semantics.specs.Hands.{Hands}
 use Rattle.token_semantics.specs.Told.{ends, or_fail}
@@ -186,7 +186,7 @@ module _ (modules : List TokenModuleFields) (accepted : All IsAccepted modules) 
 
       mutual
         -- a statement, and what stands after it
-        stmt_same : (x : Stmt) (s : Full) (after : After) → StmtGoes tokens x s after → StmtFits m p x
+        stmt_same : (x : Stmt) (s : Full) (after : FullAfter) → StmtGoes tokens x s after → StmtFits m p x
             → (r : Running) (n : ℕ) (back : Along) (back' : plain.Then) → RBack size r back back'
             → (k : Next) (b : tree.Block) (k' : plain.Next)
             → RNext modules size r after k (plain_steps (behind n x) b back' k')
@@ -271,7 +271,7 @@ module _ (modules : List TokenModuleFields) (accepted : All IsAccepted modules) 
             (λ hands. k hands env st) (goes env st)
             (λ hands are. next_at modules size r (Some typed.0) after k goes typed.2 h hands are env none st)
 
-        pub block_same : (b : Block) (before after : After) → BlockGoes tokens b before after
+        pub block_same : (b : Block) (before after : FullAfter) → BlockGoes tokens b before after
             → BlockFits m p b
             → (r : Running) (n : ℕ) (back : Along) (back' : plain.Then) → RBack size r back back'
             → (k : Next) (k' : plain.Next) → RNext modules size r after k k'
@@ -285,7 +285,7 @@ module _ (modules : List TokenModuleFields) (accepted : All IsAccepted modules) 
             (steps modules l scope (behind n x) b back k) (erased_block b) k'
             (block_same b typed.0 after typed.2 fits.1 r (behind n x) back back' rb k k' h)
 
-      pub turn_same : (r : Running) (n : ℕ) (c : Expr) (a : Block) (s t : Full) (u : After)
+      pub turn_same : (r : Running) (n : ℕ) (c : Expr) (a : Block) (s t : Full) (u : FullAfter)
           → ExprTyped tokens c s t → BlockGoes tokens a (Some t) u → ComesBack s u
           → ExprFits m p c → BlockFits m p a → (back : Along) (back' : plain.Then) → RBack size r back back'
           → (k : Next) (k' : plain.Next) → RNext modules size r (Some t) k k'

@@ -7,7 +7,7 @@ use Rattle.proc_language.specs.declared.dialect.Dialect.{Dialect}
 use Rattle.token_language.specs.Erased.{erased}
 use Rattle.proc_sources.specs.Sources.{module_in}
 use Rattle.token_semantics.specs.Law.{IsAccepted, TokensAreSpent}
-use Rattle.token_sources.specs.Law.{IsLeft, Source, module_of, spelled_of, AreLeft, MeanTheSame}
+use Rattle.token_sources.specs.Law.{IsLeft, Source, module_of, spelled_of, AreLeft, MeanAsErased}
 
 -- the module of each source is what is left of an accepted one
 abbrev pub EachIsLeft : Type 0
@@ -34,7 +34,7 @@ module _ (each : EachIsLeft) where
 
   pub all_are_left : TokensAreSpent → (sources : List Source) (modules : List ModuleFields)
       → map module_of sources ≡ map (λ m. Ok m) modules
-      → (these : AreLeft sources modules) × MeanTheSame these.tokens modules
+      → (these : AreLeft sources modules) × MeanAsErased these.tokens modules
   all_are_left spent sources modules e =
       let l = listed sources modules e in
-      (l, subst (MeanTheSame l.tokens) l.left (spent l.tokens l.accepted))
+      (l, subst (MeanAsErased l.tokens) l.left (spent l.tokens l.accepted))

@@ -49,7 +49,7 @@ pub record AreLeft (sources : List Source) (modules : List ModuleFields) : Type 
   pub accepted : All IsAccepted tokens
 
 -- what modules mean is what these with tokens mean, and of that the law of tokens holds
-abbrev pub MeanTheSame : List TokenModuleFields → List ModuleFields → Type 0
-MeanTheSame tokens modules =
+abbrev pub MeanAsErased : List TokenModuleFields → List ModuleFields → Type 0
+MeanAsErased tokens modules =
     (stack : ℕ) (feed : List Item) (fuel : ℕ)
     → AreSpent (token_meaning tokens stack feed fuel) (meaning (map part_of modules) stack feed fuel)

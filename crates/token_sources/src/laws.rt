@@ -3,7 +3,7 @@ ghost use Rattle.std.specs.Prelude.{◌≡◌, ℕ, List, map, Ok};
 ghost use Rattle.proc_language.specs.declared.module.ModuleFields.{ModuleFields};
 ghost use Rattle.proc_language.specs.declared.dialect.Dialect.{Dialect};
 ghost use Rattle.proc_sources.specs.Sources.{module_in};
-ghost use Rattle.token_sources.specs.Law.{Source, IsLeft, module_of, AreLeft, MeanTheSame};
+ghost use Rattle.token_sources.specs.Law.{Source, IsLeft, module_of, AreLeft, MeanAsErased};
 
 /// A source spells an accepted module, whose erasure is its module, so the law of tokens holds of what it
 /// means.
@@ -18,7 +18,7 @@ pub fn sources_spend_their_tokens()
         → IsLeft d text m }
     ensures told { (sources : List Source) (modules : List ModuleFields)
         → map module_of sources ≡ map (λ m. Ok m) modules
-        → (these : AreLeft sources modules) × MeanTheSame these.tokens modules }
+        → (these : AreLeft sources modules) × MeanAsErased these.tokens modules }
 {
     proc_sources::laws::sources_are_modules();
     proc_sources::laws::tokens_are_erased();

@@ -35,7 +35,7 @@ use Rattle.overlay_machine.specs.Agree.{Looks, AtSite, AtEntry, AtReturn, ReadyF
 use Rattle.overlay_machine.specs.Events.{note_by, event_after as told_after, step_event}
 use Rattle.overlay_machine.specs.Runs.{Reached, plain_run}
 use Rattle.overlay_machine.specs.Link.{Link, IsTrusted}
-use Rattle.overlay_machine.specs.Linked.{Linked}
+use Rattle.overlay_machine.specs.Linked.{IsLink}
 use Rattle.overlay_machine.specs.Invariant.{Invariant, KeepsAgreeing}
 use Rattle.run_lines.specs.Views.{flat_view}
 use Rattle.run_lines.specs.Lines.{Line, lines_for}
@@ -58,7 +58,7 @@ calm_less : (l : Layout) (n : ℕ) (s : State Word) → Calm l (suc n) s → Cal
 calm_less l zero s h = tt
 calm_less l (suc n) s h = λ s' e. let q = h s' e in (q.0, calm_less l n s' q.1)
 
-module _ (g : Link) (linked : Linked g) where
+module _ (g : Link) (linked : IsLink g) where
   abbrev l : Layout
   l = g.layout
 

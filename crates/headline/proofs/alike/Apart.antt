@@ -22,7 +22,7 @@ use Rattle.overlay_machine.specs.declared.cases.Case.TheVariants.{Back, Other}
 use Rattle.overlay_machine.specs.Words.{look}
 use Rattle.overlay_machine.specs.State.{OpenFrame}
 use Rattle.overlay_machine.specs.Link.{Link, IsTrusted, ranges_of}
-use Rattle.overlay_machine.specs.Linked.{Linked, SiteOf}
+use Rattle.overlay_machine.specs.Linked.{IsLink, SiteOf}
 use Rattle.overlay_machine.specs.Safe.{IsSafe}
 use Rattle.overlay_machine.specs.Invariant.{StandsAt}
 use Rattle.overlay_machine.proofs.Offers.{in_code, one_part, View, in_part, failing, out, pc_untrusted}
@@ -31,7 +31,7 @@ use Rattle.run_lines.specs.Layout.{site_before, site_word}
 use Rattle.headline.proofs.alike.Laying.{NoEnd, word_none}
 use Rattle.headline.proofs.alike.Sites.{word_is}
 
-module _ (g : Link) (linked : Linked g) where
+module _ (g : Link) (linked : IsLink g) where
   -- nothing begins inside a sequence, and no row is there
   pub site_outer : (p : PartSeen) (o : ℕ) → IsTrusted g p → begins_site p.component o ≡ true
       → Inside p.component o → ⊥

@@ -39,7 +39,7 @@ use Rattle.overlay_machine.specs.Agree.{AtSite, Looks}
 use Rattle.overlay_machine.specs.Events.{site_opened, note_call, note_by}
 use Rattle.overlay_machine.specs.Events.{event_after as told_after, called_event as called_told}
 use Rattle.overlay_machine.specs.Link.{Link}
-use Rattle.overlay_machine.specs.Linked.{Linked}
+use Rattle.overlay_machine.specs.Linked.{IsLink}
 use Rattle.overlay_machine.proofs.Offers.{flat-mem, cell-flat, HasCall-flat, some_of, opened-code, its_site}
 use Rattle.overlay_machine.proofs.Offers.{owns, dat_normal, t15, outside, lowest, Called, called}
 use Rattle.run_lines.specs.declared.note.Note.{Note}
@@ -86,7 +86,7 @@ part_there l f h = by_owner (trusted_owner l f) h
     by_owner None e = cc
     by_owner (Some o) e = refl
 
-module _ (g : Link) (linked : Linked g) (i : ℕ) (o : OState) (t : State Word) (at_site : AtSite g.layout i o)
+module _ (g : Link) (linked : IsLink g) (i : ℕ) (o : OState) (t : State Word) (at_site : AtSite g.layout i o)
     (m : IsFlat g.layout o t) (k : Looks g.layout o)
     (free : NoEnd g.layout at_site.site.at (at_site.site.at + (CALL_WORDS - 1))) where
   abbrev l : Layout

@@ -32,7 +32,7 @@ use Rattle.overlay_machine.specs.Agree.{Looks, FramesFree}
 use Rattle.overlay_machine.specs.Events.{owner_now, jump_seal, note_jump, note_by}
 use Rattle.overlay_machine.specs.Events.{jumped, event_after as told_after}
 use Rattle.overlay_machine.specs.Link.{Link}
-use Rattle.overlay_machine.specs.Linked.{Linked}
+use Rattle.overlay_machine.specs.Linked.{IsLink}
 use Rattle.overlay_machine.proofs.Offers.{flat-opened, plain_both, free_pc, View}
 use Rattle.run_lines.specs.Layout.{trusted_part, site_word}
 use Rattle.run_lines.specs.Views.{flat_view}
@@ -153,7 +153,7 @@ module _ (l : Layout) (o : OState) (t : State Word) (m : IsFlat l o t) (k : Look
           ∙ sym (ap (λ s. told_after l (note_jump (option_map (λ p. p.part) (owner_now l o)) s) q)
           (ap (jump_seal o.maps) f ∙ ap (option_map (λ (z : Opened). z.seal)) seal))
 
-module _ (g : Link) (linked : Linked g) (o : OState) (t : State Word) (m : IsFlat g.layout o t)
+module _ (g : Link) (linked : IsLink g) (o : OState) (t : State Word) (m : IsFlat g.layout o t)
     (k : Looks g.layout o) (free : FramesFree o) where
   -- the lines of a step that is a row
   pub other_whole : View g o.frames o.maps Other

@@ -38,7 +38,7 @@ use Rattle.overlay_machine.specs.Flat.{flat, beside, IsFlat}
 use Rattle.overlay_machine.specs.Agree.{AtReturn, HasSite, FrameSound, Looks}
 use Rattle.overlay_machine.specs.Events.{owner_now, note_return, note_by, event_after as told_after}
 use Rattle.overlay_machine.specs.Link.{Link}
-use Rattle.overlay_machine.specs.Linked.{Linked}
+use Rattle.overlay_machine.specs.Linked.{IsLink}
 use Rattle.overlay_machine.proofs.Offers.{word_of-within, frame_of-newest, own_is, s1, jumps, code_is}
 use Rattle.overlay_machine.proofs.Offers.{code_some, data_is, stk_kept, View, Returned}
 use Rattle.run_lines.specs.declared.note.Note.TheVariants.{Last}
@@ -72,7 +72,7 @@ part_some l f = by_owner (trusted_owner l f)
     by_owner None = refl
     by_owner (Some o) = refl
 
-module _ (g : Link) (linked : Linked g) (r1 r2 : Reg) (o : OState) (t : State Word)
+module _ (g : Link) (linked : IsLink g) (r1 r2 : Reg) (o : OState) (t : State Word)
     (rd : AtReturn g.layout r1 r2 o) (m : IsFlat g.layout o t) (k : Looks g.layout o)
     (v : View g o.frames o.maps (Back r1 r2)) (q : OState) (y : Returned g.layout r1 r2 o q)
     (free : NoEnd g.layout (y.site.at + CALL_WORDS) (y.site.at + (SITE_WORDS - 1))) where

@@ -30,7 +30,7 @@ use Rattle.overlay_machine.specs.State.{OState}
 use Rattle.overlay_machine.specs.Flat.{flat, beside, IsFlat}
 use Rattle.overlay_machine.specs.Agree.{AtReturn, Looks}
 use Rattle.overlay_machine.specs.Link.{Link}
-use Rattle.overlay_machine.specs.Linked.{Linked}
+use Rattle.overlay_machine.specs.Linked.{IsLink}
 use Rattle.overlay_machine.proofs.Offers.{HasReturn-flat, beside-none, View}
 use Rattle.run_lines.specs.declared.note.Note.{Note}
 use Rattle.run_lines.specs.declared.note.Note.TheVariants.{Leap}
@@ -68,7 +68,7 @@ no_leap : (l : Layout) (from : Option ℕ) (seal : ℕ) (v : Shown) → closure_
 no_leap l None seal v c r = rw c refl
 no_leap l (Some p) seal v c r = rw r refl
 
-module _ (g : Link) (linked : Linked g) (r1 r2 : Reg) (o : OState) (t : State Word)
+module _ (g : Link) (linked : IsLink g) (r1 r2 : Reg) (o : OState) (t : State Word)
     (rd : AtReturn g.layout r1 r2 o) (m : IsFlat g.layout o t) (k : Looks g.layout o)
     (v : View g o.frames o.maps (Back r1 r2)) (i : ℕ) (s : SiteCode) (es : site_code g.layout i ≡ Some s)
     (ex : opened_of (flat g.layout o.frames (reg o.maps.regs r1))

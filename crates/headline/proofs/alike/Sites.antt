@@ -24,7 +24,7 @@ use Rattle.trusted_border.specs.Reaches.{site_of_seal, closure_owner}
 use Rattle.overlay_machine.specs.Agree.{IsForeign}
 use Rattle.overlay_machine.specs.Events.{site_opened}
 use Rattle.overlay_machine.specs.Link.{Link, IsTrusted, ranges_of}
-use Rattle.overlay_machine.specs.Linked.{any_pc, SiteOf, Linked}
+use Rattle.overlay_machine.specs.Linked.{any_pc, SiteOf, IsLink}
 use Rattle.overlay_machine.proofs.Offers.{found_is, position_is, site_of}
 use Rattle.run_lines.specs.Layout.{site_before, is_trusted}
 
@@ -99,7 +99,7 @@ code_of_site os x s e = by_owner (find (λ o. o.part == x.part) os) e
     by_owner None h = cc
     by_owner (Some o) h = by_test o (is_code o.code) h
 
-module _ (g : Link) (linked : Linked g) where
+module _ (g : Link) (linked : IsLink g) where
   -- ---- by words
 
   pub word_is : (i off a : ℕ) → site_before g.layout off a ≡ Some i

@@ -26,7 +26,7 @@ use Rattle.overlay_machine.specs.Step.{case_of, weight_by, weight_of}
 use Rattle.overlay_machine.specs.Flat.{IsFlat}
 use Rattle.overlay_machine.specs.Agree.{Looks, ReadyFor, AtSite, AtEntry, AtReturn}
 use Rattle.overlay_machine.specs.Link.{Link, ranges_of}
-use Rattle.overlay_machine.specs.Linked.{Linked}
+use Rattle.overlay_machine.specs.Linked.{IsLink}
 use Rattle.overlay_machine.specs.Invariant.{Invariant}
 use Rattle.overlay_machine.proofs.Offers.{View, at_entry, in_part, out, view, looks, ready, never_entry}
 use Rattle.overlay_machine.proofs.Offers.{stack_apart, where_is, other_quiet, back_first}
@@ -36,7 +36,7 @@ use Rattle.headline.proofs.privacy.StepSpares.{call_step, entry_step}
 use Rattle.headline.proofs.privacy.CallTail.{tail_spares}
 use Rattle.headline.proofs.privacy.ReturnTail.{OwnTouch, tail_own}
 
-module _ (g : Link) (linked : Linked g) (o : OState) (t : State Word) (inv : Invariant g o t) (a : ℕ)
+module _ (g : Link) (linked : IsLink g) (o : OState) (t : State Word) (inv : Invariant g o t) (a : ℕ)
     (w : OWord) (fa : framed o.frames a ≡ Some w) where
   abbrev l : Layout
   l = g.layout

@@ -53,7 +53,7 @@ use Rattle.overlay_machine.specs.Runs.{Reached, begins, goes_on, plain_run}
 use Rattle.overlay_machine.specs.Brackets.{FrameTold, Mark, opens, closes, Brackets, at_end, one_opens}
 use Rattle.overlay_machine.specs.Brackets.{one_closes, frame_told, frames_told}
 use Rattle.overlay_machine.specs.Link.{Link}
-use Rattle.overlay_machine.specs.Linked.{Linked}
+use Rattle.overlay_machine.specs.Linked.{IsLink}
 use Rattle.overlay_machine.specs.Invariant.{Invariant, FrameLies, FramesLie}
 use Rattle.overlay_machine.proofs.BracketLemmas.{joined}
 use Rattle.overlay_machine.proofs.Marks.{flat_cell, if_there, words_at, marks_by, marks_of, Marked, none_yet}
@@ -227,7 +227,7 @@ tells l before after ms (pops f e a) =
     (subst (λ y. Brackets FrameTold (frames_told l y) (closes (frame_told l f after) ∷ [])
     (frames_told l after)) (sym a) (one_closes (at_end _)))
 
-module _ (g : Link) (linked : Linked g) where
+module _ (g : Link) (linked : IsLink g) where
   abbrev L : Layout
   L = g.layout
 

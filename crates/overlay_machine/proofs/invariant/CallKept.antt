@@ -43,7 +43,7 @@ use Rattle.overlay_machine.specs.Flat.{flat}
 use Rattle.overlay_machine.specs.Step.{goes, own_stack, new_frame, at_call, call_step}
 use Rattle.overlay_machine.specs.Agree.{IsKnown, AllKnown}
 use Rattle.overlay_machine.specs.Link.{Link, IsTrusted, ranges_of, regions, has_cell, IsStackCell, IsOpenAt}
-use Rattle.overlay_machine.specs.Linked.{Linked, SiteOf}
+use Rattle.overlay_machine.specs.Linked.{IsLink, SiteOf}
 use Rattle.overlay_machine.specs.Safe.{IsSafeCap, IsSafe}
 use Rattle.overlay_machine.specs.Invariant.{StandsAt, PcPart, FrameLies, FramesLie, FrameFits, Invariant}
 use Rattle.overlay_machine.proofs.FlatLemmas.{flat-mem}
@@ -132,7 +132,7 @@ passed_at true true true true true true false b8 b9 h = cc
 passed_at true true true true true true true false b9 h = cc
 passed_at true true true true true true true true false h = cc
 
-module _ (g : Link) (linked : Linked g) (o : OState) (t : State Word) (inv : Invariant g o t)
+module _ (g : Link) (linked : IsLink g) (o : OState) (t : State Word) (inv : Invariant g o t)
     (i : ℕ) (p : PartSeen) (index : ℕ) (u : SiteCode) (ip : IsTrusted g p)
     (eu : site_code g.layout i ≡ Some u) (st : SiteOf p index u)
     (at : StandsAt g o.frames p st.offset o.maps.regs) (q : OState) (x : Called g.layout i o q) where

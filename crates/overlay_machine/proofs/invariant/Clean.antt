@@ -9,7 +9,7 @@ use Rattle.lcm_machine.specs.Maps.{Regs}
 use Rattle.lcm_machine.specs.Places.{reg}
 use Rattle.lcm_machine.specs.Table.{is_pc}
 use Rattle.flow_rules.specs.Kinds.{kind_of, clean_row}
-use Rattle.flow_rules.specs.Local.{Leads}
+use Rattle.flow_rules.specs.Local.{LeadsTo}
 use Rattle.flow_rules.specs.Holds.{data_cap, part_stack_cap, Up, PcAt, HasKinds, HasKind}
 use Rattle.flow_rules.proofs.Offers.{row_fits}
 use Rattle.linked_starts.specs.Parts.{PartSeen}
@@ -18,12 +18,12 @@ use Rattle.overlay_machine.specs.declared.words.OWord.TheVariants.{Plain}
 use Rattle.overlay_machine.specs.Words.{look}
 use Rattle.overlay_machine.specs.State.{OpenFrame}
 use Rattle.overlay_machine.specs.Link.{Link, IsTrusted, ranges_of, IsStackCell}
-use Rattle.overlay_machine.specs.Linked.{Linked}
+use Rattle.overlay_machine.specs.Linked.{IsLink}
 use Rattle.overlay_machine.specs.Safe.{IsSafe}
 use Rattle.overlay_machine.specs.Invariant.{StandsAt}
 use Rattle.overlay_machine.proofs.invariant.Facts.{safe_int, safe_stk}
 
-module _ (g : Link) (linked : Linked g) (fs : List OpenFrame) (p : PartSeen) (ip : IsTrusted g p) where
+module _ (g : Link) (linked : IsLink g) (fs : List OpenFrame) (p : PartSeen) (ip : IsTrusted g p) where
   pub clean_fits : (rs : Regs OWord) (end : ℕ) (at to : ℤ)
       → look rs.stk ≡ Mem (part_stack_cap (ranges_of p) end at) → Up (IsStackCell g fs) (ranges_of p) end
       → look rs.dat ≡ Mem (data_cap (ranges_of p) to)
@@ -52,7 +52,8 @@ module _ (g : Link) (linked : Linked g) (fs : List OpenFrame) (p : PartSeen) (ip
       each G1 q = others G1 refl (λ x. cc)
       each G2 q = others G2 refl (λ x. cc)
 
-  pub stands_clean : (rs : Regs OWord) (o : ℕ) → Leads p.component o clean_row → PcAt look (ranges_of p) o rs
+  pub stands_clean : (rs : Regs OWord) (o : ℕ) → LeadsTo p.component o clean_row
+      → PcAt look (ranges_of p) o rs
       → HasKinds look (IsSafe g fs) (IsStackCell g fs) (ranges_of p) clean_row rs → StandsAt g fs p o rs
   stands_clean rs o l h f = record {
     there = l.there;

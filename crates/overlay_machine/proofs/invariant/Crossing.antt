@@ -38,7 +38,7 @@ use Rattle.overlay_machine.specs.declared.words.OWord.TheVariants.{Plain}
 use Rattle.overlay_machine.specs.Words.{look}
 use Rattle.overlay_machine.specs.State.{OpenFrame}
 use Rattle.overlay_machine.specs.Link.{Link, IsTrusted, ranges_of, IsStackCell}
-use Rattle.overlay_machine.specs.Linked.{Linked}
+use Rattle.overlay_machine.specs.Linked.{IsLink}
 use Rattle.overlay_machine.specs.Safe.{IsSafeIn, IsOpenSeal, IsHalf, IsTrustedHalf, IsSafe}
 use Rattle.overlay_machine.specs.Invariant.{PcPart, at_row, outside}
 
@@ -143,7 +143,7 @@ code_is x t = rw t refl
 abbrev pub whole_data : PartSeen → CapFields
 whole_data p = data_cap (ranges_of p) (pos p.component.data_base)
 
-module _ (g : Link) (linked : Linked g) (fs : List OpenFrame) where
+module _ (g : Link) (linked : IsLink g) (fs : List OpenFrame) where
   -- where a pair of safe words leads, by their seal: under one of untrusted code onto safe words, under the
   -- closure seal of a trusted part onto one of its entries, with its data
   pub data Leads_to (n : ℕ) (c : CapFields) (d : Word) : Type 0 where

@@ -30,7 +30,7 @@ use Rattle.overlay_machine.specs.Words.{look}
 use Rattle.overlay_machine.specs.State.{OpenFrame, OState}
 use Rattle.overlay_machine.specs.Step.{case_fetched, Ending, goes, need, own_stack, entry_step}
 use Rattle.overlay_machine.specs.Link.{Link, IsTrusted, ranges_of, IsStackCell}
-use Rattle.overlay_machine.specs.Linked.{Linked}
+use Rattle.overlay_machine.specs.Linked.{IsLink}
 use Rattle.overlay_machine.specs.Safe.{IsSafeCap, IsSafe}
 use Rattle.overlay_machine.specs.Invariant.{StandsAt, at_row, Invariant}
 use Rattle.overlay_machine.proofs.OwnStack.{own_is}
@@ -66,7 +66,7 @@ never_entry s f a e = never_sequence s f (Entry a) e refl
 pub never_call : (s : State OWord) (f : Fetched) (i : ℕ) → Call i ≡ case_fetched s f → ⊥
 never_call s f i e = never_sequence s f (Call i) e refl
 
-module _ (g : Link) (linked : Linked g) (fs : List OpenFrame) where
+module _ (g : Link) (linked : IsLink g) (fs : List OpenFrame) where
   -- a safe own stack reaches over stack cells in memory
   pub own_up : (p : PartSeen) → IsTrusted g p → (c : CapFields) → IsSafeCap g fs c
       → c.base ≡ g.layout.stack.base → Up (IsStackCell g fs) (ranges_of p) c.end
@@ -83,7 +83,7 @@ module _ (g : Link) (linked : Linked g) (fs : List OpenFrame) where
         )),
       )
 
-module _ (g : Link) (linked : Linked g) (o : OState) (t : State Word) (inv : Invariant g o t) where
+module _ (g : Link) (linked : IsLink g) (o : OState) (t : State Word) (inv : Invariant g o t) where
   abbrev fs : List OpenFrame
   fs = o.frames
 

@@ -26,7 +26,7 @@ use Rattle.overlay_machine.specs.State.{OpenFrame, Cells}
 use Rattle.overlay_machine.specs.Link.{Link, IsTrusted, the_stack, regions, ranges_of, code_region}
 use Rattle.overlay_machine.specs.Link.{data_region, stack_region, has_cell, IsOpenAt, IsStackCell, CodeIn}
 use Rattle.overlay_machine.specs.Safe.{IsSafeCap, AreSafeSeals, IsSafe}
-use Rattle.overlay_machine.specs.Linked.{Linked}
+use Rattle.overlay_machine.specs.Linked.{IsLink}
 
 -- words that look like capabilities are plain
 pub mem_safe : (g : Link) (fs : List OpenFrame) (w : OWord) (c : CapFields) → look w ≡ Mem c → IsSafe g fs w
@@ -70,7 +70,7 @@ stands p m code a o e (i ∷ is) h =
     later h k j e = let n : o + 1 + k ≡ o + suc k =
         omega arith in ap (slice_get p.component.code) n ∙ h (suc k) j e
 
-module _ (g : Link) (linked : Linked g) where
+module _ (g : Link) (linked : IsLink g) where
   -- ---- regions
 
   -- regions that share an address are one

@@ -28,7 +28,7 @@ use Rattle.overlay_machine.specs.Step.{new_frame}
 use Rattle.overlay_machine.specs.Flat.{IsFlat}
 use Rattle.overlay_machine.specs.Agree.{Looks, ReadyFor, AtSite, AtEntry}
 use Rattle.overlay_machine.specs.Link.{Link, ranges_of}
-use Rattle.overlay_machine.specs.Linked.{Linked}
+use Rattle.overlay_machine.specs.Linked.{IsLink}
 use Rattle.overlay_machine.specs.Invariant.{Invariant, KeepsAgreeing, FrameLies, FramesLie}
 use Rattle.overlay_machine.specs.Runs.{Reached, begins, goes_on, plain_run}
 use Rattle.overlay_machine.specs.Privacy.{FramesArePrivate, AllFramesArePrivate}
@@ -72,7 +72,7 @@ went_on g q (went u) h = (u, refl)
 went_on g q halted h = absurd h
 went_on g q (failed c at) h = absurd h
 
-module _ (g : Link) (linked : Linked g) where
+module _ (g : Link) (linked : IsLink g) where
   abbrev l : Layout
   l = g.layout
 

@@ -20,13 +20,13 @@ use Rattle.overlay_machine.specs.declared.words.OWord.TheVariants.{Plain}
 use Rattle.overlay_machine.specs.Words.{look}
 use Rattle.overlay_machine.specs.State.{OpenFrame}
 use Rattle.overlay_machine.specs.Link.{Link, IsTrusted, ranges_of, IsOpenAt, IsStackCell, CodeIn}
-use Rattle.overlay_machine.specs.Linked.{Linked}
+use Rattle.overlay_machine.specs.Linked.{IsLink}
 use Rattle.overlay_machine.specs.Safe.{IsSafe}
 use Rattle.overlay_machine.specs.Invariant.{StandsAt}
 use Rattle.overlay_machine.proofs.invariant.Facts.{safe_int, safe_stk, open_data, open_stack, closed}
 use Rattle.overlay_machine.proofs.invariant.Facts.{length_is}
 
-module _ (g : Link) (linked : Linked g) (fs : List OpenFrame) (s : State OWord) (p : PartSeen)
+module _ (g : Link) (linked : IsLink g) (fs : List OpenFrame) (s : State OWord) (p : PartSeen)
     (ip : IsTrusted g p) (code : CodeIn p s.cells)
     (cells : (a : ℕ) (w : OWord) → IsOpenAt g a → cell s.cells a ≡ Some w → IsSafe g fs w) where
   abbrev pub Stood : State OWord → ℕ → Type 0

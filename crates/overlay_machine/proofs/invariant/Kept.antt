@@ -16,7 +16,7 @@ use Rattle.overlay_machine.specs.State.{OState}
 use Rattle.overlay_machine.specs.Step.{Ending, goes, halts, fails, case_of, step_by, overlay_step, weight_of}
 use Rattle.overlay_machine.specs.Agree.{EndsAgree, ReadyFor}
 use Rattle.overlay_machine.specs.Link.{Link, regions}
-use Rattle.overlay_machine.specs.Linked.{Linked}
+use Rattle.overlay_machine.specs.Linked.{IsLink}
 use Rattle.overlay_machine.specs.Safe.{IsSafe}
 use Rattle.overlay_machine.specs.Invariant.{Invariant, KeepsAgreeing}
 use Rattle.overlay_machine.proofs.OneStep.{one_step}
@@ -29,7 +29,7 @@ use Rattle.overlay_machine.proofs.invariant.EntryKept.{entry_kept, never_call}
 use Rattle.overlay_machine.proofs.invariant.ReturnKept.{returned, return_kept}
 use Rattle.overlay_machine.proofs.invariant.CallKept.{called, call_kept}
 
-module _ (g : Link) (linked : Linked g) (o : OState) (t : State Word) (inv : Invariant g o t) where
+module _ (g : Link) (linked : IsLink g) (o : OState) (t : State Word) (inv : Invariant g o t) where
   abbrev Shown : Type 0
   Shown = (d : Reg) → is_pc d ≡ false → d ≢ Dat → IsSafe g o.frames (reg o.maps.regs d)
 

@@ -10,7 +10,7 @@ use Rattle.overlay_machine.specs.Step.{goes, overlay_step, weight_of}
 use Rattle.overlay_machine.specs.Runs.{begins, goes_on, plain_run}
 use Rattle.overlay_machine.specs.Brackets.{FrameTold, Mark, opens, closes, frame_told, Depth}
 use Rattle.overlay_machine.specs.Link.{Link}
-use Rattle.overlay_machine.specs.Linked.{Linked}
+use Rattle.overlay_machine.specs.Linked.{IsLink}
 use Rattle.overlay_machine.specs.Invariant.{Invariant, FramesLie}
 use Rattle.overlay_machine.specs.Privacy.{FramesArePrivate}
 use Rattle.overlay_machine.proofs.BracketLemmas.{depth_split}
@@ -58,7 +58,7 @@ frame_among l m n (h ∷ hs) f older k =
     let ne : f.call ≢ h.call = omega (arith, below) in
     frame_of-later h (hs ++ f ∷ older) f.call ne ∙ frame_among l m h.call hs f older k.3
 
-module _ (g : Link) (linked : Linked g) where
+module _ (g : Link) (linked : IsLink g) where
   abbrev L : Layout
   L = g.layout
 

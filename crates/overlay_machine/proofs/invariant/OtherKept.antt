@@ -27,7 +27,7 @@ use Rattle.overlay_machine.specs.Words.{look, is_plain}
 use Rattle.overlay_machine.specs.State.{OpenFrame, OState, Cells}
 use Rattle.overlay_machine.specs.Step.{goes, case_fetched, with_frames, other_step}
 use Rattle.overlay_machine.specs.Link.{Link, IsTrusted, has_cell, IsOpenAt, CodeIn}
-use Rattle.overlay_machine.specs.Linked.{Linked}
+use Rattle.overlay_machine.specs.Linked.{IsLink}
 use Rattle.overlay_machine.specs.Safe.{IsSafe}
 use Rattle.overlay_machine.specs.Invariant.{PcPart, at_fail, at_row, outside, FramesLie, Invariant}
 use Rattle.overlay_machine.proofs.FlatLemmas.{mem_of_face}
@@ -66,7 +66,7 @@ went_other fs n (went s) q e = (s, refl, cc)
 went_other fs n halted q e = cc
 went_other fs n (failed c at) q e = cc
 
-module _ (g : Link) (linked : Linked g) where
+module _ (g : Link) (linked : IsLink g) where
   -- an `xjmp` of plain safe words by which all other registers are safe
   pub cross_safe : (fs : List OpenFrame) (s s' : State OWord) (r1 r2 : Reg) → is_plain (reg s.regs r1) ≡ true
       → is_plain (reg s.regs r2) ≡ true → IsSafe g fs (reg s.regs r1) → IsSafe g fs (reg s.regs r2)

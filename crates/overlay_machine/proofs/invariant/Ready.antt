@@ -50,7 +50,7 @@ use Rattle.overlay_machine.specs.Agree.{Looks, HasSite, SitesStand, IsForeign, I
 use Rattle.overlay_machine.specs.Agree.{AtEntry, AtReturn, FrameSound, ReadyFor}
 use Rattle.overlay_machine.specs.Link.{Link, IsTrusted, ranges_of, data_region, stack_region, regions}
 use Rattle.overlay_machine.specs.Link.{IsStackCell, CodeIn}
-use Rattle.overlay_machine.specs.Linked.{Linked, SiteOf}
+use Rattle.overlay_machine.specs.Linked.{IsLink, SiteOf}
 use Rattle.overlay_machine.specs.Safe.{IsSafeCap, IsSafe, IsMet, IsTrustedHalf, IsOpenSeal}
 use Rattle.overlay_machine.specs.Invariant.{StandsAt, FramesLie, Invariant}
 use Rattle.overlay_machine.proofs.invariant.Facts.{in_code, length_is, stands, safe_int, safe_stk, mem_safe}
@@ -109,7 +109,7 @@ first_of : (ws : List OWord) (w : OWord) → slice_get ws 0 ≡ Some w → ws �
 first_of [] w e = cc
 first_of (x ∷ ws) w e = let q : x ≡ w = cc in ap (λ y. y ∷ ws) q
 
-module _ (g : Link) (linked : Linked g) where
+module _ (g : Link) (linked : IsLink g) where
   -- a safe word is under no return seal
   pub foreign : (fs : List OpenFrame) (w : Word) → IsSafe g fs (Plain w) → IsForeign g.layout w
   foreign fs (Int z) h x i s e q = λ same. cc

@@ -42,7 +42,7 @@ use Rattle.overlay_machine.specs.Step.{first_word, rest_words}
 use Rattle.overlay_machine.specs.Agree.{IsOther, AtReturn}
 use Rattle.overlay_machine.specs.Link.{Link, IsTrusted, ranges_of, regions, stack_region, has_cell}
 use Rattle.overlay_machine.specs.Link.{IsStackCell, IsOpenAt}
-use Rattle.overlay_machine.specs.Linked.{Linked}
+use Rattle.overlay_machine.specs.Linked.{IsLink}
 use Rattle.overlay_machine.specs.Safe.{IsSafeCap, IsSafe}
 use Rattle.overlay_machine.specs.Invariant.{StandsAt, at_row, FrameLies, FramesLie, FrameFits, Invariant}
 use Rattle.overlay_machine.proofs.OutLemmas.{put_back-other}
@@ -124,7 +124,7 @@ where_in a b e = elim (cases_lt a b) as (λ _. ((a < b) ⊎ (e < a)) ⊎ ((b ≤
       [ inl lt ↦ inl (inr lt) | inr le ↦ inr (ge, le) ]
 ]
 
-module _ (g : Link) (linked : Linked g) (o : OState) (t : State Word) (inv : Invariant g o t) (r1 r2 : Reg)
+module _ (g : Link) (linked : IsLink g) (o : OState) (t : State Word) (inv : Invariant g o t) (r1 r2 : Reg)
     (q : OState) (x : Returned g.layout r1 r2 o q) (rd : AtReturn g.layout r1 r2 o)
     (shown : (d : Reg) → is_pc d ≡ false → d ≢ Dat → IsSafe g o.frames (reg o.maps.regs d)) where
   abbrev F : OpenFrame

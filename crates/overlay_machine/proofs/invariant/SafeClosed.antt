@@ -14,7 +14,7 @@ use Rattle.overlay_machine.specs.declared.words.OWord.TheVariants.{Plain}
 use Rattle.overlay_machine.specs.Words.{look}
 use Rattle.overlay_machine.specs.State.{OpenFrame, framed}
 use Rattle.overlay_machine.specs.Link.{Link}
-use Rattle.overlay_machine.specs.Linked.{Linked}
+use Rattle.overlay_machine.specs.Linked.{IsLink}
 use Rattle.overlay_machine.specs.Safe.{IsSafeCap, AreSafeSeals, IsOpenSeal, IsSafe}
 use Rattle.overlay_machine.proofs.invariant.Facts.{mem_safe, seals_safe}
 
@@ -36,7 +36,7 @@ open_seal g q b h =
     let u = h.high in
     (h.of, h.untrusted, own_seal h.of (address q.cur) (omega (arith, l, x)) (omega (arith, u, y)))
 
-module _ (g : Link) (linked : Linked g) (fs : List OpenFrame) where
+module _ (g : Link) (linked : IsLink g) (fs : List OpenFrame) where
   less : (c : CapFields) (p : Perm) → is_below p c.perm ≡ true → IsSafeCap g fs c
       → IsSafeCap g fs (record c { perm = p })
   less c p b h =

@@ -37,7 +37,7 @@ use Rattle.overlay_machine.specs.Words.{look}
 use Rattle.overlay_machine.specs.State.{OpenFrame}
 use Rattle.overlay_machine.specs.Step.{case_at, case_fetched, case_of}
 use Rattle.overlay_machine.specs.Link.{Link, IsTrusted, ranges_of, CodeIn}
-use Rattle.overlay_machine.specs.Linked.{Linked, SiteOf}
+use Rattle.overlay_machine.specs.Linked.{IsLink, SiteOf}
 use Rattle.overlay_machine.specs.Safe.{IsSafe}
 use Rattle.overlay_machine.specs.Invariant.{StandsAt, PcPart, at_fail, at_row, outside}
 use Rattle.overlay_machine.proofs.invariant.Facts.{in_code, one_part, mem_safe, not_trusted, stands}
@@ -68,7 +68,7 @@ pub first_stands : (words : List Word) (at : ℕ) (i : Instr) (code : List Instr
     → CodeStands words at code → slice_get words at ≡ Some (Int (pos (number_of i)))
 first_stands words at i code e h = let z : at + 0 ≡ at = omega arith in ap (slice_get words) (sym z) ∙ h 0 i e
 
-module _ (g : Link) (linked : Linked g) where
+module _ (g : Link) (linked : IsLink g) where
   -- a site at an offset of a part is one of that part
   pub site_of : (p : PartSeen) (o j : ℕ) → IsTrusted g p → o < length p.component.code
       → site_at g.layout (p.component.code_base + o) ≡ Some j

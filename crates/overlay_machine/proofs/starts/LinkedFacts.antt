@@ -26,7 +26,7 @@ use Rattle.trusted_border.specs.Layout.{site_at, site_code}
 use Rattle.overlay_machine.specs.Link.{Link, IsTrusted, IsUntrusted, IsUsable, own_code, own_data, own_linear}
 use Rattle.overlay_machine.specs.Link.{the_stack, code_region, data_region, stack_region}
 use Rattle.overlay_machine.specs.Safe.{IsOpenSeal}
-use Rattle.overlay_machine.specs.Linked.{SiteOf, Linked}
+use Rattle.overlay_machine.specs.Linked.{SiteOf, IsLink}
 use Rattle.overlay_machine.proofs.starts.ListFacts.{index_of, listed_at, one_at, first_is}
 use Rattle.overlay_machine.proofs.starts.PartFacts.{site_in, entry_in, export_within, fail_stands}
 use Rattle.overlay_machine.proofs.starts.RegionsApart.{one_owner, no_owner, code_there, data_is_there}
@@ -237,7 +237,7 @@ module _ (site_words : SitesStand) (entry_words : EntriesStand) (parts : List Pa
   part_of : (p : PartSeen) → Contains parts p → IsPart p
   part_of p m = let k = index_of parts p m in each k.0 p k.1
 
-  pub linked : Linked (record { parts = parts; size = size; layout = l })
+  pub linked : IsLink (record { parts = parts; size = size; layout = l })
   linked = record {
     parts = part_of;
     apart = link.regions;

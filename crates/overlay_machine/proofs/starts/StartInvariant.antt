@@ -40,7 +40,7 @@ use Rattle.overlay_machine.specs.Seen.{OverlaySeen, IsOverlayOf}
 use Rattle.overlay_machine.specs.Link.{Link, IsTrusted, IsUntrusted, ranges_of, IsOpenAt, IsStackCell}
 use Rattle.overlay_machine.specs.Link.{has_cell, CodeIn, stack_region}
 use Rattle.overlay_machine.specs.Safe.{IsSafe, IsMet}
-use Rattle.overlay_machine.specs.Linked.{Linked}
+use Rattle.overlay_machine.specs.Linked.{IsLink}
 use Rattle.overlay_machine.specs.Invariant.{PcPart, at_row, outside, FramesLie, Invariant}
 use Rattle.overlay_machine.specs.Starting.{StartsBegin}
 use Rattle.overlay_machine.proofs.starts.ListFacts.{listed_at, index_of, first_is}
@@ -78,7 +78,7 @@ module _ (site_words : SitesStand) (entry_words : EntriesStand) (parts : List Pa
   made : making.Linked parts size
   made = are_linked parts size each link.rules
 
-  pub start_linked : Linked (record { parts = parts; size = size; layout = o.layout })
+  pub start_linked : IsLink (record { parts = parts; size = size; layout = o.layout })
   start_linked =
       linked site_words entry_words parts size s o.layout each link over.sites over.owners over.stack
 

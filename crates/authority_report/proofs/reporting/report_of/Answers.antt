@@ -1,6 +1,6 @@
 use Rattle.std.proofs.Common.{map, sym, ap, subst, ◌∙◌}
 use Rattle.std.specs.List.{All}
-use Rattle.authority_report.specs.SealRanges.{is_in, AreApart, Fits, range_of}
+use Rattle.authority_report.specs.SealRanges.{is_in, AreRanges, Fits, range_of}
 use Rattle.authority_report.proofs.FoundLemmas.{found_all, found_told}
 use Rattle.authority_report.proofs.Ranges.{ranges_have, ranges_apart, all_fit}
 use Rattle.authority_report.proofs.reporting.report_of.Goals as goal
@@ -29,5 +29,5 @@ returns c =
           (λ n. ap (λ rs. is_in rs n) are ∙ ranges_have _ n stretches.tidy.each ∙ stretches.are n)
           (found_all m o f c.in_ok-finish.ensures.none c.in_ok-finish.ensures.closed);
       spans = spans.tidy;
-      seals = subst AreApart (sym are) (ranges_apart _ stretches.tidy);
+      seals = subst AreRanges (sym are) (ranges_apart _ stretches.tidy);
     }

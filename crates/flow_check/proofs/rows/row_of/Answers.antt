@@ -2,7 +2,7 @@ use Rattle.std.proofs.Common.{◌≡◌, ◌∙◌, refl, suc, sym, ap, subst, a
 use Rattle.flow_rules.specs.declared.flow.Walk.TheVariants.{Before, Ended, Broken}
 use Rattle.std.specs.Option.{option_or}
 use Rattle.flow_rules.specs.Places.{declared}
-use Rattle.flow_rules.specs.Walk.{Comes, next, next_from}
+use Rattle.flow_rules.specs.Walk.{Arrives, next, next_from}
 use Rattle.flow_rules.proofs.Offers.{each_outside, entry_outside, no_row, none_behind, passed_over, rises}
 use Rattle.flow_rules.proofs.Offers.{row_is, row_none}
 use Rattle.flow_check.proofs.rows.row_of.Goals as goal
@@ -57,7 +57,7 @@ returns-clause-is c =
     let C = c.args.c.now in
     let o = c.args.offset in
     let here : c.loop-at.at ≡ o = omega (arith, c.loop-at-test.false, c.loop-at.invariant.short) in
-    let come = subst (λ p. Comes C (Before p c.loop-at.current)) here c.loop-at.invariant.comes in
+    let come = subst (λ p. Arrives C (Before p c.loop-at.current)) here c.loop-at.invariant.comes in
     let e : c.or.result ≡ option_or (declared C o) c.loop-at.current =
     c.or.ensures ∙ ap (λ d. option_or d c.loop-at.current) c.declared.ensures in
     row_is C o c.loop-at.current c.or.result (sym c.begins_entry.ensures ∙ c.if-begins_entry.false) come e
@@ -67,7 +67,7 @@ returns-clause-outside c =
     let C = c.args.c.now in
     let o = c.args.offset in
     let here : c.loop-at.at ≡ o = omega (arith, c.loop-at-test.false, c.loop-at.invariant.short) in
-    let come = subst (λ p. Comes C (Before p c.loop-at.current)) here c.loop-at.invariant.comes in
+    let come = subst (λ p. Arrives C (Before p c.loop-at.current)) here c.loop-at.invariant.comes in
     let e : c.or.result ≡ option_or (declared C o) c.loop-at.current =
     c.or.ensures ∙ ap (λ d. option_or d c.loop-at.current) c.declared.ensures in
     each_outside C c.requires.fits c.requires.kept o c.or.result
@@ -79,7 +79,7 @@ returns-clause-none c =
     let C = c.args.c.now in
     let o = c.args.offset in
     let here : c.loop-at.at ≡ o = omega (arith, c.loop-at-test.false, c.loop-at.invariant.short) in
-    let come = subst (λ p. Comes C (Before p c.loop-at.current)) here c.loop-at.invariant.comes in
+    let come = subst (λ p. Arrives C (Before p c.loop-at.current)) here c.loop-at.invariant.comes in
     let e : c.or.result ≡ option_or (declared C o) c.loop-at.current =
     c.or.ensures ∙ ap (λ d. option_or d c.loop-at.current) c.declared.ensures in
     row_none C o c.loop-at.current c.or.result (sym c.begins_entry.ensures ∙ c.if-begins_entry.false) come e

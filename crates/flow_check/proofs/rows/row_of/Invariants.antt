@@ -1,11 +1,11 @@
 use Rattle.std.proofs.Common.{◌-◌, ◌≤◌}
 use Rattle.flow_rules.specs.declared.flow.Walk.TheVariants.{Before}
-use Rattle.flow_rules.specs.Walk.{Comes}
+use Rattle.flow_rules.specs.Walk.{Arrives}
 use Rattle.flow_check.proofs.rows.row_of.Given as goal
 
 abbrev pub invariant-loop-at : goal.invariant-loop-at
 invariant-loop-at l = record {
-  comes : Comes l.c (Before l.at l.current);
+  comes : Arrives l.c (Before l.at l.current);
   short : l.at ≤ l.offset;
 }
 

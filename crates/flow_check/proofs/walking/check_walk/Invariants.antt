@@ -1,10 +1,10 @@
 use Rattle.std.proofs.Common.{length, ◌-◌, suc}
 use Rattle.flow_rules.specs.declared.flow.Walk.TheVariants.{Before}
-use Rattle.flow_rules.specs.Walk.{Comes}
+use Rattle.flow_rules.specs.Walk.{Arrives}
 use Rattle.flow_check.proofs.walking.check_walk.Given as goal
 
 abbrev pub invariant-walk : goal.invariant-walk
-invariant-walk l = Comes l.c (Before l.at l.current)
+invariant-walk l = Arrives l.c (Before l.at l.current)
 
 abbrev pub decreases-walk : goal.decreases-walk
 decreases-walk l = suc (length l.c.code) - l.at

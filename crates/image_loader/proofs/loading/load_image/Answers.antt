@@ -1,6 +1,6 @@
 use Rattle.std.proofs.Common.{Ok, Err, subst, arith}
 use Rattle.std.proofs.lemmas.Result.{err_from_is_err_and}
-use Rattle.linked_starts.specs.Answer.{Answers}
+use Rattle.linked_starts.specs.Answer.{AnswersParts}
 use Rattle.image_loader.proofs.ImageLaws.{found_whole}
 use Rattle.image_loader.proofs.Loaded.{fault_told, linking_told, loads_found, loads_only}
 use Rattle.image_loader.proofs.loading.load_image.Goals as goal
@@ -24,7 +24,7 @@ returns-in_err-start-clause-only c = λ i spelled none.
     let p = err_from_is_err_and c.from_residual-in_err-start.result c.from_residual-in_err-start.ensures.1 in
     let image = c.in_ok-image.image in
     let fault = c.in_err-start.field-0.0 in
-    let answers = subst (λ parts. Answers parts image.stack (Err fault)) c.as_slice.ensures
+    let answers = subst (λ parts. AnswersParts parts image.stack (Err fault)) c.as_slice.ensures
     c.in_err-start.ensures in
     rw (p.1, p.2)
     (loads_only c.args.bytes.now _ i
@@ -34,7 +34,7 @@ pub returns-clause-found : goal.returns-clause-found
 returns-clause-found c =
     let image = c.in_ok-image.image in
     let start = c.in_ok-start.start in
-    let answers = subst (λ parts. Answers parts image.stack (Ok start)) c.as_slice.ensures
+    let answers = subst (λ parts. AnswersParts parts image.stack (Ok start)) c.as_slice.ensures
     c.in_ok-start.ensures in
     loads_found c.args.bytes.now start (λ i. omega (arith, c.type_inv.bytes i))
     (linking_told c.args.bytes.now image (Ok start) c.in_ok-image.ensures answers)

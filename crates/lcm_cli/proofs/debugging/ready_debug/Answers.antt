@@ -1,6 +1,6 @@
 use Rattle.std.proofs.lemmas.Result.{err_from_is_err_and}
 use Rattle.lcm_cli.specs.Commands.{debug_plan}
-use Rattle.link_tool.specs.Linked.{linked_in}
+use Rattle.link_tool.specs.Linked.{linked_plan}
 use Rattle.file_plans.proofs.Offers.{follows_end}
 use Rattle.lcm_cli.proofs.Debugs.{behind, few_owners, debug_follows, debug_stops}
 use Rattle.lcm_cli.proofs.debugging.ready_debug.Goals as goal
@@ -13,7 +13,7 @@ pub returns-in_err-start : goal.returns-in_err-start
 unfolding debug_plan
 returns-in_err-start g c =
     let p = err_from_is_err_and c.from_residual.result c.from_residual.ensures.1 in
-    rw (p.1, p.2) (follows_end (linked_in c.args.what.now) (behind c.args.name.now) _ _
+    rw (p.1, p.2) (follows_end (linked_plan c.args.what.now) (behind c.args.name.now) _ _
     c.in_err-start.field-0.0 c.in_err-start.ensures)
 
 pub returns-in_err-script : goal.returns-in_err-script

@@ -2,7 +2,7 @@ use Rattle.std.proofs.lemmas.Result.{err_from_is_err_and}
 use Rattle.command_words.specs.declared.command.LinkDeed.TheVariants.{Reach}
 use Rattle.lcm_cli.specs.declared.ready.ReadyTask.TheVariants as ready
 use Rattle.lcm_cli.specs.Commands.{link_task}
-use Rattle.link_tool.specs.Linked.{linked_in}
+use Rattle.link_tool.specs.Linked.{linked_plan}
 use Rattle.file_plans.proofs.Offers.{comes_quiet}
 use Rattle.lcm_cli.proofs.RunsMade.{linked_as}
 use Rattle.lcm_cli.proofs.Tasks.{task_done, task_stops}
@@ -14,17 +14,17 @@ reach_text-requires g c =
 
 pub returns-in_err-start : goal.returns-in_err-start
 returns-in_err-start g c =
-    task_stops (linked_in c.args.what.now) (link_task Reach) _ _ c.in_err-start.field-0.0
+    task_stops (linked_plan c.args.what.now) (link_task Reach) _ _ c.in_err-start.field-0.0
     c.from_residual.result c.from_residual.ensures.1 c.in_err-start.ensures
 
 pub returns-in_err-text : goal.returns-in_err-text
 returns-in_err-text g c =
     let f = c.in_ok-start.ensures in
     let p = err_from_is_err_and c.from_residual-in_err-text.result c.from_residual-in_err-text.ensures.1 in
-    rw (p.1, p.2) (comes_quiet (linked_in c.args.what.now) _ _ f.0 f.1)
+    rw (p.1, p.2) (comes_quiet (linked_plan c.args.what.now) _ _ f.0 f.1)
 
 pub returns : goal.returns
 returns g c =
     let f = c.in_ok-start.ensures in
-    task_done (linked_in c.args.what.now) (link_task Reach) _ _ f.0 (ready.Write c.in_ok-text.text) f.1
+    task_done (linked_plan c.args.what.now) (link_task Reach) _ _ f.0 (ready.Write c.in_ok-text.text) f.1
     (c.in_ok-start.start, f.2, c.in_ok-text.ensures)

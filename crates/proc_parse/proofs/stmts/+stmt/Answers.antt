@@ -3,7 +3,7 @@ use Rattle.std.specs.Prelude.{codes}
 use Rattle.std.proofs.lemmas.Result.{err_from_is_err_and}
 use Rattle.proc_grammar.specs.Reading.{full, next_stmt, inner_stmts, stmts_with, token_behind, plain_stmt}
 use Rattle.proc_grammar.specs.Lexemes.{a_start}
-use Rattle.proc_grammar.specs.Makes.{TokenMakes}
+use Rattle.proc_grammar.specs.Makes.{TokenActions}
 use Rattle.proc_grammar.specs.Reader.{case_token}
 use Rattle.proc_parse.specs.Answers.{GivesAs}
 use Rattle.proc_parse.proofs.Steps.{full_is, all_begin, all_step, all_fault, all_end, inner_stmts_is}
@@ -66,8 +66,8 @@ stmts-returns g n c = all_end (a_start g.L.Language.made.tokens) (λ u s. u)
 pub stmt-returns-in-Some : goal.stmt-returns-in-Some
 unfolding next_stmt
 stmt-returns-in-Some g n c =
-    let makes = λ (k : TokenMakes _ _ _ _). token_behind g.L.Language.made true full k.make in
-    let spends = λ (k : TokenMakes _ _ _ _). token_behind g.L.Language.made true full k.spend in
+    let makes = λ (k : TokenActions _ _ _ _). token_behind g.L.Language.made true full k.make in
+    let spends = λ (k : TokenActions _ _ _ _). token_behind g.L.Language.made true full k.spend in
     let plain = plain_stmt g.L.Language.made true full c.args.room
     (inner_stmts g.L.Language.made true full c.args.room) in
     let others = case_token g.L.Language.made.tokens (codes "spend") spends plain in
@@ -78,8 +78,8 @@ stmt-returns-in-Some g n c =
 pub stmt-returns-in-Some-take_token_word : goal.stmt-returns-in-Some-take_token_word
 unfolding next_stmt
 stmt-returns-in-Some-take_token_word g n c =
-    let makes = λ (k : TokenMakes _ _ _ _). token_behind g.L.Language.made true full k.make in
-    let spends = λ (k : TokenMakes _ _ _ _). token_behind g.L.Language.made true full k.spend in
+    let makes = λ (k : TokenActions _ _ _ _). token_behind g.L.Language.made true full k.make in
+    let spends = λ (k : TokenActions _ _ _ _). token_behind g.L.Language.made true full k.spend in
     let plain = plain_stmt g.L.Language.made true full c.args.room
     (inner_stmts g.L.Language.made true full c.args.room) in
     let others = case_token g.L.Language.made.tokens (codes "spend") spends plain in
@@ -94,8 +94,8 @@ stmt-returns-in-Some-take_token_word g n c =
 pub stmt-returns : goal.stmt-returns
 unfolding next_stmt
 stmt-returns g n c =
-    let makes = λ (k : TokenMakes _ _ _ _). token_behind g.L.Language.made true full k.make in
-    let spends = λ (k : TokenMakes _ _ _ _). token_behind g.L.Language.made true full k.spend in
+    let makes = λ (k : TokenActions _ _ _ _). token_behind g.L.Language.made true full k.make in
+    let spends = λ (k : TokenActions _ _ _ _). token_behind g.L.Language.made true full k.spend in
     let plain = plain_stmt g.L.Language.made true full c.args.room
     (inner_stmts g.L.Language.made true full c.args.room) in
     let others = case_token g.L.Language.made.tokens (codes "spend") spends plain in

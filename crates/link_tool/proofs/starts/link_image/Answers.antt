@@ -6,15 +6,15 @@ use Rattle.file_plans.specs.declared.refusal.Stop.{Stop}
 use Rattle.file_plans.specs.declared.refusal.Refusal.TheVariants.{Image}
 use Rattle.file_plans.specs.Plans.{file, unless, Comes}
 use Rattle.link_tool.specs.Parts.{loaded}
-use Rattle.link_tool.specs.Linked.{linked_image, FollowsStart, MeetsStart}
+use Rattle.link_tool.specs.Linked.{image_plan, FollowsStart, MeetsStart}
 use Rattle.file_plans.proofs.Offers.{follows_meets}
-use Rattle.link_tool.proofs.starts.image_start.Goals as goal
+use Rattle.link_tool.proofs.starts.link_image.Goals as goal
 
 -- the file came, and loading it gave this
 start_follows : (name bytes : List ℕ) (old new : FilesSeen) (r : Result StartSeen Stop)
     → Comes (file name 0) old (Ok bytes) new → MeetsStart (unless Image (loaded bytes)) r
-    → FollowsStart (linked_image name) old r new
-unfolding linked_image
+    → FollowsStart (image_plan name) old r new
+unfolding image_plan
 start_follows name bytes old new (Ok s) c m =
     (m.0, follows_meets (file name 0) (λ b. unless Image (loaded b)) old new bytes (Ok m.0) c m.1, m.2)
 start_follows name bytes old new (Err stop) c m =

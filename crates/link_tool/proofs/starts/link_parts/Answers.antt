@@ -10,15 +10,15 @@ use Rattle.file_plans.specs.declared.refusal.Refusal.TheVariants.{Rule}
 use Rattle.file_plans.specs.Plans.{unless, each_at, Comes, Meets}
 use Rattle.linked_starts.specs.LinkedStarts.{IsStartOf}
 use Rattle.link_tool.specs.Parts.{linked, part_at}
-use Rattle.link_tool.specs.Linked.{linked_parts, without, FollowsStart}
+use Rattle.link_tool.specs.Linked.{parts_plan, without, FollowsStart}
 use Rattle.link_tool.proofs.Linking.{image_with, linked_comes, linked_unread, linked_stops}
-use Rattle.link_tool.proofs.starts.parts_start.Goals as goal
+use Rattle.link_tool.proofs.starts.link_parts.Goals as goal
 
 -- the parts came, and linking them gave this
 start_follows : (words : List PartWord) (size : ℕ) (parts : List PartSeen) (old new : FilesSeen)
     (r : Result StartSeen Stop) → Comes (each_at part_at 0 words) old (Ok parts) new
     → Meets (unless Rule (linked parts size)) (without r) → IfOk r (IsStartOf parts size)
-    → FollowsStart (linked_parts words size) old r new
+    → FollowsStart (parts_plan words size) old r new
 start_follows words size parts old new (Ok s) c m links =
     (image_with size parts, linked_comes words size parts old new c m, links)
 start_follows words size parts old new (Err stop) c m links = linked_stops words size parts old new stop c m

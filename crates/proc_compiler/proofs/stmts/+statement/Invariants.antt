@@ -4,10 +4,10 @@ use Rattle.proc_program.specs.StepView.{block_of}
 use Rattle.proc_templates.specs.Templates.{block_words}
 use Rattle.proc_templates.specs.Bounds.{BlockBound}
 use Rattle.proc_compiler.proofs.Loops.{Left}
-use Rattle.proc_compiler.proofs.stmts.+step.Given as goal
+use Rattle.proc_compiler.proofs.stmts.+statement.Given as goal
 
-abbrev pub decreases-step : goal.decreases-step
-decreases-step l = 2 * step_size l.s.now
+abbrev pub decreases-statement : goal.decreases-statement
+decreases-statement l = 2 * step_size l.s.now
 
 abbrev pub decreases-branch : goal.decreases-branch
 decreases-branch l = 2 * (block_size (block_of l.body.now) + block_size (block_of l.other.now)) + 1

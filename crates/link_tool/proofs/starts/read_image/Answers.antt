@@ -7,24 +7,24 @@ use Rattle.file_plans.specs.declared.refusal.Stop.{Stop}
 use Rattle.std.proofs.lemmas.Result.{err_from_is_err_and}
 use Rattle.file_plans.specs.Plans.{file, unless, Comes, Meets}
 use Rattle.link_tool.specs.Parts.{loaded}
-use Rattle.link_tool.specs.Linked.{linked_image, FollowsImage}
+use Rattle.link_tool.specs.Linked.{image_plan, FollowsImage}
 use Rattle.file_plans.proofs.Offers.{follows_meets, unless_made}
-use Rattle.link_tool.proofs.starts.file_bytes.Goals as goal
+use Rattle.link_tool.proofs.starts.read_image.Goals as goal
 
 -- the file came, and its bytes are not loaded
 bytes_stop : (name bytes : List ℕ) (old new : FilesSeen) (stop : Stop)
     → Comes (file name 0) old (Ok bytes) new
     → (let r : Result ImageSeen Stop = Err stop in Meets (unless Image (loaded bytes)) r)
-    → (let r : Result (List ℕ) Stop = Err stop in FollowsImage (linked_image name) old r new)
-unfolding linked_image
+    → (let r : Result (List ℕ) Stop = Err stop in FollowsImage (image_plan name) old r new)
+unfolding image_plan
 bytes_stop name bytes old new stop c m =
     follows_meets (file name 0) (λ b. unless Image (loaded b)) old new bytes (Err stop) c m
 
 -- the file came, and its bytes spell this image, which is loaded
 bytes_follow : (name bytes : List ℕ) (old new : FilesSeen) (i : ImageSeen)
     → Comes (file name 0) old (Ok bytes) new
-    → loaded bytes ≡ Ok i → SpellsImage bytes i → FollowsImage (linked_image name) old (Ok bytes) new
-unfolding linked_image
+    → loaded bytes ≡ Ok i → SpellsImage bytes i → FollowsImage (image_plan name) old (Ok bytes) new
+unfolding image_plan
 bytes_follow name bytes old new i c e s = (
   i,
   follows_meets (file name 0) (λ b. unless Image (loaded b)) old new bytes (Ok i) c

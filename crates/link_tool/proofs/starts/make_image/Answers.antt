@@ -9,17 +9,17 @@ use Rattle.file_plans.specs.declared.refusal.Stop.{Stop}
 use Rattle.file_plans.specs.declared.refusal.Refusal.TheVariants.{Rule}
 use Rattle.file_plans.specs.Plans.{unless, each_at, Comes, Meets}
 use Rattle.link_tool.specs.Parts.{linked, part_at}
-use Rattle.link_tool.specs.Linked.{linked_parts, without, FollowsImage}
+use Rattle.link_tool.specs.Linked.{parts_plan, without, FollowsImage}
 use Rattle.file_plans.proofs.Offers.{unless_gave}
 use Rattle.link_tool.proofs.Linking.{image_with, linked_comes, linked_unread, linked_stops, loaded_again}
-use Rattle.link_tool.proofs.starts.parts_bytes.Goals as goal
+use Rattle.link_tool.proofs.starts.make_image.Goals as goal
 
 -- the parts came, and linking them gave the bytes of their image
 bytes_follow : (words : List PartWord) (size : ℕ) (parts : List PartSeen) (old new : FilesSeen)
     (r : Result (List ℕ) Stop) → Comes (each_at part_at 0 words) old (Ok parts) new
     → Meets (unless Rule (linked parts size)) (without r) → IfOk r
     (λ b. SpellsImage b (image_with size parts))
-    → FollowsImage (linked_parts words size) old r new
+    → FollowsImage (parts_plan words size) old r new
 bytes_follow words size parts old new (Ok b) c m s = (
   image_with size parts,
   linked_comes words size parts old new c m,

@@ -12,7 +12,7 @@ use Rattle.proc_compiler.specs.declared.counts.TheConstants.{JUMP_WORDS}
 use Rattle.proc_compiler.specs.Drafts.{Emits}
 use Rattle.proc_compiler.proofs.Branches.{labelled, followed, led, branched, repeated}
 use Rattle.proc_compiler.proofs.Loops.{Left, one_more, none_left}
-use Rattle.proc_compiler.proofs.stmts.+step.Goals as goal
+use Rattle.proc_compiler.proofs.stmts.+statement.Goals as goal
 
 pub block-loop-s-preserved : goal.block-loop-s-preserved
 block-loop-s-preserved t c =
@@ -31,7 +31,7 @@ block-loop-s-preserved t c =
     let smaller = v.smaller in
     record {
       left = one_more (subst (λ ys. Left f ys xs c.args.draft.now c.loop-s.draft) here v.left)
-          c.in_ok-step.ensures;
+          c.in_ok-statement.ensures;
       fits = (subst (λ ys. BlockBound f (block_of ys)) here v.fits).1;
       fewer = omega (arith, words, fewer);
       smaller = omega (arith, size, smaller);
