@@ -1,5 +1,5 @@
 -- The command that the code builds, and what its parse says.
-use Rattle.std.proofs.Common.{◌≡◌, ◌∙◌, ap, refl, Bool, false, List, [], ◌∷◌, true, Some, None, subst, sym}
+use Rattle.std.proofs.Common.{◌≡◌, ◌∙◌, ap, refl, Bool, false, List, [], ◌∷◌, true, Option, Some, None}
 use Rattle.std.proofs.Common.{codes}
 use Rattle.clap.specs.Words.{all_of, first_of, App, Row, Text, fault_of, is_simple, is_simple_and_free}
 use Rattle.clap.specs.Words.{matches_of}
@@ -12,13 +12,11 @@ use Rattle.std.specs.Prelude.{if◌then◌else◌}
 use Rattle.clap.specs.Takes.{takes}
 use Rattle.command_words.proofs.FaultLaw.{clear, fault_law}
 use Rattle.command_words.specs.Line.{Taken, line, named, rows, taken_of}
+use Rattle.command_words.specs.Rows.{rows_by, unless_faults}
 
 -- the command that takes the words without the program's name
 abbrev pub nameless : App → App
 nameless = on_top (λ s. record s { no_binary_name = true })
-
-pub line_is_simple : is_simple (nameless line) ≡ true
-line_is_simple = refl
 
 pub line_is_free : is_simple_and_free (nameless line) ≡ true
 line_is_free = refl
@@ -35,33 +33,20 @@ same_walk names w (word ∷ rest) =
 same_fault : (words : List Text) → fault_of (nameless line) words ≡ fault_of line (named words)
 same_fault words = rw (same_walk (names_of (built line)) (walk_from nothing_held) words) refl
 
-same_matches : (words : List Text) → matches_of (nameless line) words ≡ matches_of line (named words)
-same_matches words = refl
+-- one is true where the other has no fault
+by_fault : (kinds : Kinds) (found : List Row) → unless_faults kinds found
+    ≡ (if clear kinds then Some found else None)
+by_fault [] found = refl
+by_fault (k ∷ ks) found = refl
 
-pub rows_taken : (a : App) (words : List Text) (found : List Row) → a ≡ nameless line → fault_of a words ≡ []
-    → found ≡ matches_of a words → Some found ≡ rows words
-rows_taken a words found is none e =
-    let none_here : fault_of line (named words) ≡ [] = sym (same_fault words)
-    ∙ subst (λ (x : App). fault_of x words ≡ []) is none in
-    let found_here : found ≡ matches_of line (named words) = e ∙ ap (λ (x : App). matches_of x words) is
-    ∙ same_matches words in
-    let taken : takes line (named words) ≡ true = sym (fault_law (named words)) ∙ ap clear none_here in
-    ap Some found_here
-    ∙ ap (λ (b : Bool). if b then Some (matches_of line (named words)) else None) (sym taken)
-
-not_clear : (k : ErrorKind) (kinds : Kinds) → IsAmong k kinds → clear kinds ≡ false
-not_clear k [] h = absurd h
-not_clear k (x ∷ xs) h = refl
-
-pub rows_refused : (a : App) (words : List Text) (k : ErrorKind) → a ≡ nameless line
-    → IsAmong k (fault_of a words) → None ≡ rows words
-rows_refused a words k is h =
-    let among : IsAmong k (fault_of line (named words)) =
-    subst (λ (kinds : Kinds). IsAmong k kinds) (same_fault words)
-    (subst (λ (x : App). IsAmong k (fault_of x words)) is h) in
-    let refused : takes line (named words) ≡ false = sym (fault_law (named words))
-    ∙ not_clear k (fault_of line (named words)) among in
-    ap (λ (b : Bool). if b then Some (matches_of line (named words)) else None) (sym refused)
+pub same_rows : (a : App) → a ≡ nameless line → (words : List Text) (found : Option (List Row))
+    → found ≡ rows_by a words → found ≡ rows words
+same_rows a is words found e =
+    let taken = matches_of line (named words) in
+    e ∙ ap (λ (x : App). rows_by x words) is
+    ∙ ap (λ (k : Kinds). unless_faults k taken) (same_fault words)
+    ∙ by_fault (fault_of line (named words)) taken
+    ∙ ap (λ (b : Bool). if b then Some taken else None) (fault_law (named words))
 
 pub same_taken : (found : List Row) (t : Taken) → t.action ≡ first_of (codes "ACTION") found
     → t.parts ≡ all_of (codes "PARTS") found

@@ -4,6 +4,7 @@ pub mod Line
 pub mod Name
 pub mod Number
 pub mod Part
+pub mod Rows
 pub mod Views
 pub mod Action
 pub mod Fits

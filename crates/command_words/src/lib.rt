@@ -11,6 +11,7 @@ pub mod laws;
 mod line;
 mod name;
 mod number;
+mod parse;
 mod part;
 
 pub use action::command_of;
@@ -18,6 +19,7 @@ pub use command::{Command, ComponentDeed, LinkDeed, Linked};
 pub use fault::WordsFault;
 pub use name::FileName;
 pub use number::{Seed, Steps};
+pub use parse::{file_by, matches_by};
 pub use part::{Ending, Mark, PartWord, PartWords};
 
 /// The most part words of a command.

@@ -6,7 +6,7 @@ ghost use Rattle.command_words.specs.Line.{action_word, line, option, part_words
 ghost use Rattle.command_words.specs.Texts.{texts};
 ghost use Rattle.command_words.specs.Views.{taken_in};
 
-use clap::error::ErrorKind;
+use crate::parse::matches_by;
 use clap::{Arg, ArgAction, ArgMatches, Command};
 use std::alloc::{AllocError, Global};
 
@@ -65,17 +65,7 @@ pub(crate) fn matches<'a>(
 ) -> Result<Option<ArgMatches<'a>>, AllocError>
     ensures { IfOk result (λ m. option_map (λ m. rows_of (found_of m)) m ≡ rows (texts words.now)) }
 {
-    let command = line(alloc)?.no_binary_name(true);
-    match command.try_get_matches_from(words) {
-        Ok(matches) => Ok(Some(matches)),
-        Err(error) => {
-            if error.kind() == ErrorKind::OutOfMemory {
-                Err(AllocError)
-            } else {
-                Ok(None)
-            }
-        }
-    }
+    matches_by(line(alloc)?.no_binary_name(true), words)
 }
 
 /// The matches by their ids.

@@ -1,11 +1,11 @@
 -- The words as `clap` takes them: `--feed FILE --out FILE`.
-use Rattle.std.specs.Prelude.{List, [], ◌∷◌, codes, true, Option, Some, None}
-use Rattle.clap.specs.Words.{App, Kinds, Row, Rule, first_of, fault_of, matches_of, new_app, new_rule}
-use Rattle.clap.specs.Words.{with_rule}
+use Rattle.std.specs.Prelude.{List, codes, true, Option, Some}
+use Rattle.clap.specs.Words.{App, Row, Rule, first_of, new_app, new_rule, with_rule}
 use Rattle.clap.specs.Simple.{on_top}
 use Rattle.command_words.specs.Texts.{Text}
 use Rattle.command_words.specs.Name.{file_of}
 use Rattle.command_words.specs.Part.{◌>>=◌}
+use Rattle.command_words.specs.Rows.{rows_by}
 use Rattle.draw_call.specs.declared.words.DrawCall.{DrawCall}
 
 -- `--name VALUE` or `--name=VALUE`, which must be used
@@ -18,15 +18,6 @@ draw_line =
     on_top (λ s. record s { no_binary_name = true })
     (with_rule (with_rule (new_app (codes "stk_draw")) (required (codes "feed"))) (required (codes "out")))
 
--- where a parse has no fault
-abbrev pub unless_faults : Kinds → List Row → Option (List Row)
-unless_faults [] rows = Some rows
-unless_faults (k ∷ ks) rows = None
-
--- the words by their options
-abbrev pub draw_rows : List Text → Option (List Row)
-draw_rows words = unless_faults (fault_of draw_line words) (matches_of draw_line words)
-
 -- the names of the two files
 abbrev pub call_of : List Row → Option DrawCall
 call_of rows = do
@@ -37,5 +28,5 @@ call_of rows = do
 -- what the words ask for; none where the command line doesn't take them, or a name is no file's
 abbrev pub call_in : List Text → Option DrawCall
 call_in words = do
-  rows ← draw_rows words
+  rows ← rows_by draw_line words
   call_of rows

@@ -1,14 +1,11 @@
 //! The words of the command line: what they ask for, and nothing where they are no command.
 ghost use Rattle.std.specs.Prelude.{◌≡◌, IfOk, false};
-ghost use Rattle.std.specs.Option.{option_map};
-ghost use Rattle.clap.specs.Words.{app_of, first_of, found_of, rows_of, rule_of};
-ghost use Rattle.command_words.specs.Name.{file_of};
+ghost use Rattle.clap.specs.Words.{app_of, found_of, rows_of, rule_of};
 ghost use Rattle.command_words.specs.Texts.{texts};
-ghost use Rattle.draw_call.specs.Words.{required, draw_line, draw_rows, call_of, call_in};
+ghost use Rattle.draw_call.specs.Words.{required, draw_line, call_of, call_in};
 
-use clap::error::ErrorKind;
 use clap::{Arg, ArgMatches, Command};
-use command_words::FileName;
+use command_words::{FileName, file_by, matches_by};
 use std::alloc::{AllocError, Global};
 
 /// A call of the program: whose text is drawn, and where the picture is put.
@@ -38,38 +35,12 @@ fn line<'a>(alloc: Global) -> Result<Command<'a>, AllocError>
     Ok(command.no_binary_name(true))
 }
 
-// The matches of the words, and None exactly where the command line doesn't take them.
-fn matches<'a>(alloc: Global, words: &'a [String]) -> Result<Option<ArgMatches<'a>>, AllocError>
-    ensures { IfOk result (λ m. option_map (λ m. rows_of (found_of m)) m ≡ draw_rows (texts words.now)) }
-{
-    match line(alloc)?.try_get_matches_from(words) {
-        Ok(matches) => Ok(Some(matches)),
-        Err(error) => {
-            if error.kind() == ErrorKind::OutOfMemory {
-                Err(AllocError)
-            } else {
-                Ok(None)
-            }
-        }
-    }
-}
-
-// The file that an option names.
-fn file_of<'a>(matches: &ArgMatches<'a>, option: &str) -> Option<FileName<'a>>
-    ensures { result ≡ file_of (first_of option.now (rows_of (found_of matches.now))) }
-{
-    match matches.get_str(option) {
-        Some(name) => FileName::new(name),
-        None => None,
-    }
-}
-
 // The files that the options name.
 fn call_of<'a>(matches: &ArgMatches<'a>) -> Option<DrawCall<'a>>
     ensures { result ≡ call_of (rows_of (found_of matches.now)) }
 {
-    let feed = file_of(matches, "feed")?;
-    let out = file_of(matches, "out")?;
+    let feed = file_by(matches, "feed")?;
+    let out = file_by(matches, "out")?;
     Some(DrawCall { feed, out })
 }
 
@@ -80,7 +51,7 @@ pub(crate) fn call_in<'a>(
 ) -> Result<Option<DrawCall<'a>>, AllocError>
     ensures { IfOk result (λ call. call ≡ call_in (texts words.now)) }
 {
-    match matches(alloc, words)? {
+    match matches_by(line(alloc)?, words)? {
         Some(matches) => Ok(call_of(&matches)),
         None => Ok(None),
     }
