@@ -14,8 +14,8 @@ use Rattle.file_plans.specs.declared.refusal.Refusal.TheVariants as refusal
 use Rattle.file_plans.specs.Plans.{Plan, Made, ◌>>=◌, unless, whole as read, too_long, unread, Comes}
 use Rattle.refusal_lines.specs.declared.status.Status.{Status}
 use Rattle.refusal_lines.specs.declared.status.Status.TheVariants as status
-use Rattle.lcm_cli.specs.Audits.{audit_at}
-use Rattle.lcm_cli.specs.Commands.{Task, Write, ok_text, plan_of, plan_in}
+use Rattle.ready_tasks.specs.Audits.{audit_at}
+use Rattle.ready_tasks.specs.Commands.{Task, Write, ok_text, plan_of, plan_in}
 use Rattle.call_answers.specs.Answers.{with_files, AnswersWhole, whole, unput, unwritten, Answers, answer}
 use Rattle.call_answers.specs.Answers.{nothing}
 use Rattle.lcm_cli.specs.Answers.{Answer, Outside, writes, refused, IsAnswerOf, read_in, stk}

@@ -1,6 +1,6 @@
 -- What links and is debugged: why its plan ends, and what comes of it.
-use Rattle.std.proofs.Common.{◌≡◌, ℕ, ◌<◌, ◌≤◌, ◌^◌, List, [], ◌++◌, length, Option, Some, refl, sym, ap}
-use Rattle.std.proofs.Common.{subst, ◌∙◌, inl, inr, arith}
+use Rattle.std.proofs.Common.{◌≡◌, ℕ, List, [], ◌++◌, length, Option, Some, refl, sym, ap}
+use Rattle.std.proofs.Common.{subst, ◌∙◌, inl, inr}
 use Rattle.std.specs.Prelude.{Result, Ok, Err}
 use Rattle.outside_io.specs.FilesSeen.{FilesSeen}
 use Rattle.outside_io.specs.Whole.{GivesWhole}
@@ -8,12 +8,7 @@ use Rattle.command_words.specs.declared.command.Linked.{Linked}
 use Rattle.command_words.specs.declared.command.Linked.TheVariants as what
 use Rattle.command_words.specs.declared.command.Command.{Command}
 use Rattle.command_words.specs.declared.command.Command.TheVariants as asked
-use Rattle.linked_starts.specs.declared.TheConstants.{MOST_PARTS}
 use Rattle.linked_starts.specs.declared.fault.RuleAt.{RuleAt}
-use Rattle.linked_starts.specs.Parts.{PartSeen}
-use Rattle.linked_starts.specs.Standing.{free_of, placed}
-use Rattle.linked_starts.specs.Started.{StartSeen}
-use Rattle.linked_starts.proofs.Offers.{are_linked, as_many}
 use Rattle.debug_script.specs.declared.command.DebugCommand.{DebugCommand as Line}
 use Rattle.debug_script.specs.declared.fault.ScriptFault.{ScriptFault}
 use Rattle.debug_script.specs.Script.{scripted}
@@ -22,15 +17,11 @@ use Rattle.image_loader.specs.Image.{ImageSeen}
 use Rattle.file_plans.specs.declared.TheConstants.{LONGEST_FILE}
 use Rattle.file_plans.specs.declared.refusal.Refusal.{Refusal}
 use Rattle.file_plans.specs.declared.refusal.Refusal.TheVariants as refusal
-use Rattle.file_plans.specs.declared.refusal.Stop.{Stop}
-use Rattle.file_plans.specs.Plans.{Plan, Made, ◌>>=◌, unless, Comes, Follows}
-use Rattle.file_plans.proofs.Offers.{comes_bind, comes_made, follows_bind, follows_end}
-use Rattle.linked_starts.specs.LinkedStarts.{IsStartOf}
-use Rattle.lcm_cli.specs.declared.ready.ReadyTask.TheVariants as ready
-use Rattle.lcm_cli.specs.ReadyTasks.{FollowsTask}
-use Rattle.lcm_cli.specs.Commands.{Task, Debug, debug_plan}
+use Rattle.file_plans.specs.Plans.{Plan, Made, ◌>>=◌, unless, Comes}
+use Rattle.ready_tasks.specs.declared.ready.ReadyTask.TheVariants as ready
+use Rattle.ready_tasks.specs.Commands.{Task, Debug, debug_plan, script_after}
 use Rattle.link_tool.specs.Linked.{linked_plan}
-use Rattle.lcm_cli.specs.Debugs.{unscripted, script_at}
+use Rattle.ready_tasks.specs.Debugs.{unscripted, script_at}
 use Rattle.lcm_cli.specs.Bytes.{ComesOf}
 use Rattle.lcm_cli.specs.Causes.{AreLast, Breaks, IsUnloaded}
 use Rattle.lcm_cli.proofs.Came.{split_of, IsSettled, settled_unless, settled_bind, read_made}
@@ -38,10 +29,6 @@ use Rattle.lcm_cli.proofs.Ends.{Never, Foreign, same_err, not_made, never_bind}
 use Rattle.lcm_cli.proofs.Ends.{never_reads, never_unless, never_linked, never_image}
 use Rattle.lcm_cli.proofs.Reasons.{Reasoned, ByBytes, reason_by, reads_reasoned, reasoned_bind, reasoned_made}
 use Rattle.lcm_cli.proofs.Reasons.{in_reasoned, linked_break, image_fails}
-
--- the script after what links
-abbrev pub behind : List ℕ → ImageSeen → Plan Task
-behind script i = script_at script (length i.parts) >>= (λ lines. Made (Debug i lines))
 
 -- ---- why it ends
 
@@ -63,7 +50,7 @@ module _ (l : Linked) (script : List ℕ) where
   pub debug_reasoned : Reasoned (Some (asked.Debug l script)) (debug_plan l script)
   unfolding debug_plan
   debug_reasoned =
-      reasoned_bind the_command (linked_plan l) (behind script)
+      reasoned_bind the_command (linked_plan l) (script_after script)
       (in_reasoned the_command (λ d text f e. e) l refl)
       (λ i. reasoned_bind the_command (script_at script (length i.parts)) _ (script_reasoned (length i.parts))
       (λ lines. reasoned_made the_command (Debug i lines)))
@@ -89,7 +76,7 @@ never_script why h name index =
     (λ text. never_unless unscripted (scripted text) why (λ f. not_of_script (unscripted f) why h))
 
 never_behind : (why : Refusal) → NotOfScript why → (script : List ℕ) (i : ImageSeen)
-    → Never (behind script i) why
+    → Never (script_after script i) why
 never_behind why h script i =
     never_bind (script_at script (length i.parts)) _ why (never_script why h script (length i.parts))
     (λ lines. not_made (Debug i lines) why)
@@ -104,7 +91,7 @@ pub never_debug : (why : Refusal) → NotOfScript why → Foreign why
     → Never (debug_plan l script) why
 unfolding debug_plan
 never_debug why s h image l script =
-    never_bind (linked_plan l) (behind script) why (never_in why h image l) (never_behind why s script)
+    never_bind (linked_plan l) (script_after script) why (never_in why h image l) (never_behind why s script)
 
 -- where its script is not why it ends, what links is
 ends_first : (l : Linked) (script : List ℕ) (read : List (List ℕ)) (old new : FilesSeen) (why : Refusal)
@@ -112,7 +99,7 @@ ends_first : (l : Linked) (script : List ℕ) (read : List (List ℕ)) (old new 
     → ComesOf (linked_plan l) read old (Err why) new
 unfolding debug_plan
 ends_first l script read old new why s h =
-    elim (split_of (linked_plan l) (behind script) read old new (Err why) h)
+    elim (split_of (linked_plan l) (script_after script) read old new (Err why) h)
     as (λ _. ComesOf (linked_plan l) read old (Err why) new) [
       | inl k ↦ absurd (never_behind why s script k.0 k.1 new k.5.0)
       | inr k ↦ (let e = same_err why k.0 k.2 in rw (← e) k.1)
@@ -189,7 +176,7 @@ module _ (l : Linked) (script : List ℕ) (read : List (List ℕ)) (old : FilesS
   came_by i mid front text q c w (Err f) e h = absurd (let k = h.0 in cc)
 
   came_behind : (i : ImageSeen) (mid : FilesSeen) (front back : List (List ℕ)) → read ≡ front ++ back
-      → ComesOf (linked_plan l) front old (Ok i) mid → ComesOf (behind script i) back mid (Ok t) new
+      → ComesOf (linked_plan l) front old (Ok i) mid → ComesOf (script_after script i) back mid (Ok t) new
       → DebugCame l script read old t new
   unfolding script_at
   came_behind i mid front back q c h =
@@ -200,49 +187,8 @@ module _ (l : Linked) (script : List ℕ) (read : List (List ℕ)) (old : FilesS
   pub debug_came : ComesOf (debug_plan l script) read old (Ok t) new → DebugCame l script read old t new
   unfolding debug_plan
   debug_came h =
-      elim (split_of (linked_plan l) (behind script) read old new (Ok t) h)
+      elim (split_of (linked_plan l) (script_after script) read old new (Ok t) h)
       as (λ _. DebugCame l script read old t new) [
         | inl k ↦ came_behind k.0 k.1 k.2 k.3 k.6 k.4 k.5
         | inr k ↦ absurd (let e = k.2 in cc)
       ]
-
--- ---- bodies
-
--- a start has an owner for each part
-count_of : (parts : List PartSeen) (size : ℕ) (start : StartSeen) → IsStartOf parts size start
-    → length start.owners ≡ length parts
-count_of parts size start is = is.starts.owners.count ∙ as_many (free_of parts size) parts
-
-pub few_owners : (parts : List PartSeen) (size : ℕ) (start : StartSeen) → IsStartOf parts size start
-    → length start.owners < 2 ^ 32
-few_owners parts size start is =
-    let count : length start.owners ≡ length (placed parts size) = is.starts.owners.count in
-    let few : length (placed parts size) ≤ MOST_PARTS =
-    (are_linked (placed parts size) size is.accepted is.rules).few in
-    omega (arith, count, few)
-
-module _ (l : Linked) (script : List ℕ) (i : ImageSeen) (start : StartSeen) (index : ℕ)
-    (old mid new : FilesSeen) (c : Comes (linked_plan l) old (Ok i) mid)
-    (is : IsStartOf i.parts i.stack start)
-    (e : index ≡ length start.owners) where
-  pub debug_follows : (lines : List Line) → Comes (script_at script index) mid (Ok lines) new
-      → FollowsTask (debug_plan l script) old (Ok (ready.Debug start lines)) new
-  unfolding debug_plan
-  debug_follows lines s =
-      let k : Comes (script_at script (length i.parts)) mid (Ok lines) new =
-      subst (λ n. Comes (script_at script n) mid (Ok lines) new) (e ∙ count_of i.parts i.stack start is) s
-      in (
-        Debug i lines,
-        comes_bind (linked_plan l) (behind script) old mid new i (Ok (Debug i lines)) c
-            (comes_made (script_at script (length i.parts)) (λ x. Debug i x) mid new lines k),
-        (i, refl, is),
-      )
-
-  pub debug_stops : (s : Stop) → Follows (script_at script index) mid (Err s) new
-      → FollowsTask (debug_plan l script) old (Err s) new
-  unfolding debug_plan
-  debug_stops s h =
-      let k : Follows (script_at script (length i.parts)) mid (Err s) new =
-      subst (λ n. Follows (script_at script n) mid (Err s) new) (e ∙ count_of i.parts i.stack start is) h in
-      follows_bind (linked_plan l) (behind script) old mid new i (Err s) c
-      (follows_end (script_at script (length i.parts)) (λ x. Made (Debug i x)) mid new s k)

@@ -11,7 +11,7 @@ use Rattle.step_back.specs.declared.debugger.TheConstants.{MOST_DEPTH}
 use Rattle.file_plans.specs.declared.refusal.Refusal.{Refusal}
 use Rattle.refusal_lines.specs.declared.status.Status.{Status}
 use Rattle.refusal_lines.specs.declared.status.Status.TheVariants as status
-use Rattle.lcm_cli.specs.Commands.{Task, Debug, plan_in, debug_plan}
+use Rattle.ready_tasks.specs.Commands.{Task, Debug, plan_in, debug_plan}
 use Rattle.lcm_cli.specs.Bytes.{ComesOf, ComesBy}
 use Rattle.call_answers.specs.Answers.{with_files, AnswersWhole, Answers}
 use Rattle.lcm_cli.specs.Answers.{Answer, Outside, writes, IsAnswerOf, read_in, stk}

@@ -4,13 +4,13 @@ use Rattle.std.specs.Prelude.{Ok}
 use Rattle.outside_io.specs.FilesSeen.{FilesSeen}
 use Rattle.refusal_lines.specs.declared.status.Status.{Status}
 use Rattle.refusal_lines.specs.declared.status.Status.TheVariants.{Done}
-use Rattle.lcm_cli.specs.declared.ready.ReadyTask.{ReadyTask}
-use Rattle.lcm_cli.specs.declared.ready.ReadyTask.TheVariants as ready
+use Rattle.ready_tasks.specs.declared.ready.ReadyTask.{ReadyTask}
+use Rattle.ready_tasks.specs.declared.ready.ReadyTask.TheVariants as ready
 use Rattle.file_plans.specs.Plans.{Plan}
 use Rattle.generated_load.specs.Loads.{load_steps}
-use Rattle.lcm_cli.specs.Commands.{Lines, Totals, Task, Run, Trace, Reach, Debug, Put, Write, Tell}
+use Rattle.ready_tasks.specs.Commands.{Lines, Totals, Task, Run, Trace, Reach, Debug, Put, Write, Tell}
 use Rattle.debug_tool.specs.Replies.{debug_text}
-use Rattle.lcm_cli.specs.ReadyTasks.{IsTextOf, Does, FollowsTask}
+use Rattle.ready_tasks.specs.ReadyTasks.{IsTextOf, Does, FollowsTask}
 use Rattle.call_answers.specs.Answers.{unwritten, Answers, answer, nothing, GivesOrNothing, with_files}
 use Rattle.lcm_cli.specs.Answers.{Outside, writes, meaning_status, says_ok, puts, ran, ran_overlay}
 use Rattle.lcm_cli.specs.Answers.{IsAnswerOf, ready_answer, IsReady, stk}

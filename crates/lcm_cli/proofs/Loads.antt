@@ -1,13 +1,12 @@
 -- Plans that read nothing, and the loads that they make.
-use Rattle.std.proofs.Common.{◌≡◌, ℕ, [], ◌∷◌, refl, sym, ap, subst, ◌∙◌, inl, inr, true, false}
+use Rattle.std.proofs.Common.{◌≡◌, [], ◌∷◌, refl, sym, subst, ◌∙◌, inl, inr, true, false}
 use Rattle.std.specs.Prelude.{Result, Ok, Err}
 use Rattle.outside_io.specs.FilesSeen.{FilesSeen}
 use Rattle.linked_starts.specs.Accepted.{accepted}
-use Rattle.linked_starts.specs.Started.{StartSeen}
 use Rattle.image_loader.specs.Image.{ImageSeen}
 use Rattle.generated_load.specs.declared.TheConstants.{LOAD_STACK}
 use Rattle.generated_load.specs.declared.load.Workload.{Workload}
-use Rattle.generated_load.specs.Loads.{load_of, load_steps, module_text, adder}
+use Rattle.generated_load.specs.Loads.{module_text, adder}
 use Rattle.proc_sources.specs.Sources.{sourced}
 use Rattle.proc_language.specs.declared.dialect.Dialect.TheVariants.{Plain}
 use Rattle.file_plans.specs.declared.refusal.Refusal.{Refusal}
@@ -15,34 +14,10 @@ use Rattle.file_plans.specs.declared.refusal.Refusal.TheVariants as refusal
 use Rattle.file_plans.specs.Plans.{Plan, Ends, Made, ◌>>=◌, unless, Comes}
 use Rattle.link_tool.specs.Parts.{broken_in, linked}
 use Rattle.link_tool.specs.Loads.{load_module, load_other, load_parts, load_plan}
-use Rattle.lcm_cli.specs.ReadyTasks.{FollowsTask}
-use Rattle.link_tool.specs.Linked.{MeetsStart}
-use Rattle.lcm_cli.specs.Commands.{Task, Run, Totals, for_task}
-use Rattle.lcm_cli.specs.declared.ready.ReadyTask.TheVariants as ready
-use Rattle.file_plans.proofs.Offers.{comes_same}
-use Rattle.lcm_cli.proofs.Tasks.{task_done}
+use Rattle.ready_tasks.specs.declared.ready.ReadyTask.TheVariants as ready
 use Rattle.lcm_cli.proofs.Came.{IsSettled, settled_unless, settled_bind}
 use Rattle.lcm_cli.proofs.Ends.{Never, same_err, not_made, never_unless, never_bind}
 use Rattle.link_tool.proofs.Offers.{image_with}
-
--- ---- bodies
-
--- the task of a load that was made
-abbrev pub task_of : ℕ → ImageSeen → Task
-task_of seed i = Run i load_steps (Totals (load_of seed))
-
-pub load_done : (seed : ℕ) (load : Workload) (start : StartSeen) → load ≡ load_of seed
-    → MeetsStart (load_plan load) (Ok start) → (seen : FilesSeen)
-    → FollowsTask (for_task (load_plan (load_of seed)) (task_of seed)) seen
-    (Ok (ready.Generate start load)) seen
-load_done seed load start e m seen =
-    let h : MeetsStart (load_plan (load_of seed)) (Ok start) =
-    subst (λ x. MeetsStart (load_plan x) (Ok start)) e m in
-    task_done (load_plan (load_of seed)) (task_of seed) seen seen h.0 (ready.Generate start load)
-    (comes_same (load_plan (load_of seed)) (Made h.0) seen seen (Ok h.0) h.1 (refl, refl))
-    (h.0, ap (λ x. Run h.0 load_steps (Totals x)) (sym e), h.2)
-
--- ---- what comes of a plan that reads nothing
 
 settled_parts : (load : Workload) → IsSettled (load_parts load)
 unfolding load_module load_other load_parts

@@ -11,19 +11,19 @@ use Rattle.file_plans.specs.declared.refusal.Refusal.{Refusal}
 use Rattle.file_plans.specs.Plans.{Comes}
 use Rattle.refusal_lines.specs.declared.status.Status.{Status}
 use Rattle.link_tool.specs.Loads.{load_plan}
-use Rattle.lcm_cli.specs.Commands.{Task, Totals, for_task, plan_in}
+use Rattle.ready_tasks.specs.Commands.{Task, Totals, for_task, plan_in, load_task}
 use Rattle.lcm_cli.specs.Bytes.{ComesOf}
 use Rattle.call_answers.specs.Answers.{with_files, AnswersWhole, Answers}
 use Rattle.lcm_cli.specs.Answers.{Answer, Outside, ran, IsAnswerOf, read_in, stk}
 use Rattle.lcm_cli.specs.Causes.{IsRunStatus, LoadGiven}
-use Rattle.lcm_cli.proofs.Loads.{task_of, load_made, comes_stays}
+use Rattle.lcm_cli.proofs.Loads.{load_made, comes_stays}
 use Rattle.lcm_cli.proofs.Tasks.{made_of}
 use Rattle.lcm_cli.proofs.RunsMade.{StartLaws, refused_none, whole_run}
 
 module _ (all : StartLaws) (seed : ℕ) (old : Outside) (ended : Status) (new : Outside) where
   given_load : (seen : FilesSeen) (i : ImageSeen) (a : Answer)
       → Comes (load_plan (load_of seed)) old.files (Ok i) seen
-      → IsAnswerOf (Ok (task_of seed i)) a
+      → IsAnswerOf (Ok (load_task seed i)) a
       → AnswersWhole (with_files old seen) a ended new → LoadGiven seed old ended new
   given_load seen i a c x g =
       let h : AnswersWhole (with_files old seen) (ran x.0 load_steps (Totals (load_of seed))) ended new =
@@ -45,12 +45,12 @@ module _ (all : StartLaws) (seed : ℕ) (old : Outside) (ended : Status) (new : 
       }
 
   given_due : (read : List (List ℕ)) (seen : FilesSeen) (due : Result Task Refusal) (a : Answer)
-      → ComesOf (for_task (load_plan (load_of seed)) (task_of seed)) read old.files due seen
+      → ComesOf (for_task (load_plan (load_of seed)) (load_task seed)) read old.files due seen
       → IsAnswerOf due a → AnswersWhole (with_files old seen) a ended new → IsRunStatus ended
       → LoadGiven seed old ended new
   given_due read seen (Err why) a c x g r = absurd (refused_none why a ended x g.status_is r)
   given_due read seen (Ok task) a c x g r =
-      let m = made_of (load_plan (load_of seed)) (task_of seed) read old.files seen task c in
+      let m = made_of (load_plan (load_of seed)) (load_task seed) read old.files seen task c in
       given_load seen m.0 a m.1.0 (subst (λ t. IsAnswerOf (Ok t) a) m.2 x) g
 
 pub loads : StartLaws → (asked : Option Command) (old : Outside) (ended : Status) (new : Outside)

@@ -5,7 +5,7 @@ use Rattle.outside_io.specs.FilesSeen.{FilesSeen}
 use Rattle.command_words.specs.declared.command.Command.{Command}
 use Rattle.file_plans.specs.declared.refusal.Refusal.{Refusal}
 use Rattle.file_plans.specs.Plans.{Plan, Reads, Ends, Made, whole, too_long, unread, Comes}
-use Rattle.lcm_cli.specs.Commands.{Task, plan_in}
+use Rattle.ready_tasks.specs.Commands.{Task, plan_in}
 use Rattle.lcm_cli.specs.Bytes.{bytes_of, ComesBy}
 use Rattle.lcm_cli.specs.Causes.{CameOf}
 

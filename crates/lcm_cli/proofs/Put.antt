@@ -28,9 +28,9 @@ use Rattle.link_tool.specs.Parts.{component_at, part_at}
 use Rattle.source_events.specs.declared.End.{End}
 use Rattle.source_events.specs.declared.End.TheVariants as end
 use Rattle.meaning_tool.specs.Subjects.{told_of, module_at, subject_in}
-use Rattle.lcm_cli.specs.Audits.{audit_at}
-use Rattle.lcm_cli.specs.Commands.{Task, Run, Trace, Reach, Debug, Put, Write, Tell, Content, OfModule}
-use Rattle.lcm_cli.specs.Commands.{spelling_of, IsReadAgain, link_task, component_task, plan_of, plan_in}
+use Rattle.ready_tasks.specs.Audits.{audit_at}
+use Rattle.ready_tasks.specs.Commands.{Task, Run, Trace, Reach, Debug, Put, Write, Tell, Content, OfModule}
+use Rattle.ready_tasks.specs.Commands.{spelling_of, IsReadAgain, link_task, component_task, plan_of, plan_in}
 use Rattle.link_tool.specs.Linked.{linked_plan}
 use Rattle.link_tool.specs.Loads.{load_plan}
 use Rattle.call_answers.specs.Answers.{NewFile, IsPut, whole, unput, unwritten, Answers, answer, nothing}

@@ -41,10 +41,10 @@ use Rattle.meaning_tool.specs.Subjects.{subject_in, told_of}
 use Rattle.command_words.specs.Part.{is_trusted_mark}
 use Rattle.refusal_lines.specs.declared.status.Status.TheVariants.{Done}
 use Rattle.link_tool.specs.Parts.{broken_in, linked, loaded, form_by, HasForm, component_at, part_at}
-use Rattle.lcm_cli.specs.Debugs.{unscripted, script_at}
-use Rattle.lcm_cli.specs.Commands.{Task, Tell, Debug, link_task, component_task, debug_plan, for_task}
+use Rattle.ready_tasks.specs.Debugs.{unscripted, script_at}
+use Rattle.ready_tasks.specs.Commands.{Task, Tell, Debug, link_task, component_task, debug_plan, for_task}
 use Rattle.link_tool.specs.Linked.{parts_plan, image_plan, linked_plan}
-use Rattle.lcm_cli.specs.Commands.{plan_of}
+use Rattle.ready_tasks.specs.Commands.{plan_of}
 use Rattle.call_answers.specs.Answers.{NewFile, IsWritten}
 use Rattle.lcm_cli.specs.Answers.{Answer, IsAnswerOf, tells, puts, writes, stk}
 use Rattle.lcm_cli.specs.Roads.{Held, PutsComponent, PutsImage, ShowsText, IsErasure, HoldsShort, Pairwise}

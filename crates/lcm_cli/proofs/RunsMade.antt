@@ -9,7 +9,7 @@ use Rattle.command_words.specs.declared.command.LinkDeed.{LinkDeed}
 use Rattle.command_words.specs.declared.command.LinkDeed.TheVariants as link_deed
 use Rattle.command_words.specs.declared.command.Command.{Command}
 use Rattle.command_words.specs.declared.command.Command.TheVariants.{Links}
-use Rattle.authority_report.specs.Entered.{IsLinked, ReportsBoundRuns}
+use Rattle.authority_report.specs.Entered.{ReportsBoundRuns}
 use Rattle.authority_report.specs.Influence.{ReportsBoundInfluence}
 use Rattle.linked_starts.specs.Parts.{PartSeen}
 use Rattle.image_loader.specs.declared.fault.ImageFault.{ImageFault}
@@ -39,7 +39,7 @@ use Rattle.refusal_lines.specs.declared.status.Status.{Status}
 use Rattle.refusal_lines.specs.declared.status.Status.TheVariants as status
 use Rattle.refusal_lines.specs.Refusals.{refusal_text, refusal_status, image_status}
 use Rattle.file_plans.specs.Plans.{Plan}
-use Rattle.lcm_cli.specs.Commands.{Lines, Task, link_task, plan_of, plan_in}
+use Rattle.ready_tasks.specs.Commands.{Lines, Task, link_task, plan_of, plan_in}
 use Rattle.link_tool.specs.Linked.{linked_plan}
 use Rattle.lcm_cli.specs.Bytes.{ComesOf, ComesBy}
 use Rattle.call_answers.specs.Answers.{NewFile, with_files, IsPut, AnswersWhole, whole, unput, unwritten}
@@ -49,6 +49,7 @@ use Rattle.lcm_cli.specs.Answers.{read_in, stk}
 use Rattle.lcm_cli.specs.Causes.{IsRunStatus, Started, text_of_run, RunGiven, TraceGiven, ReachGiven, RunCut}
 use Rattle.lcm_cli.specs.Causes.{TraceCut}
 use Rattle.lcm_cli.proofs.Making.{makes_of}
+use Rattle.ready_tasks.proofs.Offers.{linked_as}
 use Rattle.lcm_cli.proofs.Tasks.{err_of, made_of}
 use Rattle.lcm_cli.proofs.Reasons.{in_made}
 use Rattle.lcm_cli.proofs.Caused.{writes_none}
@@ -341,16 +342,6 @@ cut_by {old = old} {new = new} k b e n w =
     let f = k.fails (ap (λ (a : Answer). a.file) e ∙ n)
     (λ q. w (sym (ap (λ (a : Answer). a.status) e) ∙ q)) in
     (f.0, cut_text old new k.gives b e f.1)
-
--- of a start, what linking leaves it as
-pub linked_as : (parts : List PartSeen) (size : ℕ) (s : StartSeen) → IsStartOf parts size s → IsLinked s
-linked_as parts size s h = record {
-  parts = placed parts size;
-  size = size;
-  accepted = h.accepted;
-  rules = h.rules;
-  starts = h.starts;
-}
 
 given_reach : StartLaws → ReportsBoundRuns → ReportsBoundInfluence
     → (l : Linked) (read : List (List ℕ)) (old : Outside) (seen : FilesSeen)

@@ -20,7 +20,7 @@ use Rattle.module_rules.specs.Rules.{stack_base_of}
 use Rattle.run_items.specs.Items.{TextsTellItems}
 use Rattle.run_lines.specs.Layout.{layout}
 use Rattle.refusal_lines.specs.declared.status.Status.{Status}
-use Rattle.lcm_cli.specs.Commands.{plan_in}
+use Rattle.ready_tasks.specs.Commands.{plan_in}
 use Rattle.call_answers.specs.Answers.{Answers}
 use Rattle.lcm_cli.specs.Answers.{Outside, read_in, stk}
 use Rattle.lcm_cli.specs.Causes.{Started, RunGiven}

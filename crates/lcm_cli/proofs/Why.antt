@@ -20,7 +20,8 @@ use Rattle.file_plans.specs.Plans.{Plan, Made, Comes}
 use Rattle.lcm_cli.specs.Bytes.{ComesOf}
 use Rattle.link_tool.specs.Parts.{component_at, part_at}
 use Rattle.meaning_tool.specs.Subjects.{module_at, subject_in}
-use Rattle.lcm_cli.specs.Commands.{Task, for_task, link_task, component_task, plan_of, plan_in, debug_plan}
+use Rattle.ready_tasks.specs.Commands.{Task, for_task, link_task, component_task}
+use Rattle.ready_tasks.specs.Commands.{plan_of, plan_in, debug_plan}
 use Rattle.link_tool.specs.Linked.{linked_plan}
 use Rattle.link_tool.specs.Loads.{load_plan}
 use Rattle.lcm_cli.specs.Causes.{IsUnread, IsLong, IsUndecoded, IsUncompiled, IsUnassembled, IsUnloaded}
@@ -30,7 +31,7 @@ use Rattle.lcm_cli.proofs.Ends.{no_rule}
 use Rattle.lcm_cli.proofs.Reasons.{reason_first, Reasoned, in_reasoned, component_reasoned}
 use Rattle.lcm_cli.proofs.Reasons.{part_reasoned, linked_break, part_breaks, image_fails}
 use Rattle.lcm_cli.proofs.Loads.{never_load, load_ended}
-use Rattle.lcm_cli.specs.Audits.{audit_at}
+use Rattle.ready_tasks.specs.Audits.{audit_at}
 use Rattle.lcm_cli.proofs.Audits.{audit_reasoned, never_audit}
 use Rattle.lcm_cli.proofs.Debugs.{debug_reasoned, never_debug, debug_breaks, debug_unloaded}
 use Rattle.lcm_cli.proofs.Modules.{never_module, no_rule_module, erase_reasoned}

@@ -23,13 +23,14 @@ use Rattle.refusal_lines.specs.declared.status.Status.TheVariants.{Done, Machine
 use Rattle.refusal_lines.specs.declared.status.Status.TheVariants.{WriteFault, NoMemory}
 use Rattle.command_words.specs.declared.command.Command.{Command}
 use Rattle.file_plans.specs.declared.refusal.Refusal.{Refusal}
-use Rattle.lcm_cli.specs.declared.ready.ReadyTask.{ReadyTask}
-use Rattle.lcm_cli.specs.declared.ready.ReadyTask.TheVariants as ready
+use Rattle.ready_tasks.specs.declared.ready.ReadyTask.{ReadyTask}
+use Rattle.ready_tasks.specs.declared.ready.ReadyTask.TheVariants as ready
 use Rattle.refusal_lines.specs.Refusals.{refusal_text, refusal_status}
 use Rattle.file_plans.specs.Plans.{Plan, stk_reading}
 use Rattle.lcm_cli.specs.Bytes.{bytes_of}
-use Rattle.lcm_cli.specs.Commands.{Telling, Lines, Totals, Task, Run, Trace, Reach, Debug, Put, Write, Tell}
-use Rattle.lcm_cli.specs.Commands.{spelling_of, plan_in, IsReadAgain, ok_text}
+use Rattle.ready_tasks.specs.Commands.{Telling, Lines, Totals, Task, Run, Trace}
+use Rattle.ready_tasks.specs.Commands.{Reach, Debug, Put, Write, Tell}
+use Rattle.ready_tasks.specs.Commands.{spelling_of, plan_in, IsReadAgain, ok_text}
 use Rattle.lcm_cli.specs.Totals.{totals_text}
 
 abbrev pub Answer : Type 0

@@ -87,12 +87,13 @@ use Rattle.file_plans.specs.Plans.{Plan, Reads, Ends, Made, each_at}
 use Rattle.linked_starts.specs.Accepted.{accepted}
 use Rattle.command_words.specs.Part.{is_trusted_mark}
 use Rattle.link_tool.specs.Parts.{linked, loaded, component_at, part_at}
-use Rattle.lcm_cli.specs.Commands.{Content, spelling_of, IsReadAgain, Telling, Run, Trace, Put, Write, Task}
-use Rattle.lcm_cli.specs.Commands.{Reach, Tell, ok_text, link_task, plan_of, plan_in}
-use Rattle.lcm_cli.specs.Commands as task
+use Rattle.ready_tasks.specs.Commands.{Content, spelling_of, IsReadAgain, Telling, Run}
+use Rattle.ready_tasks.specs.Commands.{Trace, Put, Write, Task}
+use Rattle.ready_tasks.specs.Commands.{Reach, Tell, ok_text, link_task, plan_of, plan_in}
+use Rattle.ready_tasks.specs.Commands as task
 use Rattle.link_tool.specs.Loads.{load_plan}
 use Rattle.lcm_cli.specs.Totals.{totals_text}
-use Rattle.lcm_cli.specs.Debugs.{script_line}
+use Rattle.ready_tasks.specs.Debugs.{script_line}
 use Rattle.link_tool.specs.Linked.{linked_plan}
 use Rattle.lcm_cli.specs.Bytes.{ComesOf, ComesBy}
 use Rattle.call_answers.specs.Answers.{Answers, IsComplete, Stay}

@@ -1,8 +1,4 @@
 pub mod Totals
-pub mod Debugs
-pub mod Audits
-pub mod Commands
-pub mod ReadyTasks
 pub mod Bytes
 pub mod Answers
 pub mod Causes

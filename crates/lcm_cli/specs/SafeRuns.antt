@@ -9,7 +9,7 @@ use Rattle.lcm_machine.specs.Run.{Run as Machine}
 use Rattle.file_plans.specs.declared.refusal.Refusal.{Refusal}
 use Rattle.file_plans.specs.Plans.{Plan}
 use Rattle.refusal_lines.specs.declared.status.Status.TheVariants.{WriteFault}
-use Rattle.lcm_cli.specs.Commands.{Task, plan_in}
+use Rattle.ready_tasks.specs.Commands.{Task, plan_in}
 use Rattle.lcm_cli.specs.Bytes.{ComesOf, ComesBy}
 use Rattle.call_answers.specs.Answers.{Answers, outside}
 use Rattle.lcm_cli.specs.Answers.{Answer, IsAnswerOf, read_in, stk}

@@ -33,7 +33,7 @@ use Rattle.file_plans.specs.declared.refusal.Refusal.{Refusal}
 use Rattle.refusal_lines.specs.declared.status.Status.{Status}
 use Rattle.command_words.specs.Part.{is_trusted_mark}
 use Rattle.link_tool.specs.Parts.{IsPartOf}
-use Rattle.lcm_cli.specs.Commands.{plan_of}
+use Rattle.ready_tasks.specs.Commands.{plan_of}
 use Rattle.link_tool.specs.Linked.{linked_plan}
 use Rattle.lcm_cli.specs.Bytes.{ComesOf, ComesBy}
 use Rattle.refusal_lines.specs.Refusals.{refusal_text}

@@ -1,10 +1,8 @@
 //! The top call: all that the program does, over files and a sink that the caller hands in.
 #![tactic(auto)]
 
-mod debugging;
 pub mod laws;
 mod lines;
-mod ready;
 mod top;
 mod totals;
 

@@ -1,0 +1,4 @@
+mod Tasks
+mod Loads
+mod Debugs
+pub mod Offers

@@ -1,0 +1,4 @@
+pub mod Debugs
+pub mod Audits
+pub mod Commands
+pub mod ReadyTasks
