@@ -1,4 +1,4 @@
-//! Words as a command of `clap` takes them, which has no program's name before them.
+//! Words, taken apart by a command of `clap`.
 ghost use Rattle.std.specs.Prelude.{◌≡◌, IfOk, true};
 ghost use Rattle.std.specs.Option.{option_map};
 ghost use Rattle.clap.specs.Words.{app_of, first_of, found_of, is_simple_and_free, rows_of};
@@ -11,8 +11,10 @@ use clap::error::ErrorKind;
 use clap::{ArgMatches, Command};
 use std::alloc::AllocError;
 
-/// The matches of the words, and None exactly where the command doesn't take them. It errs where memory is
-/// refused.
+/// The matches of the words, and None exactly where the command doesn't take them.
+///
+/// The command is simple, as `clap`'s definitions have it, and no argument of it has a rule on another. It
+/// errs where memory is refused.
 pub fn matches_by<'a>(
     command: Command<'a>,
     words: &'a [String],

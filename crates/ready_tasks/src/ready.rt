@@ -268,6 +268,8 @@ fn ready_generate<'a>(alloc: Global, seed: Seed) -> Result<ReadyTask<'a>, Stop>
 }
 
 /// Reads the files of a command in their order, and answers what is left to do.
+///
+/// It errs with the first refusal in that order (docs/COMMANDS.md), or where memory is refused.
 pub fn ready_of<'a, F: Files>(
     alloc: Global,
     files: &mut F,
