@@ -3,7 +3,7 @@ ghost use Rattle.std.specs.Prelude.{◌≡◌};
 ghost use Rattle.asm_fields.specs.Directives.{item_name, word_kind_name, directive_name, directive_named};
 
 /// The items of a text that aren't words, in the order in which they stand.
-#[derive(Clone, Copy, PartialEq, Eq)]
+#[derive(Clone, Copy)]
 pub enum ItemKind {
     /// The part's name.
     Name,
@@ -60,7 +60,7 @@ impl ItemKind {
 }
 
 /// The words of code and data that are written by a directive.
-#[derive(Clone, Copy, PartialEq, Eq)]
+#[derive(Clone, Copy)]
 pub enum WordKind {
     /// An integer.
     Int,
@@ -84,7 +84,7 @@ impl WordKind {
 }
 
 /// What a `.` stands before.
-#[derive(Clone, Copy, PartialEq, Eq)]
+#[derive(Clone, Copy)]
 pub enum Directive {
     /// It begins an item.
     Of(ItemKind),

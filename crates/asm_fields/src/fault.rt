@@ -15,7 +15,7 @@ use text_scan::ScanFault;
 /// label, at the sign; where an operand is missing, at the line's end. Of two faults at one place it is
 /// the one that stands first here, but that a label outside code and data is `Section`, also where its
 /// name stands there already.
-#[derive(Clone, Copy, Debug, PartialEq, Eq)]
+#[derive(Clone, Copy, Debug)]
 pub enum AsmFault {
     /// It has no tokens. This is never the scan fault `NoMemory`.
     Scan(ScanFault),

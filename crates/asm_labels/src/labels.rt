@@ -8,7 +8,7 @@ use std::alloc::{AllocError, Global};
 use std::marker::Model;
 
 /// A section of a text that has labels.
-#[derive(Clone, Copy, PartialEq, Eq)]
+#[derive(Clone, Copy)]
 pub enum Section {
     /// The code.
     Code,
@@ -17,7 +17,7 @@ pub enum Section {
 }
 
 /// Where a label stands.
-#[derive(Clone, Copy, PartialEq, Eq)]
+#[derive(Clone, Copy)]
 pub struct Label {
     /// The section in which it stands.
     pub section: Section,

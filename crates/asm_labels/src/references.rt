@@ -13,7 +13,7 @@ use std::alloc::{AllocError, Global};
 use std::marker::Model;
 
 /// A reference to a label that the text doesn't have in the section that is meant.
-#[derive(Clone, Copy, PartialEq, Eq)]
+#[derive(Clone, Copy)]
 pub struct MissingLabel {
     /// The place of the reference in the text.
     pub at: u32,

@@ -45,7 +45,7 @@ pub const LONGEST_STRETCH: u32 = 65_536;
 pub const LONGEST_NAME: usize = 31;
 
 /// What a memory capability allows at the addresses of its range.
-#[derive(Clone, Copy, Debug, PartialEq, Eq)]
+#[derive(Clone, Copy, Debug)]
 pub enum Perm {
     /// Nothing.
     No,
@@ -147,7 +147,7 @@ impl Perm {
 }
 
 /// Whether a capability may be copied.
-#[derive(Clone, Copy, Debug, PartialEq, Eq)]
+#[derive(Clone, Copy, Debug)]
 pub enum Lin {
     /// It may be copied.
     Normal,
@@ -188,7 +188,7 @@ impl Lin {
 }
 
 /// What is said of a memory capability. A description may be copied; it gives no authority.
-#[derive(Clone, Copy, Debug, PartialEq, Eq)]
+#[derive(Clone, Copy, Debug)]
 pub struct CapFields {
     /// What it allows.
     pub perm: Perm,
@@ -278,7 +278,7 @@ impl Cap {
 }
 
 /// What is said of a seal capability. A description may be copied; it gives no authority.
-#[derive(Clone, Copy, Debug, PartialEq, Eq)]
+#[derive(Clone, Copy, Debug)]
 pub struct SealFields {
     /// The first seal of its range.
     pub base: u32,
@@ -465,7 +465,7 @@ impl Word {
 /// What most instructions read of a word. It may be copied; it gives no authority.
 ///
 /// Of a sealed word it has no more than the linearity: an instruction cannot see under the seal.
-#[derive(Clone, Copy, PartialEq, Eq)]
+#[derive(Clone, Copy)]
 pub enum Face {
     /// An integer.
     Number(i64),
@@ -599,7 +599,7 @@ impl Face {
 }
 
 /// What is said of a sealed word's content. It may be copied; it gives no authority.
-#[derive(Clone, Copy, PartialEq, Eq)]
+#[derive(Clone, Copy)]
 pub enum Content {
     /// The description of a memory capability.
     Mem(CapFields),
@@ -608,7 +608,7 @@ pub enum Content {
 }
 
 /// A sealed word, opened to read. It may be copied; it gives no authority.
-#[derive(Clone, Copy, PartialEq, Eq)]
+#[derive(Clone, Copy)]
 pub struct Opened {
     /// The seal that it is under.
     pub seal: u32,

@@ -7,7 +7,7 @@ use std::error::Error;
 use std::fmt;
 
 /// Why words gave no command.
-#[derive(Clone, Copy, Debug, PartialEq, Eq)]
+#[derive(Clone, Copy, Debug)]
 pub enum WordsFault {
     /// They are no command.
     Usage,

@@ -8,7 +8,7 @@ use std::marker::Model;
 
 /// How many steps a run makes at most, or the fuel of a meaning: 1 to [`MOST_STEPS`]. A contract
 /// sees the number.
-#[derive(Clone, Copy, PartialEq, Eq)]
+#[derive(Clone, Copy)]
 pub struct Steps {
     number: u64,
 }
@@ -37,7 +37,7 @@ impl Steps {
 }
 
 /// The number that a generated load comes of: up to [`GREATEST_SEED`]. A contract sees it.
-#[derive(Clone, Copy, PartialEq, Eq)]
+#[derive(Clone, Copy)]
 pub struct Seed {
     number: u32,
 }

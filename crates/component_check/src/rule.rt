@@ -9,7 +9,7 @@ use std::error::Error;
 use std::fmt;
 
 /// Whose rules they are. docs/RULES.md has them all.
-#[derive(Clone, Copy, Debug, PartialEq, Eq)]
+#[derive(Clone, Copy, Debug)]
 pub enum Group {
     /// The rules of a component by itself.
     C,
@@ -33,7 +33,7 @@ impl Group {
 }
 
 /// A rule, as `C7`.
-#[derive(Clone, Copy, Debug, PartialEq, Eq)]
+#[derive(Clone, Copy, Debug)]
 pub struct Rule {
     /// Whose rule it is.
     pub group: Group,
@@ -71,7 +71,7 @@ impl fmt::Display for Rule {
 }
 
 /// A rule is broken at a place. What is counted as a place is told by docs/RULES.md, rule by rule.
-#[derive(Clone, Copy, Debug, PartialEq, Eq)]
+#[derive(Clone, Copy, Debug)]
 pub struct Broken {
     /// The rule.
     pub rule: Rule,

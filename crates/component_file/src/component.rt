@@ -5,7 +5,7 @@ use cap_words::{Items, SealRange, Word};
 use std::marker::Model;
 
 /// So many addresses from a first one on; there may be none.
-#[derive(Clone, Copy, PartialEq, Eq)]
+#[derive(Clone, Copy)]
 pub struct Area {
     /// The first address.
     pub base: u32,
@@ -53,7 +53,7 @@ pub enum Kind {
 }
 
 /// What the registers hold where the code reaches an offset, as the part declares it.
-#[derive(Clone, Copy, PartialEq, Eq)]
+#[derive(Clone, Copy)]
 pub struct KindRow {
     /// The offset in the code.
     pub offset: u32,

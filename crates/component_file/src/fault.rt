@@ -10,7 +10,7 @@ use std::fmt;
 
 /// Why bytes were not read as a component: the first fault from left to right, or that memory was
 /// refused. A place is that of a byte, counted from 0.
-#[derive(Clone, Copy, Debug, PartialEq, Eq)]
+#[derive(Clone, Copy, Debug)]
 pub enum FileFault {
     /// The first four bytes aren't `STKC`.
     Magic,

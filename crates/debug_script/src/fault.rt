@@ -7,7 +7,7 @@ use std::error::Error;
 use std::fmt;
 
 /// Why a text is no script.
-#[derive(Clone, Copy, Debug, PartialEq, Eq)]
+#[derive(Clone, Copy, Debug)]
 pub enum ScriptFault {
     /// The first bad line, counted from 1.
     Line(u32),

@@ -9,7 +9,7 @@ use itoa::Buffer;
 use run_audit::AuditFault;
 
 /// What a refusal tells.
-#[derive(Clone, Copy, PartialEq, Eq)]
+#[derive(Clone, Copy)]
 pub enum DrawRefusal {
     /// The words are no command.
     Usage,
@@ -23,7 +23,7 @@ pub enum DrawRefusal {
 }
 
 /// Why a call goes no further.
-#[derive(Clone, Copy, PartialEq, Eq)]
+#[derive(Clone, Copy)]
 pub(crate) enum DrawStop {
     /// It is refused.
     Refused(DrawRefusal),

@@ -12,7 +12,7 @@ use std::alloc::{AllocError, AllocFailed};
 
 /// What a refusal tells. A part is told by its index among the part words, or in
 /// the image.
-#[derive(Clone, Copy, PartialEq, Eq)]
+#[derive(Clone, Copy)]
 pub enum Refusal {
     /// The words are no command.
     Usage,
@@ -40,7 +40,7 @@ pub enum Refusal {
 }
 
 /// Why a call goes no further.
-#[derive(Clone, Copy, PartialEq, Eq)]
+#[derive(Clone, Copy)]
 pub enum Stop {
     /// It is refused.
     Refused(Refusal),

@@ -3,7 +3,7 @@ ghost use Rattle.std.specs.Prelude.{◌≡◌, ◌≤◌, ◌^◌};
 ghost use Rattle.generated_load.specs.Loads.{next_number, load_of, load_steps};
 
 /// What the parts of a load are made with.
-#[derive(Clone, Copy, PartialEq, Eq)]
+#[derive(Clone, Copy)]
 pub struct Workload {
     /// How often the module calls itself: 100 to 999 of a seed.
     pub rounds: u16,

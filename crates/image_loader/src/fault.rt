@@ -12,7 +12,7 @@ use std::fmt;
 
 /// Why bytes weren't loaded as an image: the first fault in the order in which it is looked for, or
 /// that memory was refused. A place is that of a byte, counted from 0.
-#[derive(Clone, Copy, Debug, PartialEq, Eq)]
+#[derive(Clone, Copy, Debug)]
 pub enum ImageFault {
     /// The first four bytes aren't `STKI`.
     Magic,

@@ -22,7 +22,7 @@ ghost use Rattle.lcm_isa.specs.Texts.{reg_name, mnemonic_of};
 ///
 /// `Pc` is the program counter, `Stk` the stack capability and `Dat` the register `data`. The
 /// names of the others say how the calling convention uses them.
-#[derive(Clone, Copy, PartialEq, Eq, Debug)]
+#[derive(Clone, Copy, PartialEq, Debug)]
 pub enum Reg {
     Pc,
     Rcode,
@@ -43,7 +43,7 @@ pub enum Reg {
 }
 
 /// The last operand of some instructions: a register, or a number in the instruction itself.
-#[derive(Clone, Copy, PartialEq, Eq, Debug)]
+#[derive(Clone, Copy)]
 pub enum Operand {
     R(Reg),
     Imm(i32),
@@ -52,7 +52,7 @@ pub enum Operand {
 /// An instruction, with its operands in the order in which a program writes them.
 ///
 /// The variants stand in the order of their op numbers, 0 to 22.
-#[derive(Clone, Copy, PartialEq, Eq, Debug)]
+#[derive(Clone, Copy)]
 pub enum Instr {
     Fail,
     Halt,

@@ -31,7 +31,7 @@ pub use machine::LcmState;
 pub use undo::Undo;
 
 /// Where a word can stand: a register, or the cell at an address.
-#[derive(Clone, Copy, PartialEq, Eq, Debug)]
+#[derive(Clone, Copy)]
 pub enum Place {
     R(Reg),
     Cell(u32),
@@ -81,7 +81,7 @@ pub enum Step {
 
 /// How a machine ended. A failure says its cause and pc's address, or -1 where pc holds no memory
 /// capability.
-#[derive(Clone, Copy, PartialEq, Eq)]
+#[derive(Clone, Copy)]
 pub enum End {
     Halted,
     Failed(FailCause, i64),

@@ -9,7 +9,7 @@ use std::fmt;
 
 /// A rule of the parts that are linked together is broken. docs/RULES.md tells, rule by rule, which
 /// part and which place are reported.
-#[derive(Clone, Copy, Debug, PartialEq, Eq)]
+#[derive(Clone, Copy, Debug)]
 pub struct RuleAt {
     /// The rule.
     pub rule: Rule,
@@ -34,7 +34,7 @@ impl fmt::Display for RuleAt {
 impl Error for RuleAt {}
 
 /// Why parts weren't linked.
-#[derive(Clone, Copy, Debug, PartialEq, Eq)]
+#[derive(Clone, Copy, Debug)]
 pub enum LinkFault {
     /// This is the first rule that they break, at its first place.
     Rule(RuleAt),

@@ -1,7 +1,7 @@
 //! Places in parts.
 
 /// A place in a part.
-#[derive(Clone, Copy, PartialEq, Eq)]
+#[derive(Clone, Copy)]
 pub struct PartPlace {
     /// The index of the part.
     pub part: u32,

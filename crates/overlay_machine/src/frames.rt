@@ -20,7 +20,7 @@ use lcm_machine::state::State;
 
 /// What is said of an open call's frame: the call's number, the site's number, and the addresses of
 /// its words, from base to end.
-#[derive(Clone, Copy, PartialEq, Eq)]
+#[derive(Clone, Copy)]
 pub struct Frame {
     pub call: u64,
     pub site: u32,

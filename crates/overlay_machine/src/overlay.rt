@@ -39,7 +39,7 @@ pub enum OStep {
 }
 
 /// How an overlay machine ended.
-#[derive(Clone, Copy, PartialEq, Eq)]
+#[derive(Clone, Copy)]
 pub enum OEnd {
     Halted,
     Failed,

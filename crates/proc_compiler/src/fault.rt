@@ -8,7 +8,7 @@ use std::error::Error;
 use std::fmt;
 
 /// Why a module isn't compiled.
-#[derive(Clone, Copy, Debug, PartialEq, Eq)]
+#[derive(Clone, Copy, Debug)]
 pub enum CompileFault {
     /// Code or data have more words than a component may have.
     TooLarge,

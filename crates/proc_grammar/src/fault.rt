@@ -13,7 +13,7 @@ use text_scan::ScanFault;
 ///
 /// A text that can't be cut into tokens has the fault `Scan`, whatever else is wrong. Of the others the
 /// one whose place comes first is told, and at one place the one that stands first here.
-#[derive(Clone, Copy, Debug, PartialEq, Eq)]
+#[derive(Clone, Copy, Debug)]
 pub enum ParseFault {
     /// It can't be cut into tokens. This is never the scan fault `NoMemory`.
     Scan(ScanFault),

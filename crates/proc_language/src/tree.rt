@@ -14,7 +14,7 @@ pub struct Name {
 }
 
 /// What stands between two operands.
-#[derive(Clone, Copy, PartialEq, Eq)]
+#[derive(Clone, Copy)]
 pub enum Op {
     /// `+`
     Plus,

@@ -7,7 +7,7 @@ use std::fmt;
 
 /// What is wrong with a name of a module. The place is that of the name: of its first byte in the
 /// text.
-#[derive(Clone, Copy, Debug, PartialEq, Eq)]
+#[derive(Clone, Copy, Debug)]
 pub enum NameFault {
     /// There is nothing of this name.
     Unknown(u32),

@@ -9,7 +9,7 @@ use proc_language::{Global, Import, ModuleFields, Name, Param, Proc};
 
 /// What a name leads to, where it stands for a variable: each by its index in the lists of the
 /// procedure or the module.
-#[derive(Clone, Copy, PartialEq, Eq)]
+#[derive(Clone, Copy)]
 pub enum Variable {
     /// A parameter that is no callback.
     Param(usize),
@@ -27,7 +27,7 @@ pub enum Variable {
 
 /// What a name leads to, where it is called or passed on: each by its index in the lists of the
 /// procedure or the module.
-#[derive(Clone, Copy, PartialEq, Eq)]
+#[derive(Clone, Copy)]
 pub enum Callee {
     /// A callback among the parameters.
     Callback(usize),

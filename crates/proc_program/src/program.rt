@@ -6,7 +6,7 @@ use proc_language::Op;
 use std::marker::Model;
 
 /// What a name that is called, or passed on, stands for.
-#[derive(Clone, Copy, PartialEq, Eq)]
+#[derive(Clone, Copy)]
 pub enum Handle {
     /// A callback: the place of its first half among parameters and locals.
     Given(u32),
@@ -17,7 +17,7 @@ pub enum Handle {
 }
 
 /// What the name of a variable stands for.
-#[derive(Clone, Copy, PartialEq, Eq)]
+#[derive(Clone, Copy)]
 pub enum Location {
     /// A parameter or a local: parameters come first. A callback takes two places, all else one.
     Local(u32),
@@ -26,7 +26,7 @@ pub enum Location {
 }
 
 /// An array of the module: its first word among those of the globals, and its length.
-#[derive(Clone, Copy, PartialEq, Eq)]
+#[derive(Clone, Copy)]
 pub struct Array {
     /// The place of its first word.
     pub first: u32,
@@ -173,7 +173,7 @@ pub struct Procedure {
 }
 
 /// Where a module's words stand, and its seals.
-#[derive(Clone, Copy, PartialEq, Eq)]
+#[derive(Clone, Copy)]
 pub struct Header {
     /// The address of the first code word.
     pub code: u32,

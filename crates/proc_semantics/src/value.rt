@@ -1,7 +1,7 @@
 //! What procedures work on.
 
 /// A procedure of the modules.
-#[derive(Clone, Copy, PartialEq, Eq)]
+#[derive(Clone, Copy)]
 pub struct Target {
     /// The place of its module among the modules.
     pub home: usize,
@@ -10,7 +10,7 @@ pub struct Target {
 }
 
 /// A closure pair, by what a call of it does.
-#[derive(Clone, Copy, PartialEq, Eq)]
+#[derive(Clone, Copy)]
 pub enum Pair {
     /// The call fails.
     Bad,
@@ -22,7 +22,7 @@ pub enum Pair {
 
 /// What stands in a place of a procedure: in a parameter or a local. A callback takes two places, as it
 /// takes two argument registers.
-#[derive(Clone, Copy, PartialEq, Eq)]
+#[derive(Clone, Copy)]
 pub enum Value {
     /// A number.
     Num(i64),
@@ -33,7 +33,7 @@ pub enum Value {
 }
 
 /// What is known of an argument register.
-#[derive(Clone, Copy, PartialEq, Eq)]
+#[derive(Clone, Copy)]
 pub struct Register {
     /// The number that it holds, if it holds one.
     pub number: Option<i64>,
@@ -42,7 +42,7 @@ pub struct Register {
 }
 
 /// What stays the same all through one run of a procedure.
-#[derive(Clone, Copy, PartialEq, Eq)]
+#[derive(Clone, Copy)]
 pub struct Activation {
     /// The place of its module among the modules.
     pub home: usize,

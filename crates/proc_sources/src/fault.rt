@@ -8,7 +8,7 @@ use proc_names::NameFault;
 use token_check::TokenFault;
 
 /// What is wrong with a source, or that memory was refused.
-#[derive(Clone, Copy, PartialEq, Eq)]
+#[derive(Clone, Copy)]
 pub enum SourceFault {
     /// The text spells no module.
     Text(ParseFault),

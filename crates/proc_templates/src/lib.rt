@@ -8,7 +8,7 @@
 pub mod laws;
 
 /// A procedure's frame, and where the data of its module begin.
-#[derive(Clone, Copy, PartialEq, Eq)]
+#[derive(Clone, Copy)]
 pub struct FrameShape {
     /// The words of the frame.
     pub words: u32,

@@ -1,7 +1,7 @@
 //! How runs end.
 
 /// How a run ended that writes its text.
-#[derive(Clone, Copy, PartialEq, Eq, Debug)]
+#[derive(Clone, Copy)]
 pub enum RunEnd {
     /// The machine halted.
     Halted,

@@ -3,7 +3,7 @@ ghost use Rattle.std.specs.Prelude.{◌≡◌};
 ghost use Rattle.run_picture.specs.Class.{class_name};
 
 /// What a shape of a picture stands for, by which the style of the picture draws it.
-#[derive(Clone, Copy, PartialEq, Eq)]
+#[derive(Clone, Copy)]
 pub enum Class {
     /// What trusted code has, or its lane.
     Trusted,

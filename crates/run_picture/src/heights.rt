@@ -8,7 +8,7 @@ use crate::turn::Turn;
 use std::alloc::{AllocError, Global};
 
 /// How addresses become heights.
-#[derive(Clone, Copy, PartialEq, Eq)]
+#[derive(Clone, Copy)]
 pub struct Scale {
     /// The most words that are drawn between two cuts.
     pub most: u64,

@@ -62,7 +62,7 @@ fn push_front(text: &mut Vec<u8>, front: &str, class: Class) -> Result<(), Alloc
 }
 
 /// Where a shape begins or ends.
-#[derive(Clone, Copy, PartialEq, Eq)]
+#[derive(Clone, Copy)]
 pub(crate) struct Point {
     /// To the right.
     pub(crate) x: u64,

@@ -11,7 +11,7 @@ use cap_words::{Face, Lin, Perm, Word};
 use line_fields::{Parts, is_text, word_in};
 
 /// Who acts.
-#[derive(Clone, Copy, PartialEq, Eq)]
+#[derive(Clone, Copy)]
 pub enum Side {
     /// A trusted part.
     Trusted,
@@ -20,7 +20,7 @@ pub enum Side {
 }
 
 /// The range of a frame.
-#[derive(Clone, Copy, PartialEq, Eq)]
+#[derive(Clone, Copy)]
 pub struct Extent {
     /// Its first address.
     pub base: u32,
@@ -29,7 +29,7 @@ pub struct Extent {
 }
 
 /// What a line of a run changes.
-#[derive(Clone, Copy, PartialEq, Eq)]
+#[derive(Clone, Copy)]
 pub enum Turn {
     /// A call of this side, and the frame that it leaves.
     Call(Side, Extent),

@@ -66,7 +66,7 @@ pub enum FeedPair {
 }
 
 /// What an argument register holds where trusted code is left.
-#[derive(Clone, Copy, PartialEq, Eq)]
+#[derive(Clone, Copy)]
 pub enum OutArg {
     /// An integer.
     Int(i64),
@@ -84,7 +84,7 @@ pub enum OutEvent {
 }
 
 /// How a meaning ends.
-#[derive(Clone, Copy, PartialEq, Eq)]
+#[derive(Clone, Copy)]
 pub enum End {
     /// By `halt`, with this value.
     Halt(i64),

@@ -17,7 +17,7 @@ pub enum TokenKind {
 }
 
 /// A token: what it is, and which bytes of the text it has.
-#[derive(Clone, Copy, Default, PartialEq, Eq)]
+#[derive(Clone, Copy, Default)]
 pub struct Token {
     /// What it is.
     pub kind: TokenKind,

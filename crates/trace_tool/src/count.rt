@@ -12,7 +12,7 @@ use linked_starts::Start;
 use trusted_border::Event;
 
 /// What the last step of a run answered, and how many `call` lines the run writes.
-#[derive(Clone, Copy, PartialEq, Eq)]
+#[derive(Clone, Copy)]
 pub struct Counted {
     pub last: Step,
     pub calls: u64,
