@@ -5,7 +5,7 @@ use Rattle.std.specs.Prelude.{if◌then◌else◌, IsSome, Result, Ok, Err}
 use Rattle.lcm_machine.specs.declared.Place.{Place}
 use Rattle.lcm_machine.specs.declared.Place.TheVariants.{R, Cell}
 use Rattle.lcm_isa.specs.declared.Reg.{Reg}
-use Rattle.lcm_isa.specs.declared.Reg.TheVariants.{Pc}
+use Rattle.lcm_isa.specs.declared.Reg.TheVariants.{Pc, Dat}
 use Rattle.lcm_machine.specs.declared.FailCause.{FailCause}
 use Rattle.lcm_machine.specs.declared.FailCause.TheVariants.{F1, F2, F3}
 use Rattle.lcm_isa.specs.declared.Instr.{Instr}
@@ -15,6 +15,7 @@ use Rattle.cap_words.specs.declared.Word.{Word}
 use Rattle.cap_words.specs.declared.Word.TheVariants.{Mem}
 use Rattle.cap_words.specs.declared.Face.{Face}
 use Rattle.cap_words.specs.declared.Opened.{Opened}
+use Rattle.cap_words.specs.declared.Content.{Content}
 use Rattle.cap_words.specs.declared.Face.TheVariants.{Number, Memory, Seals, Sealed}
 use Rattle.lcm_machine.specs.Plan.{Plan, Fails, Halts, Goes}
 use Rattle.lcm_machine.specs.declared.plan.Effect.{Effect}
@@ -26,7 +27,7 @@ use Rattle.lcm_isa.specs.Numbers.{decode_of}
 use Rattle.lcm_machine.specs.Maps.{State}
 use Rattle.lcm_machine.specs.Places.{reg, set_reg}
 use Rattle.lcm_machine.specs.Cells.{cell, set_cell}
-use Rattle.lcm_machine.specs.Table.{plan, target, is_pc}
+use Rattle.lcm_machine.specs.Table.{plan, target, is_pc, makes, moves, made, no_effect, unsealed}
 use Rattle.cap_words.specs.Faces.{target_of, may_run}
 
 -- the word at a place, if the place is there
@@ -108,6 +109,43 @@ plan_in look s i next =
 abbrev pub planned : Result Effect FailCause → Plan
 planned (Ok e) = Goes e
 planned (Err f) = Fails f
+
+-- the plans that other answers of rows are, where pc goes on: a register gets a word, or a word is moved
+abbrev pub row_gives : Reg → Result Word FailCause → Word → Plan
+row_gives r (Ok w) next = makes r w next
+row_gives r (Err f) next = Fails f
+
+abbrev pub row_moves : Result Moved FailCause → Word → Plan
+row_moves (Ok m) next = moves m.from m.to (Some next)
+row_moves (Err f) next = Fails f
+
+-- that of an `xjmp`: its code and its data, unsealed
+abbrev pub row_jumps : Reg → Result (CapFields × Content) FailCause → Plan
+row_jumps r (Ok p) = Goes (record no_effect {
+  spent = Some r;
+  first = made Pc (Mem p.0);
+  second = made Dat (unsealed p.1);
+})
+row_jumps r (Err f) = Fails f
+
+-- those of a `split` and a `splice`
+abbrev pub row_splits : Reg → Reg → Reg → Result (CapFields × CapFields) FailCause → Word → Plan
+row_splits r1 r2 r3 (Ok p) next = Goes (record no_effect {
+  spent = Some r3;
+  first = made r1 (Mem p.0);
+  second = made r2 (Mem p.1);
+  next = Some next;
+})
+row_splits r1 r2 r3 (Err f) next = Fails f
+
+abbrev pub row_splices : Reg → Reg → Reg → Result CapFields FailCause → Word → Plan
+row_splices r1 r2 r3 (Ok c) next = Goes (record no_effect {
+  spent = Some r2;
+  also_spent = Some r3;
+  first = made r1 (Mem c);
+  next = Some next;
+})
+row_splices r1 r2 r3 (Err f) next = Fails f
 
 -- the places of a move are there
 abbrev pub MoveFits : {W : Type 0} → State W → Option Moved → Type 0

@@ -5,17 +5,20 @@
 ghost use Rattle.std.specs.Prelude.{◌≡◌, ◌+◌, ◌==◌, ◌&&◌, ◌+ℤ◌, ◌-ℤ◌, MatchResult, IfOk, true, false};
 ghost use Rattle.std.specs.Option.{ok_or};
 ghost use Rattle.lcm_isa.specs.declared.Instr.{Instr};
+ghost use Rattle.lcm_isa.specs.declared.Reg.{Reg};
+ghost use Rattle.cap_words.specs.declared.Word.{Word};
 ghost use Rattle.cap_words.specs.declared.Word.TheVariants.{Int};
-ghost use Rattle.cap_words.specs.Face.{CapInOrder};
-ghost use Rattle.lcm_machine.specs.Table.{is_pc, into, makes, bit, operand, fits_64};
+ghost use Rattle.cap_words.specs.Face.{CapInOrder, ContentInOrder};
 ghost use Rattle.cap_words.specs.Faces.{face_linear, int_in, memory_in, address, can_split, same_kind};
+ghost use Rattle.lcm_machine.specs.Table.{is_pc, into, makes, bit, operand, fits_64, runs_in, unsealed};
 ghost use Rattle.lcm_machine.specs.Ends.{Meets};
-ghost use Rattle.lcm_machine.specs.Row.{plan_in, planned, faces, row, outcome, CanPerform, GoesOnTo};
+ghost use Rattle.lcm_machine.specs.Row.{plan_in, planned, row_gives, row_moves, row_jumps, row_splits};
+ghost use Rattle.lcm_machine.specs.Row.{row_splices, faces, row, outcome, CanPerform, GoesOnTo};
 ghost use Rattle.lcm_machine.specs.declared.plan.Effect.{Effect};
 ghost use Rattle.lcm_machine.specs.declared.FailCause.TheVariants.{F5, F6, F9, F13, F14};
 ghost use Rattle.lcm_machine.specs.Plan.{Goes};
 
-use crate::plan::{Effect, Made};
+use crate::plan::{Effect, Made, Moved};
 use crate::state::State;
 use crate::{FailCause, Place, Step};
 use cap_words::{
@@ -39,13 +42,31 @@ fn into(r: Reg) -> Result<(), FailCause>
     ask(!matches!(r, Reg::Pc), FailCause::F5)
 }
 
-// `r1` gets an integer that shows something of a word.
+// 1 where a condition holds, and else 0.
+#[inline(always)]
+fn bit(holds: bool) -> i64
+    ensures { result ≡ bit holds }
+{
+    if holds { 1 } else { 0 }
+}
+
+// A register gets a word that a row answers, and pc goes on.
+#[inline(always)]
 #[tactic(auto, unfolding(crate::specs::Table::ask))]
-fn shows(r1: Reg, shown: i64, next: Word) -> Result<Effect, FailCause>
-    ensures { planned result ≡ into r1 (makes r1 (Int shown) next) }
+fn making(r1: Reg, answer: Result<Word, FailCause>, next: Word) -> Result<Effect, FailCause>
+    ensures { planned result ≡ into r1 (row_gives r1 answer next) }
 {
     into(r1)?;
-    Ok(Effect::making(r1, Word::Int(shown), next))
+    Ok(Effect::making(r1, answer?, next))
+}
+
+// A word moves as a row answers, and pc goes on.
+#[inline(always)]
+fn moving(answer: Result<Moved, FailCause>, next: Word) -> Result<Effect, FailCause>
+    ensures { planned result ≡ row_moves answer next }
+{
+    let Moved { from, to } = answer?;
+    Ok(Effect::moving(from, to, Some(next)))
 }
 
 // The sum of two integers: F9 where it doesn't fit in 64 bits.
@@ -101,6 +122,29 @@ fn joined(a: CapFields, b: CapFields) -> Result<Cap, FailCause>
     Ok(Cap::of(both))
 }
 
+// Whether the content of a sealed word is code that may run.
+#[inline(always)]
+fn runs(content: Content) -> bool
+    ensures { result ≡ runs_in content }
+{
+    match content {
+        Content::Mem(c) => c.perm.may_run(),
+        Content::Seal(_) => false,
+    }
+}
+
+// The content of a sealed word as a word of its own.
+#[inline(always)]
+fn unsealed(content: Content) -> Word
+    requires { ContentInOrder content }
+    ensures { result ≡ unsealed content }
+{
+    match content {
+        Content::Mem(c) => Word::Mem(Cap::of(c)),
+        Content::Seal(c) => Word::Seal(SealCap::of(c)),
+    }
+}
+
 #[tactic(auto, unfolding(crate::specs::Row::plan_in, crate::specs::Table::ask, crate::specs::Table::need, crate::specs::Table::by_cap))]
 impl<W: MachineWord> State<W> {
     // The integer of a register: F6 where it holds another word.
@@ -135,7 +179,7 @@ impl<W: MachineWord> State<W> {
     fn linearity(&self, r: Reg) -> i64
         ensures { result ≡ bit (face_linear (faces W.look self.now r)) }
     {
-        if self.face(r).is_linear() { 1 } else { 0 }
+        bit(self.face(r).is_linear())
     }
 
     // As `jmp r1` where `r2` holds an integer other than 0.
@@ -150,48 +194,6 @@ impl<W: MachineWord> State<W> {
         }
     }
 
-    // `r1` gets the number of the kind of `r2`'s word.
-    fn plan_gettype(&self, r1: Reg, r2: Reg, next: Word) -> Result<Effect, FailCause>
-        ensures { planned result ≡ plan_in W.look self.now (Instr.Gettype r1 r2) next }
-    {
-        shows(r1, self.face(r2).number(), next)
-    }
-
-    // `r1` gets the address or seal of `r2`, or -1.
-    fn plan_geta(&self, r1: Reg, r2: Reg, next: Word) -> Result<Effect, FailCause>
-        ensures { planned result ≡ plan_in W.look self.now (Instr.Geta r1 r2) next }
-    {
-        shows(r1, self.face(r2).address(), next)
-    }
-
-    // `r1` gets the base of `r2`, or -1.
-    fn plan_getb(&self, r1: Reg, r2: Reg, next: Word) -> Result<Effect, FailCause>
-        ensures { planned result ≡ plan_in W.look self.now (Instr.Getb r1 r2) next }
-    {
-        shows(r1, self.face(r2).base(), next)
-    }
-
-    // `r1` gets the end of `r2`, or -1.
-    fn plan_gete(&self, r1: Reg, r2: Reg, next: Word) -> Result<Effect, FailCause>
-        ensures { planned result ≡ plan_in W.look self.now (Instr.Gete r1 r2) next }
-    {
-        shows(r1, self.face(r2).end(), next)
-    }
-
-    // `r1` gets the number of `r2`'s permission, or -1.
-    fn plan_getp(&self, r1: Reg, r2: Reg, next: Word) -> Result<Effect, FailCause>
-        ensures { planned result ≡ plan_in W.look self.now (Instr.Getp r1 r2) next }
-    {
-        shows(r1, self.face(r2).perm(), next)
-    }
-
-    // `r1` gets 1 where `r2` is linear, and else 0.
-    fn plan_getlin(&self, r1: Reg, r2: Reg, next: Word) -> Result<Effect, FailCause>
-        ensures { planned result ≡ plan_in W.look self.now (Instr.Getlin r1 r2) next }
-    {
-        shows(r1, self.linearity(r2), next)
-    }
-
     // `r1` gets the word taken from a register, or the immediate.
     fn plan_move(&self, r1: Reg, n: Operand, next: Word) -> Result<Effect, FailCause>
         ensures { planned result ≡ plan_in W.look self.now (Instr.Move r1 n) next }
@@ -203,9 +205,10 @@ impl<W: MachineWord> State<W> {
         }
     }
 
-    // The word taken from `r2` goes to the cell at `r1`'s address.
-    fn plan_store(&mut self, r1: Reg, r2: Reg, next: Word) -> Result<Effect, FailCause>
-        ensures is { planned result ≡ plan_in W.look self.old (Instr.Store r1 r2) next }
+    // The word of `r2` goes to the cell at `r1`'s address.
+    fn stored(&mut self, r1: Reg, r2: Reg) -> Result<Moved, FailCause>
+        ensures is { (next : Word) → row_moves result next
+            ≡ plan_in W.look self.old (Instr.Store r1 r2) next }
         ensures same { self.new ≡ self.old }
     {
         let face = self.face(r1);
@@ -213,12 +216,16 @@ impl<W: MachineWord> State<W> {
         ask(c.perm.may_write(), FailCause::F7)?;
         let at = face.target().ok_or(FailCause::F8)?;
         ask(self.there(Some(at)).is_some(), FailCause::F8)?;
-        Ok(Effect::moving(Place::R(r2), Place::Cell(at), Some(next)))
+        Ok(Moved {
+            from: Place::R(r2),
+            to: Place::Cell(at),
+        })
     }
 
-    // `r1` gets the word of the cell at `r2`'s address, taken from there.
-    fn plan_load(&mut self, r1: Reg, r2: Reg, next: Word) -> Result<Effect, FailCause>
-        ensures is { planned result ≡ plan_in W.look self.old (Instr.Load r1 r2) next }
+    // The word of the cell at `r2`'s address goes to `r1`.
+    fn loaded(&mut self, r1: Reg, r2: Reg) -> Result<Moved, FailCause>
+        ensures is { (next : Word) → row_moves result next
+            ≡ plan_in W.look self.old (Instr.Load r1 r2) next }
         ensures same { self.new ≡ self.old }
     {
         into(r1)?;
@@ -228,87 +235,108 @@ impl<W: MachineWord> State<W> {
         let at = face.target().ok_or(FailCause::F8)?;
         let found = self.there(Some(at)).ok_or(FailCause::F8)?;
         ask(!found.is_linear() || c.perm.may_write(), FailCause::F10)?;
-        Ok(Effect::moving(Place::Cell(at), Place::R(r1), Some(next)))
+        Ok(Moved {
+            from: Place::Cell(at),
+            to: Place::R(r1),
+        })
     }
 
-    // The address or seal of `r1` is raised by `n`.
-    fn plan_cca(&self, r1: Reg, n: Operand, next: Word) -> Result<Effect, FailCause>
-        ensures { planned result ≡ plan_in W.look self.now (Instr.Cca r1 n) next }
+    // `r1`'s word with its address or seal raised by `n`.
+    fn raised(&self, r1: Reg, n: Operand) -> Result<Word, FailCause>
+        ensures { (next : Word) → into r1 (row_gives r1 result next)
+            ≡ plan_in W.look self.now (Instr.Cca r1 n) next }
     {
-        into(r1)?;
-        match self.face(r1) {
+        let face = self.face(r1);
+        let z = self.operand(n)?;
+        match face {
             Face::Memory(c) => {
-                let z = self.operand(n)?;
                 let addr = sum(c.addr, z)?;
-                Ok(Effect::making(r1, Word::Mem(Cap::of(CapFields { addr, ..c })), next))
+                Ok(Word::Mem(Cap::of(CapFields { addr, ..c })))
             }
             Face::Seals(c) => {
-                let z = self.operand(n)?;
                 let cur = sum(c.cur, z)?;
-                Ok(Effect::making(r1, Word::Seal(SealCap::of(SealFields { cur, ..c })), next))
+                Ok(Word::Seal(SealCap::of(SealFields { cur, ..c })))
             }
             _ => Err(FailCause::F6),
         }
     }
 
-    // The permission of `r1` becomes that of number `n`, which may allow no more.
-    fn plan_restrict(&self, r1: Reg, n: Operand, next: Word) -> Result<Effect, FailCause>
-        ensures { planned result ≡ plan_in W.look self.now (Instr.Restrict r1 n) next }
+    // `r1`'s word with the permission of number `n`, which may allow no more.
+    fn restricted(&self, r1: Reg, n: Operand) -> Result<Word, FailCause>
+        ensures { (next : Word) → into r1 (row_gives r1 result next)
+            ≡ plan_in W.look self.now (Instr.Restrict r1 n) next }
     {
-        into(r1)?;
         let c = self.memory(r1)?;
         let z = self.operand(n)?;
         let perm = Perm::of(z).ok_or(FailCause::F7)?;
         ask(perm.is_below(c.perm), FailCause::F7)?;
-        Ok(Effect::making(r1, Word::Mem(Cap::of(CapFields { perm, ..c })), next))
+        Ok(Word::Mem(Cap::of(CapFields { perm, ..c })))
     }
 
-    // `r1` gets 1 where `r2` is below `n`, and else 0.
-    fn plan_lt(&self, r1: Reg, r2: Reg, n: Operand, next: Word) -> Result<Effect, FailCause>
-        ensures { planned result ≡ plan_in W.look self.now (Instr.Lt r1 r2 n) next }
+    // 1 where `r2` is below `n`, and else 0.
+    fn compared(&self, r2: Reg, n: Operand) -> Result<Word, FailCause>
+        ensures { (r1 : Reg) (next : Word) → into r1 (row_gives r1 result next)
+            ≡ plan_in W.look self.now (Instr.Lt r1 r2 n) next }
     {
-        into(r1)?;
         let x = self.int(r2)?;
         let z = self.operand(n)?;
-        Ok(Effect::making(r1, Word::Int(if x < z { 1 } else { 0 }), next))
+        Ok(Word::Int(bit(x < z)))
     }
 
-    // `r1` gets the sum of `r2` and `n`.
-    fn plan_plus(&self, r1: Reg, r2: Reg, n: Operand, next: Word) -> Result<Effect, FailCause>
-        ensures { planned result ≡ plan_in W.look self.now (Instr.Plus r1 r2 n) next }
+    // The sum of `r2` and `n`.
+    fn added(&self, r2: Reg, n: Operand) -> Result<Word, FailCause>
+        ensures { (r1 : Reg) (next : Word) → into r1 (row_gives r1 result next)
+            ≡ plan_in W.look self.now (Instr.Plus r1 r2 n) next }
     {
-        into(r1)?;
         let x = self.int(r2)?;
         let z = self.operand(n)?;
-        Ok(Effect::making(r1, Word::Int(sum(x, z)?), next))
+        Ok(Word::Int(sum(x, z)?))
     }
 
-    // `r1` gets `r2` less `n`.
-    fn plan_minus(&self, r1: Reg, r2: Reg, n: Operand, next: Word) -> Result<Effect, FailCause>
-        ensures { planned result ≡ plan_in W.look self.now (Instr.Minus r1 r2 n) next }
+    // `r2` less `n`.
+    fn subtracted(&self, r2: Reg, n: Operand) -> Result<Word, FailCause>
+        ensures { (r1 : Reg) (next : Word) → into r1 (row_gives r1 result next)
+            ≡ plan_in W.look self.now (Instr.Minus r1 r2 n) next }
     {
-        into(r1)?;
         let x = self.int(r2)?;
         let z = self.operand(n)?;
-        Ok(Effect::making(r1, Word::Int(difference(x, z)?), next))
+        Ok(Word::Int(difference(x, z)?))
     }
 
-    // The address or seal of `r1` becomes its base.
-    fn plan_seta2b(&self, r1: Reg, next: Word) -> Result<Effect, FailCause>
-        ensures { planned result ≡ plan_in W.look self.now (Instr.Seta2b r1) next }
+    // `r1`'s word with its base as its address or seal.
+    fn at_base(&self, r1: Reg) -> Result<Word, FailCause>
+        ensures { (next : Word) → into r1 (row_gives r1 result next)
+            ≡ plan_in W.look self.now (Instr.Seta2b r1) next }
     {
-        into(r1)?;
         match self.face(r1) {
             Face::Memory(c) => {
                 let addr = i64::from(c.base);
-                Ok(Effect::making(r1, Word::Mem(Cap::of(CapFields { addr, ..c })), next))
+                Ok(Word::Mem(Cap::of(CapFields { addr, ..c })))
             }
             Face::Seals(c) => {
                 let cur = i64::from(c.base);
-                Ok(Effect::making(r1, Word::Seal(SealCap::of(SealFields { cur, ..c })), next))
+                Ok(Word::Seal(SealCap::of(SealFields { cur, ..c })))
             }
             _ => Err(FailCause::F6),
         }
+    }
+
+    // What an `xjmp` jumps to, and what it puts into `data`, as [`State::plan_xjmp`] says it.
+    fn halves(&self, r1: Reg, r2: Reg) -> Result<(CapFields, Content), FailCause>
+        ensures is { (next : Word) → row_jumps r2 result
+            ≡ plan_in W.look self.now (Instr.Xjmp r1 r2) next }
+        ensures in_order { IfOk result (λ p. CapInOrder p.0 × ContentInOrder p.1) }
+    {
+        let code = self.opened(r1).ok_or(FailCause::F6)?;
+        let data = self.opened(r2).ok_or(FailCause::F6)?;
+        ask(code.seal == data.seal, FailCause::F12)?;
+        let Content::Mem(c) = code.content else {
+            return Err(FailCause::F6);
+        };
+        ask(!c.lin.is_linear(), FailCause::F10)?;
+        ask(c.perm.may_run(), FailCause::F7)?;
+        ask(!runs(data.content), FailCause::F7)?;
+        Ok((c, data.content))
     }
 
     /// The effect of an `xjmp`, `next` being pc's word with its address raised by one: it unseals
@@ -320,48 +348,57 @@ impl<W: MachineWord> State<W> {
     pub fn plan_xjmp(&self, r1: Reg, r2: Reg, next: Word) -> Result<Effect, FailCause>
         ensures { planned result ≡ plan_in W.look self.now (Instr.Xjmp r1 r2) next }
     {
-        let code = self.opened(r1).ok_or(FailCause::F6)?;
-        let data = self.opened(r2).ok_or(FailCause::F6)?;
-        ask(code.seal == data.seal, FailCause::F12)?;
-        let Content::Mem(c) = code.content else {
-            return Err(FailCause::F6);
-        };
-        ask(!c.lin.is_linear(), FailCause::F10)?;
-        ask(c.perm.may_run(), FailCause::F7)?;
-        let word = match data.content {
-            Content::Mem(d) => {
-                ask(!d.perm.may_run(), FailCause::F7)?;
-                Word::Mem(Cap::of(d))
-            }
-            Content::Seal(d) => Word::Seal(SealCap::of(d)),
-        };
+        let (code, data) = self.halves(r1, r2)?;
         Ok(Effect {
             spent: Some(r2),
             first: Some(Made {
                 reg: Reg::Pc,
-                word: Word::Mem(Cap::of(c)),
+                word: Word::Mem(Cap::of(code)),
             }),
             second: Some(Made {
                 reg: Reg::Dat,
-                word,
+                word: unsealed(data),
             }),
             ..Effect::none()
         })
     }
 
-    // `r1` gets sealed under the current seal of `r2`.
-    fn plan_cseal(&self, r1: Reg, r2: Reg, next: Word) -> Result<Effect, FailCause>
-        ensures { planned result ≡ plan_in W.look self.now (Instr.Cseal r1 r2) next }
+    // `r1`'s word sealed under the current seal of `r2`.
+    fn sealed(&self, r1: Reg, r2: Reg) -> Result<Word, FailCause>
+        ensures { (next : Word) → into r1 (row_gives r1 result next)
+            ≡ plan_in W.look self.now (Instr.Cseal r1 r2) next }
     {
-        into(r1)?;
+        let q = self.face(r2).seals().ok_or(FailCause::F6)?;
         let content = match self.face(r1) {
             Face::Memory(c) => Sealable::Mem(Cap::of(c)),
             Face::Seals(c) => Sealable::Seal(SealCap::of(c)),
             _ => return Err(FailCause::F6),
         };
-        let q = self.face(r2).seals().ok_or(FailCause::F6)?;
         let seal = q.current().ok_or(FailCause::F11)?;
-        Ok(Effect::making(r1, Word::Sealed(seal, content), next))
+        Ok(Word::Sealed(seal, content))
+    }
+
+    // The two parts of `r3`, of which the first ends at `n`, for two registers.
+    fn split(&self, r1: Reg, r2: Reg, r3: Reg, n: Operand) -> Result<(Cap, Cap), FailCause>
+        ensures { (next : Word) → row_splits r1 r2 r3 result next
+            ≡ plan_in W.look self.now (Instr.Split r1 r2 r3 n) next }
+    {
+        into(r1)?;
+        into(r2)?;
+        let c = self.memory(r3)?;
+        let z = self.operand(n)?;
+        parts(c, z)
+    }
+
+    // The range of `r2` and `r3` together, for a register.
+    fn spliced(&self, r1: Reg, r2: Reg, r3: Reg) -> Result<Cap, FailCause>
+        ensures { (next : Word) → row_splices r1 r2 r3 result next
+            ≡ plan_in W.look self.now (Instr.Splice r1 r2 r3) next }
+    {
+        into(r1)?;
+        let a = self.memory(r2)?;
+        let b = self.memory(r3)?;
+        joined(a, b)
     }
 
     // `r1` and `r2` get the two parts of `r3`, of which the first ends at `n`.
@@ -375,11 +412,7 @@ impl<W: MachineWord> State<W> {
     ) -> Result<Effect, FailCause>
         ensures { planned result ≡ plan_in W.look self.now (Instr.Split r1 r2 r3 n) next }
     {
-        into(r1)?;
-        into(r2)?;
-        let c = self.memory(r3)?;
-        let z = self.operand(n)?;
-        let (low, high) = parts(c, z)?;
+        let (low, high) = self.split(r1, r2, r3, n)?;
         Ok(Effect {
             spent: Some(r3),
             first: Some(Made {
@@ -399,10 +432,7 @@ impl<W: MachineWord> State<W> {
     fn plan_splice(&self, r1: Reg, r2: Reg, r3: Reg, next: Word) -> Result<Effect, FailCause>
         ensures { planned result ≡ plan_in W.look self.now (Instr.Splice r1 r2 r3) next }
     {
-        into(r1)?;
-        let a = self.memory(r2)?;
-        let b = self.memory(r3)?;
-        let both = joined(a, b)?;
+        let both = self.spliced(r1, r2, r3)?;
         Ok(Effect {
             spent: Some(r2),
             also_spent: Some(r3),
@@ -432,6 +462,35 @@ impl<W: MachineWord> State<W> {
         }
     }
 
+    // Gives a register the word that a row answers for it, and pc goes on.
+    #[inline(always)]
+    fn give(&mut self, r1: Reg, answer: Result<Word, FailCause>, next: Word) -> Step
+        requires { GoesOnTo W.look self.old next }
+        ensures { Meets self.old (outcome W.look W.plain self.old (into r1 (row_gives r1 answer next)))
+            result self.new }
+    {
+        self.carry_out(making(r1, answer, next))
+    }
+
+    // Gives a register an integer, and pc goes on.
+    #[inline(always)]
+    fn show(&mut self, r1: Reg, shown: i64, next: Word) -> Step
+        requires { GoesOnTo W.look self.old next }
+        ensures { Meets self.old (outcome W.look W.plain self.old (into r1 (makes r1 (Int shown) next)))
+            result self.new }
+    {
+        self.give(r1, Ok(Word::Int(shown)), next)
+    }
+
+    // Moves a word as a row answers, and pc goes on.
+    #[inline(always)]
+    fn pass(&mut self, answer: Result<Moved, FailCause>, next: Word) -> Step
+        requires { (e : Effect) → row_moves answer next ≡ Goes e → CanPerform W.look self.old e }
+        ensures { Meets self.old (outcome W.look W.plain self.old (row_moves answer next)) result self.new }
+    {
+        self.carry_out(moving(answer, next))
+    }
+
     // Carries out an `xjmp`. It is compiled apart, which makes the other rows quicker.
     #[inline(never)]
     #[tactic(auto, unfolding(crate::specs::Row::row))]
@@ -455,29 +514,29 @@ impl<W: MachineWord> State<W> {
             Instr::Halt => Step::Halted,
             Instr::Jmp(r1) => self.carry_out(Ok(Effect::jumping(r1))),
             Instr::Jnz(r1, r2) => self.carry_out(self.plan_jnz(r1, r2, next)),
-            Instr::Gettype(r1, r2) => self.carry_out(self.plan_gettype(r1, r2, next)),
-            Instr::Geta(r1, r2) => self.carry_out(self.plan_geta(r1, r2, next)),
-            Instr::Getb(r1, r2) => self.carry_out(self.plan_getb(r1, r2, next)),
-            Instr::Gete(r1, r2) => self.carry_out(self.plan_gete(r1, r2, next)),
-            Instr::Getp(r1, r2) => self.carry_out(self.plan_getp(r1, r2, next)),
-            Instr::Getlin(r1, r2) => self.carry_out(self.plan_getlin(r1, r2, next)),
+            Instr::Gettype(r1, r2) => self.show(r1, self.face(r2).number(), next),
+            Instr::Geta(r1, r2) => self.show(r1, self.face(r2).address(), next),
+            Instr::Getb(r1, r2) => self.show(r1, self.face(r2).base(), next),
+            Instr::Gete(r1, r2) => self.show(r1, self.face(r2).end(), next),
+            Instr::Getp(r1, r2) => self.show(r1, self.face(r2).perm(), next),
+            Instr::Getlin(r1, r2) => self.show(r1, self.linearity(r2), next),
             Instr::Move(r1, n) => self.carry_out(self.plan_move(r1, n, next)),
             Instr::Store(r1, r2) => {
-                let plan = self.plan_store(r1, r2, next);
-                self.carry_out(plan)
+                let answer = self.stored(r1, r2);
+                self.pass(answer, next)
             }
             Instr::Load(r1, r2) => {
-                let plan = self.plan_load(r1, r2, next);
-                self.carry_out(plan)
+                let answer = self.loaded(r1, r2);
+                self.pass(answer, next)
             }
-            Instr::Cca(r1, n) => self.carry_out(self.plan_cca(r1, n, next)),
-            Instr::Restrict(r1, n) => self.carry_out(self.plan_restrict(r1, n, next)),
-            Instr::Lt(r1, r2, n) => self.carry_out(self.plan_lt(r1, r2, n, next)),
-            Instr::Plus(r1, r2, n) => self.carry_out(self.plan_plus(r1, r2, n, next)),
-            Instr::Minus(r1, r2, n) => self.carry_out(self.plan_minus(r1, r2, n, next)),
-            Instr::Seta2b(r1) => self.carry_out(self.plan_seta2b(r1, next)),
+            Instr::Cca(r1, n) => self.give(r1, self.raised(r1, n), next),
+            Instr::Restrict(r1, n) => self.give(r1, self.restricted(r1, n), next),
+            Instr::Lt(r1, r2, n) => self.give(r1, self.compared(r2, n), next),
+            Instr::Plus(r1, r2, n) => self.give(r1, self.added(r2, n), next),
+            Instr::Minus(r1, r2, n) => self.give(r1, self.subtracted(r2, n), next),
+            Instr::Seta2b(r1) => self.give(r1, self.at_base(r1), next),
             Instr::Xjmp(r1, r2) => self.execute_xjmp(r1, r2, next),
-            Instr::Cseal(r1, r2) => self.carry_out(self.plan_cseal(r1, r2, next)),
+            Instr::Cseal(r1, r2) => self.give(r1, self.sealed(r1, r2), next),
             Instr::Split(r1, r2, r3, n) => self.carry_out(self.plan_split(r1, r2, r3, n, next)),
             Instr::Splice(r1, r2, r3) => self.carry_out(self.plan_splice(r1, r2, r3, next)),
         }

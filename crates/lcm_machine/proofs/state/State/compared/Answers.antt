@@ -1,0 +1,28 @@
+use Rattle.std.proofs.Common.{◌≡◌, None, rules}
+use Rattle.std.specs.Prelude.{int_lt}
+use Rattle.cap_words.specs.Faces.{int_in}
+use Rattle.lcm_machine.specs.Table.{ask, need, bit, operand}
+use Rattle.lcm_machine.specs.Row.{faces, plan_in}
+use Rattle.lcm_machine.proofs.RowsMet.{got}
+use Rattle.lcm_machine.proofs.state.State.compared.Goals as goal
+
+pub returns : goal.returns
+unfolding plan_in ask need
+returns g c = λ r1 next.
+    let x = got _ _ _ c.in_ok-x.ensures in
+    let z = got _ _ _ c.in_ok-z.ensures in
+    let is : c.bit.result ≡ bit (int_lt c.in_ok-x.x c.in_ok-z.z) = search rules in
+    rw (x, z, ← is) (search rules)
+
+pub returns-in_err-x : goal.returns-in_err-x
+unfolding plan_in ask need
+returns-in_err-x g c = λ r1 next.
+    let x : int_in (faces g.W.MachineWord.look c.args.self.now c.args.r2) ≡ None = search rules in
+    rw x (search rules)
+
+pub returns-in_err-z : goal.returns-in_err-z
+unfolding plan_in ask need
+returns-in_err-z g c = λ r1 next.
+    let x = got _ _ _ c.in_ok-x.ensures in
+    let z : operand (faces g.W.MachineWord.look c.args.self.now) c.args.n ≡ None = search rules in
+    rw (x, z) (search rules)
