@@ -1,6 +1,6 @@
 -- That what a row answers is carried out as its plan, and what the tests that it passed say.
 use Rattle.std.proofs.Common.{◌≡◌, Bool, true, false, not, refl, sym, ◌∙◌}
-use Rattle.std.specs.Prelude.{Option, Some, None, Result, Ok, Err}
+use Rattle.std.specs.Prelude.{Option, Some, None, Result, Ok}
 use Rattle.std.specs.Option.{ok_or}
 use Rattle.lcm_isa.specs.declared.Instr.{Instr}
 use Rattle.cap_words.specs.declared.Word.{Word}
@@ -11,11 +11,11 @@ use Rattle.lcm_isa.specs.declared.Reg.{Reg}
 use Rattle.cap_words.specs.declared.Face.{Face}
 use Rattle.cap_words.specs.declared.Face.TheVariants.{Number, Memory, Seals, Sealed}
 use Rattle.lcm_machine.specs.declared.FailCause.TheVariants.{F5, F6}
-use Rattle.lcm_machine.specs.Table.{ask, by_cap, into, is_pc, made, no_effect}
+use Rattle.lcm_machine.specs.Table.{ask, by_cap, into, is_pc, made, makes, no_effect}
 use Rattle.lcm_machine.specs.Plan.{Plan, Fails, Goes}
 use Rattle.lcm_machine.specs.Maps.{State}
 use Rattle.lcm_machine.specs.Ends.{Meets}
-use Rattle.lcm_machine.specs.Row.{plan_in, row_gives, CanPerform, GoesOnTo, outcome, row}
+use Rattle.lcm_machine.specs.Row.{plan_in, CanPerform, GoesOnTo, outcome, row}
 use Rattle.lcm_machine.proofs.Onward.{plan_can}
 
 module _ {W : Type 0} (look : W → Word) (plain : Word → W) (s : State W) where
@@ -32,19 +32,18 @@ module _ {W : Type 0} (look : W → Word) (plain : Word → W) (s : State W) whe
   planned_meets i j next p step t same is h = rw same (rw is at h)
 
 -- a register that isn't pc can be given a word
-module _ {W : Type 0} (look : W → Word) (s : State W) (r : Reg) (next : Word) where
-  given_there : (b : Bool) (a : Result Word FailCause) → GoesOnTo look s next → is_pc r ≡ b
-      → (e : Effect) → ask F5 (not b) (row_gives r a next) ≡ Goes e → CanPerform look s e
+module _ {W : Type 0} (look : W → Word) (s : State W) (r : Reg) (next w : Word) where
+  made_there : (b : Bool) → GoesOnTo look s next → is_pc r ≡ b
+      → (e : Effect) → ask F5 (not b) (makes r w next) ≡ Goes e → CanPerform look s e
   unfolding ask
-  given_there true a g is e h = cc
-  given_there false (Err f) g is e h = cc
-  given_there false (Ok w) g is e h =
+  made_there true g is e h = cc
+  made_there false g is e h =
       let k : record no_effect { first = made r w; next = Some next } ≡ e = cc in
       rw (sym k) (tt, g, (tt, is, tt))
 
-  pub given_can : (a : Result Word FailCause) (p : Plan) → GoesOnTo look s next
-      → p ≡ into r (row_gives r a next) → (e : Effect) → p ≡ Goes e → CanPerform look s e
-  given_can a p g is e h = given_there (is_pc r) a g refl e (sym is ∙ h)
+  pub made_can : (p : Plan) → GoesOnTo look s next → p ≡ into r (makes r w next)
+      → (e : Effect) → p ≡ Goes e → CanPerform look s e
+  made_can p g is e h = made_there (is_pc r) g refl e (sym is ∙ h)
 
 -- where either capability fails so, a word fails so
 pub fails_by_cap : (x : Face) → by_cap x (λ c. Fails F6) (λ s. Fails F6) ≡ Fails F6

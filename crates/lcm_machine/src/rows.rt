@@ -5,7 +5,6 @@
 ghost use Rattle.std.specs.Prelude.{◌≡◌, ◌+◌, ◌==◌, ◌&&◌, ◌+ℤ◌, ◌-ℤ◌, MatchResult, IfOk, true, false};
 ghost use Rattle.std.specs.Option.{ok_or};
 ghost use Rattle.lcm_isa.specs.declared.Instr.{Instr};
-ghost use Rattle.lcm_isa.specs.declared.Reg.{Reg};
 ghost use Rattle.cap_words.specs.declared.Word.{Word};
 ghost use Rattle.cap_words.specs.declared.Word.TheVariants.{Int};
 ghost use Rattle.cap_words.specs.Face.{CapInOrder, ContentInOrder};
@@ -50,13 +49,21 @@ fn bit(holds: bool) -> i64
     if holds { 1 } else { 0 }
 }
 
-// A register gets a word that a row answers, and pc goes on.
+// `r1` gets an integer that shows something of a word, and pc goes on.
 #[inline(always)]
 #[tactic(auto, unfolding(crate::specs::Table::ask))]
-fn making(r1: Reg, answer: Result<Word, FailCause>, next: Word) -> Result<Effect, FailCause>
-    ensures { planned result ≡ into r1 (row_gives r1 answer next) }
+fn shows(r1: Reg, shown: i64, next: Word) -> Result<Effect, FailCause>
+    ensures { planned result ≡ into r1 (makes r1 (Int shown) next) }
 {
     into(r1)?;
+    Ok(Effect::making(r1, Word::Int(shown), next))
+}
+
+// A register gets a word that a row answers, and pc goes on.
+#[inline(always)]
+fn making(r1: Reg, answer: Result<Word, FailCause>, next: Word) -> Result<Effect, FailCause>
+    ensures { planned result ≡ row_gives r1 answer next }
+{
     Ok(Effect::making(r1, answer?, next))
 }
 
@@ -243,9 +250,10 @@ impl<W: MachineWord> State<W> {
 
     // `r1`'s word with its address or seal raised by `n`.
     fn raised(&self, r1: Reg, n: Operand) -> Result<Word, FailCause>
-        ensures { (next : Word) → into r1 (row_gives r1 result next)
+        ensures { (next : Word) → row_gives r1 result next
             ≡ plan_in W.look self.now (Instr.Cca r1 n) next }
     {
+        into(r1)?;
         let face = self.face(r1);
         let z = self.operand(n)?;
         match face {
@@ -263,9 +271,10 @@ impl<W: MachineWord> State<W> {
 
     // `r1`'s word with the permission of number `n`, which may allow no more.
     fn restricted(&self, r1: Reg, n: Operand) -> Result<Word, FailCause>
-        ensures { (next : Word) → into r1 (row_gives r1 result next)
+        ensures { (next : Word) → row_gives r1 result next
             ≡ plan_in W.look self.now (Instr.Restrict r1 n) next }
     {
+        into(r1)?;
         let c = self.memory(r1)?;
         let z = self.operand(n)?;
         let perm = Perm::of(z).ok_or(FailCause::F7)?;
@@ -274,30 +283,33 @@ impl<W: MachineWord> State<W> {
     }
 
     // 1 where `r2` is below `n`, and else 0.
-    fn compared(&self, r2: Reg, n: Operand) -> Result<Word, FailCause>
-        ensures { (r1 : Reg) (next : Word) → into r1 (row_gives r1 result next)
+    fn compared(&self, r1: Reg, r2: Reg, n: Operand) -> Result<Word, FailCause>
+        ensures { (next : Word) → row_gives r1 result next
             ≡ plan_in W.look self.now (Instr.Lt r1 r2 n) next }
     {
+        into(r1)?;
         let x = self.int(r2)?;
         let z = self.operand(n)?;
         Ok(Word::Int(bit(x < z)))
     }
 
     // The sum of `r2` and `n`.
-    fn added(&self, r2: Reg, n: Operand) -> Result<Word, FailCause>
-        ensures { (r1 : Reg) (next : Word) → into r1 (row_gives r1 result next)
+    fn added(&self, r1: Reg, r2: Reg, n: Operand) -> Result<Word, FailCause>
+        ensures { (next : Word) → row_gives r1 result next
             ≡ plan_in W.look self.now (Instr.Plus r1 r2 n) next }
     {
+        into(r1)?;
         let x = self.int(r2)?;
         let z = self.operand(n)?;
         Ok(Word::Int(sum(x, z)?))
     }
 
     // `r2` less `n`.
-    fn subtracted(&self, r2: Reg, n: Operand) -> Result<Word, FailCause>
-        ensures { (r1 : Reg) (next : Word) → into r1 (row_gives r1 result next)
+    fn subtracted(&self, r1: Reg, r2: Reg, n: Operand) -> Result<Word, FailCause>
+        ensures { (next : Word) → row_gives r1 result next
             ≡ plan_in W.look self.now (Instr.Minus r1 r2 n) next }
     {
+        into(r1)?;
         let x = self.int(r2)?;
         let z = self.operand(n)?;
         Ok(Word::Int(difference(x, z)?))
@@ -305,9 +317,10 @@ impl<W: MachineWord> State<W> {
 
     // `r1`'s word with its base as its address or seal.
     fn at_base(&self, r1: Reg) -> Result<Word, FailCause>
-        ensures { (next : Word) → into r1 (row_gives r1 result next)
+        ensures { (next : Word) → row_gives r1 result next
             ≡ plan_in W.look self.now (Instr.Seta2b r1) next }
     {
+        into(r1)?;
         match self.face(r1) {
             Face::Memory(c) => {
                 let addr = i64::from(c.base);
@@ -365,9 +378,10 @@ impl<W: MachineWord> State<W> {
 
     // `r1`'s word sealed under the current seal of `r2`.
     fn sealed(&self, r1: Reg, r2: Reg) -> Result<Word, FailCause>
-        ensures { (next : Word) → into r1 (row_gives r1 result next)
+        ensures { (next : Word) → row_gives r1 result next
             ≡ plan_in W.look self.now (Instr.Cseal r1 r2) next }
     {
+        into(r1)?;
         let q = self.face(r2).seals().ok_or(FailCause::F6)?;
         let content = match self.face(r1) {
             Face::Memory(c) => Sealable::Mem(Cap::of(c)),
@@ -465,21 +479,21 @@ impl<W: MachineWord> State<W> {
     // Gives a register the word that a row answers for it, and pc goes on.
     #[inline(always)]
     fn give(&mut self, r1: Reg, answer: Result<Word, FailCause>, next: Word) -> Step
-        requires { GoesOnTo W.look self.old next }
-        ensures { Meets self.old (outcome W.look W.plain self.old (into r1 (row_gives r1 answer next)))
+        requires { (e : Effect) → row_gives r1 answer next ≡ Goes e → CanPerform W.look self.old e }
+        ensures { Meets self.old (outcome W.look W.plain self.old (row_gives r1 answer next))
             result self.new }
     {
         self.carry_out(making(r1, answer, next))
     }
 
-    // Gives a register an integer, and pc goes on.
+    // Gives a register an integer that shows something of a word, and pc goes on.
     #[inline(always)]
     fn show(&mut self, r1: Reg, shown: i64, next: Word) -> Step
         requires { GoesOnTo W.look self.old next }
         ensures { Meets self.old (outcome W.look W.plain self.old (into r1 (makes r1 (Int shown) next)))
             result self.new }
     {
-        self.give(r1, Ok(Word::Int(shown)), next)
+        self.carry_out(shows(r1, shown, next))
     }
 
     // Moves a word as a row answers, and pc goes on.
@@ -531,9 +545,9 @@ impl<W: MachineWord> State<W> {
             }
             Instr::Cca(r1, n) => self.give(r1, self.raised(r1, n), next),
             Instr::Restrict(r1, n) => self.give(r1, self.restricted(r1, n), next),
-            Instr::Lt(r1, r2, n) => self.give(r1, self.compared(r2, n), next),
-            Instr::Plus(r1, r2, n) => self.give(r1, self.added(r2, n), next),
-            Instr::Minus(r1, r2, n) => self.give(r1, self.subtracted(r2, n), next),
+            Instr::Lt(r1, r2, n) => self.give(r1, self.compared(r1, r2, n), next),
+            Instr::Plus(r1, r2, n) => self.give(r1, self.added(r1, r2, n), next),
+            Instr::Minus(r1, r2, n) => self.give(r1, self.subtracted(r1, r2, n), next),
             Instr::Seta2b(r1) => self.give(r1, self.at_base(r1), next),
             Instr::Xjmp(r1, r2) => self.execute_xjmp(r1, r2, next),
             Instr::Cseal(r1, r2) => self.give(r1, self.sealed(r1, r2), next),

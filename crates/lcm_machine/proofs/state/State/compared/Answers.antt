@@ -8,21 +8,21 @@ use Rattle.lcm_machine.proofs.state.State.compared.Goals as goal
 
 pub returns : goal.returns
 unfolding plan_in ask need
-returns g c = λ r1 next.
+returns g c = λ next.
     let x = got _ _ _ c.in_ok-x.ensures in
     let z = got _ _ _ c.in_ok-z.ensures in
     let is : c.bit.result ≡ bit (int_lt c.in_ok-x.x c.in_ok-z.z) = search rules in
-    rw (x, z, ← is) (search rules)
+    rw (c.in_ok-into.ensures, x, z, ← is) (search rules)
 
 pub returns-in_err-x : goal.returns-in_err-x
 unfolding plan_in ask need
-returns-in_err-x g c = λ r1 next.
+returns-in_err-x g c = λ next.
     let x : int_in (faces g.W.MachineWord.look c.args.self.now c.args.r2) ≡ None = search rules in
-    rw x (search rules)
+    rw (c.in_ok-into.ensures, x) (search rules)
 
 pub returns-in_err-z : goal.returns-in_err-z
 unfolding plan_in ask need
-returns-in_err-z g c = λ r1 next.
+returns-in_err-z g c = λ next.
     let x = got _ _ _ c.in_ok-x.ensures in
     let z : operand (faces g.W.MachineWord.look c.args.self.now) c.args.n ≡ None = search rules in
-    rw (x, z) (search rules)
+    rw (c.in_ok-into.ensures, x, z) (search rules)

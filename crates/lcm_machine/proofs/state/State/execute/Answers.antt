@@ -113,35 +113,84 @@ returns-in-Load g c =
     planned_meets g.W.MachineWord.look g.W.MachineWord.plain c.args.self.now _ _ _ _ _ _ c.in-Load.is
     (c.loaded-answer.ensures.is _) (rw c.loaded-answer.ensures.same at c.pass-in-Load.ensures)
 
+pub give-requires : goal.give-requires
+give-requires g c = (
+  search rules,
+  planned_can g.W.MachineWord.look g.W.MachineWord.plain c.args.self.now _ _ _
+      c.requires (c.raised.ensures _),
+)
+
 pub returns-in-Cca : goal.returns-in-Cca
 returns-in-Cca g c =
     planned_meets g.W.MachineWord.look g.W.MachineWord.plain c.args.self.now _ _ _ _ _ _ c.in-Cca.is
     (c.raised.ensures _) c.give.ensures
+
+pub give-requires-in-Restrict : goal.give-requires-in-Restrict
+give-requires-in-Restrict g c = (
+  search rules,
+  planned_can g.W.MachineWord.look g.W.MachineWord.plain c.args.self.now _ _ _
+      c.requires (c.restricted.ensures _),
+)
 
 pub returns-in-Restrict : goal.returns-in-Restrict
 returns-in-Restrict g c =
     planned_meets g.W.MachineWord.look g.W.MachineWord.plain c.args.self.now _ _ _ _ _ _ c.in-Restrict.is
     (c.restricted.ensures _) c.give-in-Restrict.ensures
 
+pub give-requires-in-Lt : goal.give-requires-in-Lt
+give-requires-in-Lt g c = (
+  search rules,
+  planned_can g.W.MachineWord.look g.W.MachineWord.plain c.args.self.now _ _ _
+      c.requires (c.compared.ensures _),
+)
+
 pub returns-in-Lt : goal.returns-in-Lt
 returns-in-Lt g c =
     planned_meets g.W.MachineWord.look g.W.MachineWord.plain c.args.self.now _ _ _ _ _ _ c.in-Lt.is
-    (c.compared.ensures _ _) c.give-in-Lt.ensures
+    (c.compared.ensures _) c.give-in-Lt.ensures
+
+pub give-requires-in-Plus : goal.give-requires-in-Plus
+give-requires-in-Plus g c = (
+  search rules,
+  planned_can g.W.MachineWord.look g.W.MachineWord.plain c.args.self.now _ _ _
+      c.requires (c.added.ensures _),
+)
 
 pub returns-in-Plus : goal.returns-in-Plus
 returns-in-Plus g c =
     planned_meets g.W.MachineWord.look g.W.MachineWord.plain c.args.self.now _ _ _ _ _ _ c.in-Plus.is
-    (c.added.ensures _ _) c.give-in-Plus.ensures
+    (c.added.ensures _) c.give-in-Plus.ensures
+
+pub give-requires-in-Minus : goal.give-requires-in-Minus
+give-requires-in-Minus g c = (
+  search rules,
+  planned_can g.W.MachineWord.look g.W.MachineWord.plain c.args.self.now _ _ _
+      c.requires (c.subtracted.ensures _),
+)
 
 pub returns-in-Minus : goal.returns-in-Minus
 returns-in-Minus g c =
     planned_meets g.W.MachineWord.look g.W.MachineWord.plain c.args.self.now _ _ _ _ _ _ c.in-Minus.is
-    (c.subtracted.ensures _ _) c.give-in-Minus.ensures
+    (c.subtracted.ensures _) c.give-in-Minus.ensures
+
+pub give-requires-in-Seta2b : goal.give-requires-in-Seta2b
+give-requires-in-Seta2b g c = (
+  search rules,
+  planned_can g.W.MachineWord.look g.W.MachineWord.plain c.args.self.now _ _ _
+      c.requires (c.at_base.ensures _),
+)
 
 pub returns-in-Seta2b : goal.returns-in-Seta2b
 returns-in-Seta2b g c =
     planned_meets g.W.MachineWord.look g.W.MachineWord.plain c.args.self.now _ _ _ _ _ _ c.in-Seta2b.is
     (c.at_base.ensures _) c.give-in-Seta2b.ensures
+
+pub give-requires-in-Cseal : goal.give-requires-in-Cseal
+give-requires-in-Cseal g c = (
+  search rules,
+  planned_can g.W.MachineWord.look g.W.MachineWord.plain c.args.self.now _ _ _
+      c.requires (c.sealed.ensures _),
+)
 
 pub returns-in-Cseal : goal.returns-in-Cseal
 returns-in-Cseal g c =

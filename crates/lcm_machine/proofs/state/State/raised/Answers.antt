@@ -12,7 +12,7 @@ returns-in_ok-addr-in-Memory g c = λ next.
     let z = got _ _ _ c.in_ok-z.ensures in
     let fits : fits_64 (c.in-Memory.c.addr +ℤ c.in_ok-z.z) ≡ true = search rules in
     let is : c.in_ok-addr-in-Memory.addr ≡ c.in-Memory.c.addr +ℤ c.in_ok-z.z = search rules in
-    rw (face, z, fits, ← is) (search rules)
+    rw (c.in_ok-into.ensures, face, z, fits, ← is) (search rules)
 
 pub returns-in_ok-cur-in-Seals : goal.returns-in_ok-cur-in-Seals
 unfolding plan_in ask need by_cap
@@ -21,13 +21,13 @@ returns-in_ok-cur-in-Seals g c = λ next.
     let z = got _ _ _ c.in_ok-z.ensures in
     let fits : fits_64 (c.in-Seals.c.cur +ℤ c.in_ok-z.z) ≡ true = search rules in
     let is : c.in_ok-cur-in-Seals.cur ≡ c.in-Seals.c.cur +ℤ c.in_ok-z.z = search rules in
-    rw (face, z, fits, ← is) (search rules)
+    rw (c.in_ok-into.ensures, face, z, fits, ← is) (search rules)
 
 pub returns-in_err-z : goal.returns-in_err-z
 unfolding plan_in ask need by_cap
 returns-in_err-z g c = λ next.
     let z : operand (faces g.W.MachineWord.look c.args.self.now) c.args.n ≡ None = search rules in
-    rw (z, fails_by_cap (faces g.W.MachineWord.look c.args.self.now c.args.r1)) (search rules)
+    rw (c.in_ok-into.ensures, z, fails_by_cap (faces g.W.MachineWord.look c.args.self.now c.args.r1)) (search rules)
 
 pub returns-in_err-addr-in-Memory : goal.returns-in_err-addr-in-Memory
 unfolding plan_in ask need by_cap
@@ -35,7 +35,7 @@ returns-in_err-addr-in-Memory g c = λ next.
     let face : faces g.W.MachineWord.look c.args.self.now c.args.r1 ≡ Memory c.in-Memory.c = search rules in
     let z = got _ _ _ c.in_ok-z.ensures in
     let over : fits_64 (c.in-Memory.c.addr +ℤ c.in_ok-z.z) ≡ false = search rules in
-    rw (face, z, over) (search rules)
+    rw (c.in_ok-into.ensures, face, z, over) (search rules)
 
 pub returns-in_err-cur-in-Seals : goal.returns-in_err-cur-in-Seals
 unfolding plan_in ask need by_cap
@@ -43,4 +43,4 @@ returns-in_err-cur-in-Seals g c = λ next.
     let face : faces g.W.MachineWord.look c.args.self.now c.args.r1 ≡ Seals c.in-Seals.c = search rules in
     let z = got _ _ _ c.in_ok-z.ensures in
     let over : fits_64 (c.in-Seals.c.cur +ℤ c.in_ok-z.z) ≡ false = search rules in
-    rw (face, z, over) (search rules)
+    rw (c.in_ok-into.ensures, face, z, over) (search rules)

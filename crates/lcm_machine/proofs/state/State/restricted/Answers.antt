@@ -12,7 +12,7 @@ returns g c = λ next.
     let z = got _ _ _ c.in_ok-z.ensures in
     let perm : perm_at c.in_ok-z.z ≡ Some c.in_ok-perm.perm = search rules in
     let below : is_below c.in_ok-perm.perm c.in_ok-c.c.perm ≡ true = search rules in
-    rw (memory, z, perm, below) (search rules)
+    rw (c.in_ok-into.ensures, memory, z, perm, below) (search rules)
 
 pub returns-in_err-perm : goal.returns-in_err-perm
 unfolding plan_in ask need
@@ -20,7 +20,7 @@ returns-in_err-perm g c = λ next.
     let memory = got _ _ _ c.in_ok-c.ensures.is in
     let z = got _ _ _ c.in_ok-z.ensures in
     let perm : perm_at c.in_ok-z.z ≡ None = search rules in
-    rw (memory, z, perm) (search rules)
+    rw (c.in_ok-into.ensures, memory, z, perm) (search rules)
 
 pub returns-in_err-ask : goal.returns-in_err-ask
 unfolding plan_in ask need
@@ -29,4 +29,4 @@ returns-in_err-ask g c = λ next.
     let z = got _ _ _ c.in_ok-z.ensures in
     let perm : perm_at c.in_ok-z.z ≡ Some c.in_ok-perm.perm = search rules in
     let below : is_below c.in_ok-perm.perm c.in_ok-c.c.perm ≡ false = search rules in
-    rw (memory, z, perm, below) (search rules)
+    rw (c.in_ok-into.ensures, memory, z, perm, below) (search rules)
