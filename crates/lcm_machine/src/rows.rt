@@ -393,6 +393,7 @@ impl<W: MachineWord> State<W> {
     }
 
     // The two parts of `r3`, of which the first ends at `n`, for two registers.
+    #[inline(always)]
     fn split(&self, r1: Reg, r2: Reg, r3: Reg, n: Operand) -> Result<(Cap, Cap), FailCause>
         ensures { (next : Word) → row_splits r1 r2 r3 result next
             ≡ plan_in W.look self.now (Instr.Split r1 r2 r3 n) next }
@@ -405,6 +406,7 @@ impl<W: MachineWord> State<W> {
     }
 
     // The range of `r2` and `r3` together, for a register.
+    #[inline(always)]
     fn spliced(&self, r1: Reg, r2: Reg, r3: Reg) -> Result<Cap, FailCause>
         ensures { (next : Word) → row_splices r1 r2 r3 result next
             ≡ plan_in W.look self.now (Instr.Splice r1 r2 r3) next }
