@@ -1,7 +1,7 @@
 //! The rows of the instruction table: what each instruction is to do in a state.
 //!
-//! A row makes its tests in the order of the table. It answers the effect to carry out, or the cause
-//! of the first test that fails.
+//! A row makes its tests in the order of the table. It answers what is to be done, as an effect, as the
+//! word that a register gets or as a word that moves, or the cause of the first test that fails.
 ghost use Rattle.std.specs.Prelude.{◌≡◌, ◌+◌, ◌==◌, ◌&&◌, ◌+ℤ◌, ◌-ℤ◌, MatchResult, IfOk, true, false};
 ghost use Rattle.std.specs.Option.{ok_or};
 ghost use Rattle.lcm_isa.specs.declared.Instr.{Instr};
