@@ -3,5 +3,6 @@ pub mod CanWrite
 pub mod FieldLaws
 pub mod ListLaws
 pub mod ComponentLaws
+pub mod Parts
 pub mod Lengths
 pub mod Offers

@@ -1,6 +1,11 @@
--- Lists that are read one item after another, each told the one before it.
+-- Lists that are read one item after another, each told the one before it, and lists that are written so.
 use Rattle.std.proofs.Common.{◌≡◌, ℕ, zero, suc, ◌+◌, ◌-◌, ◌<◌, ◌≤◌, List, [], ◌∷◌, ◌++◌, length, Option}
-use Rattle.std.proofs.Common.{Some, None, Result, Ok, refl, ap, ◌∙◌, arith, length-append}
+use Rattle.std.proofs.Common.{Some, None, Result, Ok, refl, sym, ap, ◌∙◌, arith, length-append}
+use Rattle.std.proofs.Common.{append-nil, append_assoc}
+use Rattle.std.proofs.Math.ListN.{get_or}
+use Rattle.std.proofs.Math.Seq.{take-suc}
+use Rattle.std.proofs.lemmas.Grind.{flat_map-append}
+use Rattle.std.specs.List.{flat_map}
 use Rattle.std.specs.Prelude.{slice_get, take, set}
 use Rattle.std.proofs.lemmas.List.{take_more_set, take_all}
 use Rattle.readers.specs.Readers.{Reader, items_from}
@@ -53,3 +58,17 @@ pub read_places : {A : Type 0} (r : Reader Input FileFault A) (items : List A) (
 read_places r items count i bytes total le len so_far =
     read_all (λ _ y. Some y) (λ _. r) (take i items) None count i bytes total le so_far
     ∙ ap (λ l. Ok (l, bytes)) (take_all i items (omega (arith, len)))
+
+-- ---- what is written of a list
+
+-- one item more is written after those before it
+pub one_more : {A : Type 0} (f : A → List ℕ) (text : List ℕ) (xs : List A) (i : ℕ) (x : A) → i < length xs
+    → x ≡ get_or xs i x → (text ++ flat_map f (take i xs)) ++ f x ≡ text ++ flat_map f (take (i + 1) xs)
+one_more f text xs i x lt is =
+    let next : i + 1 ≡ suc i = omega arith in
+    let more : flat_map f (take (i + 1) xs) ≡ flat_map f (take i xs) ++ f x =
+    ap (λ n. flat_map f (take n xs)) next
+    ∙ ap (flat_map f) (take-suc xs i x lt)
+    ∙ flat_map-append f (take i xs) (get_or xs i x ∷ [])
+    ∙ ap (λ l. flat_map f (take i xs) ++ l) (append-nil (f (get_or xs i x)) ∙ ap f (sym is)) in
+    append_assoc text (flat_map f (take i xs)) (f x) ∙ ap (λ l. text ++ l) (sym more)

@@ -3,3 +3,4 @@ pub mod FaultText
 pub mod Limits
 pub mod Spelling
 pub mod Reading
+pub mod Parts

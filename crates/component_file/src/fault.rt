@@ -1,7 +1,8 @@
 //! Why a component file can't be read.
-ghost use Rattle.std.specs.Prelude.{◌≡◌};
+ghost use Rattle.std.specs.Prelude.{◌≡◌, option_map};
 ghost use Rattle.component_file.specs.declared.fault.FileFault.TheVariants.{NoMemory};
 ghost use Rattle.component_file.specs.Fault.{in_file, fault_number, fault_place};
+ghost use Rattle.component_file.specs.FaultText.{IsWordsOf};
 
 use cap_words::FieldFault;
 use std::alloc::{AllocError, AllocFailed};
@@ -58,6 +59,21 @@ impl FileFault {
             FileFault::Magic | FileFault::Version | FileFault::NoMemory => 0,
         }
     }
+
+    // What its text says before its place, and after it if it tells one.
+    fn words(self) -> (&'static str, Option<&'static str>)
+        ensures { IsWordsOf self result.0.now (option_map (λ after. after.now) result.1) }
+    {
+        match self {
+            FileFault::Magic => ("the file does not begin with STKC", None),
+            FileFault::Version => ("the version is neither 1 nor 2", None),
+            FileFault::Short(_) => ("the file ends within the field at byte ", Some("")),
+            FileFault::BadField(_) => ("the field at byte ", Some(" is not valid")),
+            FileFault::Order(_) => ("the item at byte ", Some(" is out of order")),
+            FileFault::Trailing(_) => ("the component ends before byte ", Some("")),
+            FileFault::NoMemory => ("out of memory", None),
+        }
+    }
 }
 
 impl fmt::Display for FileFault {
@@ -67,14 +83,9 @@ impl fmt::Display for FileFault {
     ghost output = { λ fault. Some (file_fault_text fault) };
 
     fn fmt<W: fmt::Write>(&self, f: &mut fmt::Formatter<W>) -> fmt::Result {
-        match self {
-            FileFault::Magic => write!(f, "the file does not begin with STKC"),
-            FileFault::Version => write!(f, "the version is neither 1 nor 2"),
-            FileFault::Short(at) => write!(f, "the file ends within the field at byte {at}"),
-            FileFault::BadField(at) => write!(f, "the field at byte {at} is not valid"),
-            FileFault::Order(at) => write!(f, "the item at byte {at} is out of order"),
-            FileFault::Trailing(at) => write!(f, "the component ends before byte {at}"),
-            FileFault::NoMemory => write!(f, "out of memory"),
+        match self.words() {
+            (text, None) => f.write_str(text),
+            (before, Some(after)) => write!(f, "{before}{}{after}", self.place()),
         }
     }
 }

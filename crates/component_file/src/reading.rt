@@ -5,10 +5,11 @@ ghost use Rattle.component_file.specs.Spelling.{SpellsComponent};
 ghost use Rattle.component_file.specs.declared.component.ComponentFields.{ComponentFields};
 ghost use Rattle.component_file.specs.Fault.{is_refusal};
 ghost use Rattle.readers.specs.Answers.{GivesUnlessRefused, AnswersUnlessRefused};
-ghost use Rattle.component_file.specs.Reading.{field, next_header, version_meant, next_words, next_component};
+ghost use Rattle.component_file.specs.Reading.{field, next_header, version_meant, next_words};
 ghost use Rattle.component_file.specs.Reading.{decoded};
+ghost use Rattle.component_file.specs.Parts.{next_head, next_memory, next_calls, next_declared, next_parts};
 
-use crate::component::{Area, Component, ComponentFields};
+use crate::component::{Area, Component, ComponentFields, Export, Import, KindRow};
 use crate::fault::FileFault;
 use crate::fields::{address, optional, stretch};
 use crate::listed::{long_list, name, short_list};
@@ -50,10 +51,20 @@ fn words(alloc: Global, bytes: &mut Cursor<'_>) -> Result<Items<Word>, FileFault
     long_list(alloc, 1, MOST_WORDS, bytes)
 }
 
-// Each field in its turn.
-#[tactic(auto, unfolding(crate::specs::Reading::next_component, readers::specs::Readers::telling))]
-fn component(alloc: Global, bytes: &mut Cursor<'_>) -> Result<ComponentFields, FileFault>
-    ensures { GivesUnlessRefused is_refusal result bytes.new (next_component bytes.old) }
+// What stands in front of the code.
+#[derive(Drop)]
+struct Head {
+    movable: bool,
+    name: Items<u8>,
+    stack_base: u32,
+    closure: u32,
+    seals: SealRange,
+    linear: Area,
+}
+
+#[tactic(auto, unfolding(crate::specs::Parts::next_head, readers::specs::Readers::telling))]
+fn read_head(alloc: Global, bytes: &mut Cursor<'_>) -> Result<Head, FileFault>
+    ensures { GivesUnlessRefused is_refusal result bytes.new (next_head bytes.old) }
 {
     let movable = header(bytes)?;
     let name = name(alloc, bytes)?;
@@ -63,38 +74,116 @@ fn component(alloc: Global, bytes: &mut Cursor<'_>) -> Result<ComponentFields, F
     let seals = SealRange::new(base, count);
     let (base, count) = stretch(bytes)?;
     let linear = Area { base, count };
-    let code_base = address(bytes)?;
-    let code = words(alloc, bytes)?;
-    let data_base = address(bytes)?;
-    let data_words = words(alloc, bytes)?;
-    let imports = short_list(alloc, MOST_IMPORTS, bytes)?;
-    let exports = short_list(alloc, MOST_EXPORTS, bytes)?;
-    let sites = short_list(alloc, MOST_SITES, bytes)?;
-    let fail_at = optional(bytes)?;
-    let literal_at = optional(bytes)?;
-    let rows = long_list(alloc, 0, MOST_ROWS, bytes)?;
-    Ok(ComponentFields {
+    Ok(Head {
+        movable,
         name,
         stack_base,
         closure,
         seals,
         linear,
+    })
+}
+
+// The code, and the data.
+#[derive(Drop)]
+struct Memory {
+    code_base: u32,
+    code: Items<Word>,
+    data_base: u32,
+    data_words: Items<Word>,
+}
+
+#[tactic(auto, unfolding(crate::specs::Parts::next_memory, readers::specs::Readers::telling))]
+fn read_memory(alloc: Global, bytes: &mut Cursor<'_>) -> Result<Memory, FileFault>
+    ensures { GivesUnlessRefused is_refusal result bytes.new (next_memory bytes.old) }
+{
+    let code_base = address(bytes)?;
+    let code = words(alloc, bytes)?;
+    let data_base = address(bytes)?;
+    let data_words = words(alloc, bytes)?;
+    Ok(Memory {
         code_base,
         code,
         data_base,
         data_words,
+    })
+}
+
+// What it calls, and what others may call.
+#[derive(Drop)]
+struct Calls {
+    imports: Items<Import>,
+    exports: Items<Export>,
+    sites: Items<u32>,
+}
+
+#[tactic(auto, unfolding(crate::specs::Parts::next_calls))]
+fn read_calls(alloc: Global, bytes: &mut Cursor<'_>) -> Result<Calls, FileFault>
+    ensures { GivesUnlessRefused is_refusal result bytes.new (next_calls bytes.old) }
+{
+    let imports = short_list(alloc, MOST_IMPORTS, bytes)?;
+    let exports = short_list(alloc, MOST_EXPORTS, bytes)?;
+    let sites = short_list(alloc, MOST_SITES, bytes)?;
+    Ok(Calls {
         imports,
         exports,
         sites,
+    })
+}
+
+// What is declared of the code.
+#[derive(Drop)]
+struct Declared {
+    fail_at: Option<u32>,
+    literal_at: Option<u32>,
+    rows: Items<KindRow>,
+}
+
+#[tactic(auto, unfolding(crate::specs::Parts::next_declared, readers::specs::Readers::telling))]
+fn read_declared(alloc: Global, bytes: &mut Cursor<'_>) -> Result<Declared, FileFault>
+    ensures { GivesUnlessRefused is_refusal result bytes.new (next_declared bytes.old) }
+{
+    let fail_at = optional(bytes)?;
+    let literal_at = optional(bytes)?;
+    let rows = long_list(alloc, 0, MOST_ROWS, bytes)?;
+    Ok(Declared {
         fail_at,
         literal_at,
         rows,
-        movable,
+    })
+}
+
+// Each part in its turn.
+#[tactic(auto, unfolding(crate::specs::Parts::next_parts))]
+fn component(alloc: Global, bytes: &mut Cursor<'_>) -> Result<ComponentFields, FileFault>
+    ensures { GivesUnlessRefused is_refusal result bytes.new (next_parts bytes.old) }
+{
+    let head = read_head(alloc, bytes)?;
+    let memory = read_memory(alloc, bytes)?;
+    let calls = read_calls(alloc, bytes)?;
+    let declared = read_declared(alloc, bytes)?;
+    Ok(ComponentFields {
+        name: head.name,
+        stack_base: head.stack_base,
+        closure: head.closure,
+        seals: head.seals,
+        linear: head.linear,
+        code_base: memory.code_base,
+        code: memory.code,
+        data_base: memory.data_base,
+        data_words: memory.data_words,
+        imports: calls.imports,
+        exports: calls.exports,
+        sites: calls.sites,
+        fail_at: declared.fail_at,
+        literal_at: declared.literal_at,
+        rows: declared.rows,
+        movable: head.movable,
     })
 }
 
 // The component of all the bytes.
-#[tactic(auto, unfolding(crate::specs::Reading::decoded))]
+#[tactic(auto, using(crate::proofs::Parts::all_parts), unfolding(crate::specs::Reading::decoded))]
 fn whole(alloc: Global, bytes: &[u8]) -> Result<ComponentFields, FileFault>
     requires { length bytes.now < 2 ^ 32 }
     ensures { AnswersUnlessRefused is_refusal result (decoded bytes.now) }

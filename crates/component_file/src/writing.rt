@@ -1,12 +1,13 @@
 //! Components to bytes.
 ghost use Rattle.std.specs.Prelude.{◌≡◌, ◌<◌, ◌^◌, ◌++◌, ℕ, List, [], length, OnOk, IfOk};
-ghost use Rattle.std.specs.List.{flat_map, AllByRecursion};
+ghost use Rattle.std.specs.List.{concat, flat_map, AllByRecursion};
 ghost use Rattle.cap_words.specs.WordBytes.{SealInSpace, word_bytes_of};
 ghost use Rattle.component_file.specs.Spelling.{u32_bytes, name_bytes, stretch_bytes, list_bytes};
 ghost use Rattle.component_file.specs.Spelling.{import_bytes, export_bytes, optional_bytes, kind_bytes};
 ghost use Rattle.component_file.specs.Spelling.{row_bytes, version_of, SpellsComponent};
 ghost use Rattle.component_file.specs.Spelling.{NamesAreShort, NameIsShort};
 ghost use Rattle.component_file.specs.Spelling.{Always, spelling};
+ghost use Rattle.component_file.specs.Parts.{head_pieces, memory_pieces, calls_pieces, declared_pieces};
 ghost use Rattle.component_file.specs.Limits.{IsComponent};
 
 use crate::component::{Component, ComponentFields, Export, Import, Kind, KindRow};
@@ -183,11 +184,10 @@ fn version_of(movable: bool) -> u16
     }
 }
 
-// The fields of a component, one after another.
-fn push_fields(out: &mut Vec<u8>, fields: &ComponentFields) -> Result<(), AllocError>
-    requires empty { out.old.items ≡ [] }
-    requires fits { IsComponent fields.now }
-    ensures { OnOk result (out.new.items ≡ spelling fields.now) }
+// What stands in front of the code.
+fn push_head(out: &mut Vec<u8>, fields: &ComponentFields) -> Result<(), AllocError>
+    requires { IsComponent fields.now }
+    ensures { OnOk result (out.new.items ≡ out.old.items ++ concat (head_pieces fields.now)) }
 {
     out.extend_from_slice(b"STKC")?;
     push_u16(out, version_of(fields.movable))?;
@@ -196,16 +196,53 @@ fn push_fields(out: &mut Vec<u8>, fields: &ComponentFields) -> Result<(), AllocE
     push_u32(out, fields.closure)?;
     push_stretch(out, fields.seals.base(), fields.seals.count())?;
     push_stretch(out, fields.linear.base, fields.linear.count)?;
+    Ok(())
+}
+
+// The code, and the data.
+fn push_memory(out: &mut Vec<u8>, fields: &ComponentFields) -> Result<(), AllocError>
+    requires { IsComponent fields.now }
+    ensures { OnOk result (out.new.items ≡ out.old.items ++ concat (memory_pieces fields.now)) }
+{
     push_u32(out, fields.code_base)?;
     push_long_list(out, fields.code.as_slice())?;
     push_u32(out, fields.data_base)?;
     push_long_list(out, fields.data_words.as_slice())?;
+    Ok(())
+}
+
+// What it calls, and what others may call.
+fn push_calls(out: &mut Vec<u8>, fields: &ComponentFields) -> Result<(), AllocError>
+    requires { IsComponent fields.now }
+    ensures { OnOk result (out.new.items ≡ out.old.items ++ concat (calls_pieces fields.now)) }
+{
     push_short_list(out, fields.imports.as_slice())?;
     push_short_list(out, fields.exports.as_slice())?;
     push_short_list(out, fields.sites.as_slice())?;
+    Ok(())
+}
+
+// What is declared of the code.
+fn push_declared(out: &mut Vec<u8>, fields: &ComponentFields) -> Result<(), AllocError>
+    requires { IsComponent fields.now }
+    ensures { OnOk result (out.new.items ≡ out.old.items ++ concat (declared_pieces fields.now)) }
+{
     push_optional(out, fields.fail_at)?;
     push_optional(out, fields.literal_at)?;
     push_long_list(out, fields.rows.as_slice())?;
+    Ok(())
+}
+
+// The fields of a component, one after another.
+fn push_fields(out: &mut Vec<u8>, fields: &ComponentFields) -> Result<(), AllocError>
+    requires empty { out.old.items ≡ [] }
+    requires fits { IsComponent fields.now }
+    ensures { OnOk result (out.new.items ≡ spelling fields.now) }
+{
+    push_head(out, fields)?;
+    push_memory(out, fields)?;
+    push_calls(out, fields)?;
+    push_declared(out, fields)?;
     Ok(())
 }
 
