@@ -1,7 +1,8 @@
 //! Why a text isn't assembled.
-ghost use Rattle.std.specs.Prelude.{◌≡◌};
+ghost use Rattle.std.specs.Prelude.{◌≡◌, option_map};
 ghost use Rattle.asm_fields.specs.declared.fault.AsmFault.TheVariants.{NoMemory};
 ghost use Rattle.asm_fields.specs.Fault.{of_scan, fault_number, fault_place};
+ghost use Rattle.asm_fields.specs.FaultText.{IsWhy};
 
 use std::alloc::{AllocError, AllocFailed};
 use std::error::Error;
@@ -69,6 +70,21 @@ impl AsmFault {
             AsmFault::NoMemory => 0,
         }
     }
+
+    // What is wrong at its byte, where its text tells the byte.
+    fn why(self) -> Option<&'static str>
+        ensures { IsWhy self (option_map (λ why. why.now) result) }
+    {
+        match self {
+            AsmFault::Unknown(_) => Some("no directive or instruction"),
+            AsmFault::Operand(_) => Some("a missing, extra or wrong operand"),
+            AsmFault::LabelTwice(_) => Some("this label stands twice"),
+            AsmFault::LabelMissing(_) => Some("there is no such label"),
+            AsmFault::Range(_) => Some("the number is out of its bounds"),
+            AsmFault::Section(_) => Some("an item out of its place, or missing"),
+            AsmFault::Scan(_) | AsmFault::NoMemory => None,
+        }
+    }
 }
 
 impl fmt::Display for AsmFault {
@@ -78,15 +94,10 @@ impl fmt::Display for AsmFault {
     ghost output = { λ fault. Some (asm_fault_text fault) };
 
     fn fmt<W: fmt::Write>(&self, f: &mut fmt::Formatter<W>) -> fmt::Result {
-        match self {
-            AsmFault::Scan(fault) => write!(f, "{fault}"),
-            AsmFault::Unknown(at) => write!(f, "byte {at}: no directive or instruction"),
-            AsmFault::Operand(at) => write!(f, "byte {at}: a missing, extra or wrong operand"),
-            AsmFault::LabelTwice(at) => write!(f, "byte {at}: this label stands twice"),
-            AsmFault::LabelMissing(at) => write!(f, "byte {at}: there is no such label"),
-            AsmFault::Range(at) => write!(f, "byte {at}: the number is out of its bounds"),
-            AsmFault::Section(at) => write!(f, "byte {at}: an item out of its place, or missing"),
-            AsmFault::NoMemory => write!(f, "out of memory"),
+        match (self, self.why()) {
+            (_, Some(why)) => write!(f, "byte {}: {why}", self.place()),
+            (AsmFault::Scan(fault), None) => write!(f, "{fault}"),
+            (_, None) => f.write_str("out of memory"),
         }
     }
 }
