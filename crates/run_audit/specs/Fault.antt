@@ -1,5 +1,5 @@
 -- The faults of an audit.
-use Rattle.std.specs.Prelude.{ℕ, ◌++◌, List, codes, decimal}
+use Rattle.std.specs.Prelude.{◌≡◌, ℕ, ◌++◌, List, codes, decimal, Option, Some, None}
 use Rattle.run_audit.specs.declared.fault.AuditFault.{AuditFault}
 use Rattle.run_audit.specs.declared.fault.AuditFault.TheVariants.{Form, Width, Overlap, Unopened, Mismatch}
 use Rattle.run_audit.specs.declared.fault.AuditFault.TheVariants.{NoMemory}
@@ -29,3 +29,8 @@ fault_text (Overlap line) = codes "the call of line " ++ decimal line ++ codes "
 fault_text (Unopened line) = codes "the return of line " ++ decimal line ++ codes " has no call"
 fault_text (Mismatch line) = codes "the return of line " ++ decimal line ++ codes " differs from its call"
 fault_text NoMemory = codes "out of memory"
+
+-- what the text of a fault says before the number of its line, and after it, where it tells one
+abbrev pub AreWordsAround : AuditFault → Option (List ℕ × List ℕ) → Type 0
+AreWordsAround fault (Some w) = fault_text fault ≡ w.0 ++ decimal (fault_line fault) ++ w.1
+AreWordsAround fault None = fault ≡ NoMemory

@@ -1,7 +1,7 @@
 //! Why a text is no trace of a run.
-ghost use Rattle.std.specs.Prelude.{◌≡◌};
+ghost use Rattle.std.specs.Prelude.{◌≡◌, option_map};
 ghost use Rattle.run_audit.specs.declared.fault.AuditFault.TheVariants.{NoMemory};
-ghost use Rattle.run_audit.specs.Fault.{fault_number, fault_line};
+ghost use Rattle.run_audit.specs.Fault.{fault_number, fault_line, AreWordsAround};
 
 use std::alloc::{AllocError, AllocFailed};
 use std::error::Error;
@@ -53,6 +53,20 @@ impl AuditFault {
             AuditFault::NoMemory => 0,
         }
     }
+
+    // What its text says before the number of its line, and after it.
+    fn words(self) -> Option<(&'static str, &'static str)>
+        ensures { AreWordsAround self (option_map (λ w. (w.0.now, w.1.now)) result) }
+    {
+        match self {
+            AuditFault::Form(_) => Some(("line ", " isn't what a run writes there")),
+            AuditFault::Width(_) => Some(("line ", " has a wrong number of words")),
+            AuditFault::Overlap(_) => Some(("the call of line ", " doesn't lie below the newest")),
+            AuditFault::Unopened(_) => Some(("the return of line ", " has no call")),
+            AuditFault::Mismatch(_) => Some(("the return of line ", " differs from its call")),
+            AuditFault::NoMemory => None,
+        }
+    }
 }
 
 impl fmt::Display for AuditFault {
@@ -62,19 +76,9 @@ impl fmt::Display for AuditFault {
     ghost output = { λ fault. Some (fault_text fault) };
 
     fn fmt<W: fmt::Write>(&self, f: &mut fmt::Formatter<W>) -> fmt::Result {
-        match self {
-            AuditFault::Form(line) => write!(f, "line {line} isn't what a run writes there"),
-            AuditFault::Width(line) => write!(f, "line {line} has a wrong number of words"),
-            AuditFault::Overlap(line) => write!(
-                f,
-                "the call of line {line} doesn't lie below the newest"
-            ),
-            AuditFault::Unopened(line) => write!(f, "the return of line {line} has no call"),
-            AuditFault::Mismatch(line) => write!(
-                f,
-                "the return of line {line} differs from its call"
-            ),
-            AuditFault::NoMemory => write!(f, "out of memory"),
+        match self.words() {
+            Some((before, after)) => write!(f, "{before}{}{after}", self.line()),
+            None => f.write_str("out of memory"),
         }
     }
 }
