@@ -2,13 +2,14 @@
 use Rattle.std.proofs.Common.{◌≡◌, ◌∙◌, refl, sym, ap, ℕ, List, ◌++◌, append_assoc, Result, Ok, Err}
 use Rattle.std.specs.List.{concat}
 use Rattle.std.proofs.lemmas.List.Folds.{concat-append}
-use Rattle.readers.specs.Readers.{Reader, goes_on, ◌>>=◌, done}
+use Rattle.readers.specs.Readers.{Reader, goes_on}
+use Rattle.readers.specs.Places.{finished}
 use Rattle.cap_words.specs.Reading.{Input}
 use Rattle.component_file.specs.declared.TheConstants.{MOST_IMPORTS, MOST_EXPORTS, MOST_SITES, MOST_ROWS}
-use Rattle.component_file.specs.declared.fault.FileFault.{FileFault}
+use Rattle.component_file.specs.declared.fault.FileFault.TheVariants.{Trailing}
 use Rattle.component_file.specs.Reading.{field, next_header, next_name, next_address, next_stretch}
 use Rattle.component_file.specs.Reading.{next_words, next_list, next_import, next_export, next_site}
-use Rattle.component_file.specs.Reading.{next_optional, next_row, next_component}
+use Rattle.component_file.specs.Reading.{next_optional, next_row, next_component, decoded}
 use Rattle.component_file.specs.Parts.{next_head, next_memory, next_calls, next_declared, next_parts}
 use Rattle.component_file.specs.Parts.{head_pieces, memory_pieces, calls_pieces, declared_pieces}
 use Rattle.component_file.specs.Spelling.{spelling}
@@ -21,7 +22,7 @@ within : {I F A B C : Type 0} (r : Result (A × I) F) (f : A → Reader I F B) (
 within (Ok x) f g e = e x.0 x.1
 within (Err d) f g e = refl
 
-pub all_parts : (i : Input) → next_component i ≡ next_parts i
+all_parts : (i : Input) → next_component i ≡ next_parts i
 unfolding next_component next_parts next_head next_memory next_calls next_declared
 all_parts i = sym (
     within (next_header i) _ _ (λ movable i.
@@ -40,6 +41,11 @@ all_parts i = sym (
     within (field next_optional i) _ _ (λ fail_at i.
     within (field next_optional i) _ _ (λ literal_at i.
     within (next_list 4 0 MOST_ROWS next_row i) _ _ (λ rows i. refl)))))))))))))))))
+
+pub decoded_parts : (bytes : List ℕ)
+    → decoded bytes ≡ finished Trailing (next_parts (record { at = 0; rest = bytes }))
+unfolding decoded
+decoded_parts bytes = ap (finished Trailing) (all_parts (record { at = 0; rest = bytes }))
 
 -- pieces in four parts
 four_parts : (a b c d : List (List ℕ))

@@ -1,5 +1,5 @@
 -- The parts in which a component is read, and written.
-use Rattle.std.specs.Prelude.{ℕ, List, [], ◌∷◌, Result}
+use Rattle.std.specs.Prelude.{ℕ, List, [], ◌∷◌}
 use Rattle.cap_words.specs.WordBytes.{word_bytes_of}
 use Rattle.readers.specs.Readers.{Reader, ◌>>=◌, done}
 use Rattle.cap_words.specs.Reading.{Input}

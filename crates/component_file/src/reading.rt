@@ -183,7 +183,7 @@ fn component(alloc: Global, bytes: &mut Cursor<'_>) -> Result<ComponentFields, F
 }
 
 // The component of all the bytes.
-#[tactic(auto, using(crate::proofs::Parts::all_parts), unfolding(crate::specs::Reading::decoded))]
+#[tactic(auto, using(crate::proofs::Parts::decoded_parts))]
 fn whole(alloc: Global, bytes: &[u8]) -> Result<ComponentFields, FileFault>
     requires { length bytes.now < 2 ^ 32 }
     ensures { AnswersUnlessRefused is_refusal result (decoded bytes.now) }
