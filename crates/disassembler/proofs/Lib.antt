@@ -2,3 +2,4 @@ mod Leads
 mod Lines
 mod TableLines
 mod Whole
+pub mod Parts

@@ -1,1 +1,2 @@
 pub mod Disassembled
+pub mod Parts
