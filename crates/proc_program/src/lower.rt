@@ -1,7 +1,7 @@
 //! From the tree of a module to the program that it runs as.
 ghost use Rattle.std.specs.Prelude.{◌≡◌, ℕ, ◌+◌, ◌<◌, ◌≤◌, ◌++◌, IfOk, OnOk, OnErr, length, replicate, map};
 ghost use Rattle.std.specs.Prelude.{sum_by};
-ghost use Rattle.std.specs.Prelude.{is_some, ◌^◌, MatchOption};
+ghost use Rattle.std.specs.Prelude.{is_some, ◌^◌, MatchOption, [], unwrap_or};
 ghost use Rattle.proc_names.specs.Need.{need};
 ghost use Rattle.proc_language.specs.Limits.{Each, ProcFits, GlobalFits, IsModule, params_registers};
 ghost use Rattle.proc_language.specs.StmtView.{block_of as stmts_of};
@@ -13,6 +13,9 @@ ghost use Rattle.proc_program.specs.Lower.{words, words_in, first_word_of, row_a
 ghost use Rattle.proc_program.specs.Lower.{variable_of};
 ghost use Rattle.proc_program.specs.Lower.{handle_by, handle_of, passed_handle, exp_of, args_of, call_of};
 ghost use Rattle.proc_program.specs.Lower.{step_of};
+ghost use Rattle.proc_program.specs.Program.{Call as run_call};
+ghost use Rattle.proc_program.specs.declared.program.StatementKind.TheVariants as code;
+ghost use Rattle.proc_program.specs.View.{args_of as args_view};
 ghost use Rattle.proc_program.specs.Lower.{steps_of, procedure_of, procedures_of, globals_of, import_of};
 ghost use Rattle.proc_program.specs.Lower.{header_of, part_of};
 
@@ -22,8 +25,8 @@ use crate::program::{
 };
 use cap_words::Items;
 use proc_language::{
-    Expr, ExprKind, Global, MOST_ITEMS, MOST_REGISTERS, Module, ModuleFields, Name, Param, Proc,
-    Stmt, StmtKind,
+    Arg, Call, Expr, ExprKind, Global, MOST_ITEMS, MOST_REGISTERS, Module, ModuleFields, Name,
+    Param, Proc, Stmt, StmtKind,
 };
 use proc_names::{
     Callee, Variable, callee_named, params_registers, passed_named, variable_named, words_needed,
@@ -193,17 +196,31 @@ fn exp_of(
         ExprKind::Number(v) => ExpKind::Number(*v),
         ExprKind::Var(x) => ExpKind::Load(variable_of(m, p, x)),
         ExprKind::Element(x, index) => {
-            let row = row_of(m, p, x);
-            ExpKind::Element(row, Box::new(alloc, exp_of(alloc, m, p, index, next)?)?)
+            ExpKind::Element(row_of(m, p, x), boxed_of(alloc, m, p, index, next)?)
         }
-        ExprKind::Call(call) => return call_of(alloc, m, p, &call.name, call.args.as_slice(), next),
+        ExprKind::Call(call) => ExpKind::Call(call_of(alloc, m, p, call, next)?),
         ExprKind::Op(op, left, right) => {
-            let left = exp_of(alloc, m, p, left, next)?;
-            let right = exp_of(alloc, m, p, right, next)?;
-            ExpKind::Binary(*op, Box::new(alloc, left)?, Box::new(alloc, right)?)
+            let left = boxed_of(alloc, m, p, left, next)?;
+            ExpKind::Binary(*op, left, boxed_of(alloc, m, p, right, next)?)
         }
     };
     Ok(Exp { kind })
+}
+
+#[cycle(exp_of)]
+fn boxed_of(
+    alloc: Heap,
+    m: &ModuleFields,
+    p: &Proc,
+    e: &Expr,
+    next: &mut u32,
+) -> Result<Box<Exp>, AllocError>
+    requires limits { IsModule m.now }
+    requires fits { ProcFits p.now }
+    ensures same { IfOk result (λ x. x.value ≡ exp_of m.now p.now next.old e.now) }
+    ensures counted { OnOk result (next.new ≡ next.old + calls e.now) }
+{
+    Ok(Box::new(alloc, exp_of(alloc, m, p, e, next)?)?)
 }
 
 #[cycle(exp_of)]
@@ -211,21 +228,19 @@ fn call_of(
     alloc: Heap,
     m: &ModuleFields,
     p: &Proc,
-    f: &Name,
-    xs: &[proc_language::Arg],
+    call: &Call,
     next: &mut u32,
-) -> Result<Exp, AllocError>
+) -> Result<CallExp, AllocError>
     requires limits { IsModule m.now }
     requires fits { ProcFits p.now }
-    ensures same { IfOk result (λ x. x ≡ call_of m.now p.now next.old f.now (tree_args xs.now)) }
-    ensures counted { OnOk result (next.new ≡ next.old + (args_calls (tree_args xs.now) + 1)) }
+    ensures same { IfOk result (λ x. run_call x.site x.handle (args_view x.args)
+        ≡ call_of m.now p.now next.old call.now.name (tree_args call.now.args)) }
+    ensures counted { OnOk result (next.new ≡ next.old + (args_calls (tree_args call.now.args) + 1)) }
 {
-    let args = Items::of(args_of(alloc, m, p, xs, next, Vec::new(alloc))?);
+    let args = Items::of(args_of(alloc, m, p, call.args.as_slice(), next, Vec::new(alloc))?);
     let site = next_site(next)?;
-    let handle = handle_of(m, p, f);
-    Ok(Exp {
-        kind: ExpKind::Call(CallExp { site, handle, args }),
-    })
+    let handle = handle_of(m, p, &call.name);
+    Ok(CallExp { site, handle, args })
 }
 
 // After what is lowered already, the arguments that are left.
@@ -235,7 +250,7 @@ fn args_of(
     alloc: Heap,
     m: &ModuleFields,
     p: &Proc,
-    xs: &[proc_language::Arg],
+    xs: &[Arg],
     next: &mut u32,
     done: Vec<ArgExp>,
 ) -> Result<Vec<ArgExp>, AllocError>
@@ -245,17 +260,65 @@ fn args_of(
         ≡ done.items ++ args_of m.now p.now next.old (tree_args xs.now)) }
     ensures counted { OnOk result (next.new ≡ next.old + args_calls (tree_args xs.now)) }
 {
+    let Some((first, rest)) = xs.split_first() else {
+        return Ok(done);
+    };
+    let lowered = match first {
+        Arg::Value(e) => ArgExp::Value(exp_of(alloc, m, p, e, next)?),
+        Arg::Proc(f) => ArgExp::Pass(passed_of(m, p, f)),
+    };
     let mut done = done;
-    match xs.split_first() {
-        None => Ok(done),
-        Some((proc_language::Arg::Value(e), rest)) => {
-            done.push(ArgExp::Value(exp_of(alloc, m, p, e, next)?))?;
-            args_of(alloc, m, p, rest, next, done)
-        }
-        Some((proc_language::Arg::Proc(f), rest)) => {
-            done.push(ArgExp::Pass(passed_of(m, p, f)))?;
-            args_of(alloc, m, p, rest, next, done)
-        }
+    done.push(lowered)?;
+    args_of(alloc, m, p, rest, next, done)
+}
+
+// An element of an array is set.
+fn set_at_of(
+    alloc: Heap,
+    m: &ModuleFields,
+    p: &Proc,
+    x: &Name,
+    index: &Expr,
+    e: &Expr,
+    next: &mut u32,
+) -> Result<StatementKind, AllocError>
+    requires limits { IsModule m.now }
+    requires fits { ProcFits p.now }
+    ensures same { IfOk result (λ k. k ≡ code.SetAt (row_of m.now p.now x.now)
+        (exp_of m.now p.now next.old index.now)
+        (exp_of m.now p.now (next.old + calls index.now) e.now)) }
+    ensures counted { OnOk result (next.new ≡ next.old + (calls index.now + calls e.now)) }
+{
+    let row = row_of(m, p, x);
+    let index = exp_of(alloc, m, p, index, next)?;
+    Ok(StatementKind::SetAt(row, index, exp_of(alloc, m, p, e, next)?))
+}
+
+// The value of a call, as it is done.
+fn do_of(
+    alloc: Heap,
+    m: &ModuleFields,
+    p: &Proc,
+    call: &Call,
+    next: &mut u32,
+) -> Result<Exp, AllocError>
+    requires limits { IsModule m.now }
+    requires fits { ProcFits p.now }
+    ensures same { IfOk result (λ x. x
+        ≡ call_of m.now p.now next.old call.now.name (tree_args call.now.args)) }
+    ensures counted { OnOk result (next.new ≡ next.old + (args_calls (tree_args call.now.args) + 1)) }
+{
+    let kind = ExpKind::Call(call_of(alloc, m, p, call, next)?);
+    Ok(Exp { kind })
+}
+
+// The statements of an `else`, if there is one.
+fn otherwise(other: &Option<Items<Stmt>>) -> &[Stmt]
+    ensures { result.now ≡ unwrap_or other.now [] }
+{
+    match other {
+        None => &[],
+        Some(stmts) => stmts.as_slice(),
     }
 }
 
@@ -275,37 +338,62 @@ fn step_of(
 {
     let kind = match &s.kind {
         StmtKind::Set(x, e) => {
-            let place = variable_of(m, p, x);
-            StatementKind::Set(place, exp_of(alloc, m, p, e, next)?)
+            StatementKind::Set(variable_of(m, p, x), exp_of(alloc, m, p, e, next)?)
         }
-        StmtKind::SetAt(x, index, e) => {
-            let row = row_of(m, p, x);
-            let index = exp_of(alloc, m, p, index, next)?;
-            StatementKind::SetAt(row, index, exp_of(alloc, m, p, e, next)?)
+        StmtKind::SetAt(x, index, e) => set_at_of(alloc, m, p, x, index, e, next)?,
+        StmtKind::Call(call) => StatementKind::Do(do_of(alloc, m, p, call, next)?),
+        StmtKind::If(c, body, other) => {
+            branch_of(alloc, m, p, c, body.as_slice(), otherwise(other), next)?
         }
-        StmtKind::Call(call) => {
-            StatementKind::Do(call_of(alloc, m, p, &call.name, call.args.as_slice(), next)?)
-        }
-        StmtKind::If(c, body, None) => {
-            let c = exp_of(alloc, m, p, c, next)?;
-            let body = steps_of(alloc, m, p, body.as_slice(), next)?;
-            StatementKind::If(c, Items::of(body), Items::of(Vec::new(alloc)))
-        }
-        StmtKind::If(c, body, Some(other)) => {
-            let c = exp_of(alloc, m, p, c, next)?;
-            let body = steps_of(alloc, m, p, body.as_slice(), next)?;
-            let other = steps_of(alloc, m, p, other.as_slice(), next)?;
-            StatementKind::If(c, Items::of(body), Items::of(other))
-        }
-        StmtKind::While(c, body) => {
-            let c = exp_of(alloc, m, p, c, next)?;
-            let body = steps_of(alloc, m, p, body.as_slice(), next)?;
-            StatementKind::While(c, Items::of(body))
-        }
+        StmtKind::While(c, body) => repeat_of(alloc, m, p, c, body.as_slice(), next)?,
         StmtKind::Return(e) => StatementKind::Return(exp_of(alloc, m, p, e, next)?),
         StmtKind::Halt(e) => StatementKind::Halt(exp_of(alloc, m, p, e, next)?),
     };
     Ok(Statement { kind })
+}
+
+#[cycle(step_of)]
+fn branch_of(
+    alloc: Heap,
+    m: &ModuleFields,
+    p: &Proc,
+    c: &Expr,
+    body: &[Stmt],
+    other: &[Stmt],
+    next: &mut u32,
+) -> Result<StatementKind, AllocError>
+    requires limits { IsModule m.now }
+    requires fits { ProcFits p.now }
+    ensures same { IfOk result (λ k. k ≡ code.If (exp_of m.now p.now next.old c.now)
+        (steps_of m.now p.now (next.old + calls c.now) (stmts_of body.now))
+        (steps_of m.now p.now (next.old + calls c.now + block_calls (stmts_of body.now))
+        (stmts_of other.now))) }
+    ensures counted { OnOk result (next.new
+        ≡ next.old + (calls c.now + (block_calls (stmts_of body.now) + block_calls (stmts_of other.now)))) }
+{
+    let c = exp_of(alloc, m, p, c, next)?;
+    let body = steps_of(alloc, m, p, body, next)?;
+    Ok(StatementKind::If(c, body, steps_of(alloc, m, p, other, next)?))
+}
+
+#[cycle(step_of)]
+fn repeat_of(
+    alloc: Heap,
+    m: &ModuleFields,
+    p: &Proc,
+    c: &Expr,
+    body: &[Stmt],
+    next: &mut u32,
+) -> Result<StatementKind, AllocError>
+    requires limits { IsModule m.now }
+    requires fits { ProcFits p.now }
+    ensures same { IfOk result (λ k. k ≡ code.While (exp_of m.now p.now next.old c.now)
+        (steps_of m.now p.now (next.old + calls c.now) (stmts_of body.now))) }
+    ensures counted { OnOk result (next.new
+        ≡ next.old + (calls c.now + block_calls (stmts_of body.now))) }
+{
+    let c = exp_of(alloc, m, p, c, next)?;
+    Ok(StatementKind::While(c, steps_of(alloc, m, p, body, next)?))
 }
 
 #[cycle(step_of)]
@@ -315,17 +403,17 @@ fn steps_of(
     p: &Proc,
     stmts: &[Stmt],
     next: &mut u32,
-) -> Result<Vec<Statement>, AllocError>
+) -> Result<Items<Statement>, AllocError>
     requires limits { IsModule m.now }
     requires fits { ProcFits p.now }
-    ensures same { IfOk result (λ v. v.items ≡ steps_of m.now p.now next.old (stmts_of stmts.now)) }
+    ensures same { IfOk result (λ v. v ≡ steps_of m.now p.now next.old (stmts_of stmts.now)) }
     ensures counted { OnOk result (next.new ≡ next.old + block_calls (stmts_of stmts.now)) }
 {
     let mut lowered = Vec::new(alloc);
     for s in stmts {
         lowered.push(step_of(alloc, m, p, s, next)?)?;
     }
-    Ok(lowered)
+    Ok(Items::of(lowered))
 }
 
 // ---- procedures and modules
@@ -376,7 +464,7 @@ fn procedure_of(
         callbacks: Items::of(callbacks),
         locals: p.locals.as_slice().len() as u32,
         need,
-        body: Items::of(body),
+        body,
     })
 }
 

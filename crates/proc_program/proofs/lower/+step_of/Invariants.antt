@@ -1,4 +1,4 @@
-use Rattle.std.proofs.Common.{◌≡◌, ◌≤◌, ◌+◌, ◌++◌, drop}
+use Rattle.std.proofs.Common.{◌≡◌, ◌≤◌, ◌+◌, ◌*◌, ◌++◌, drop}
 use Rattle.proc_language.specs.Tree.{stmt_size, block_size}
 use Rattle.proc_language.specs.StmtView.{block_of}
 use Rattle.proc_names.specs.Calls.{block_calls}
@@ -6,10 +6,16 @@ use Rattle.proc_program.specs.Lower.{steps_of}
 use Rattle.proc_program.proofs.lower.+step_of.Given as goal
 
 abbrev pub decreases-step_of : goal.decreases-step_of
-decreases-step_of l = stmt_size l.s.now
+decreases-step_of l = 2 * stmt_size l.s.now
 
 abbrev pub decreases-steps_of : goal.decreases-steps_of
-decreases-steps_of l = block_size (block_of l.stmts.now)
+decreases-steps_of l = 2 * block_size (block_of l.stmts.now)
+
+abbrev pub decreases-branch_of : goal.decreases-branch_of
+decreases-branch_of l = 2 * (block_size (block_of l.body.now) + block_size (block_of l.other.now)) + 1
+
+abbrev pub decreases-repeat_of : goal.decreases-repeat_of
+decreases-repeat_of l = 2 * block_size (block_of l.body.now) + 1
 
 abbrev pub invariant-steps_of-loop-s : goal.invariant-steps_of-loop-s
 invariant-steps_of-loop-s l = record {
