@@ -11,3 +11,11 @@ parse_fault_text (Expected at) = at_byte at (codes ": no module goes on so")
 parse_fault_text (Range at) = at_byte at (codes ": the number or name is out of its bounds")
 parse_fault_text (TooMany at) = at_byte at (codes ": one too many")
 parse_fault_text NoMemory = codes "out of memory"
+
+-- what is wrong at a fault's place; nothing where it is told otherwise
+abbrev pub reason : ParseFault → List ℕ
+reason (Scan fault) = codes ""
+reason (Expected at) = codes "no module goes on so"
+reason (Range at) = codes "the number or name is out of its bounds"
+reason (TooMany at) = codes "one too many"
+reason NoMemory = codes ""

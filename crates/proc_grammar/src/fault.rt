@@ -2,6 +2,7 @@
 ghost use Rattle.std.specs.Prelude.{◌≡◌};
 ghost use Rattle.proc_grammar.specs.declared.fault.ParseFault.TheVariants.{NoMemory};
 ghost use Rattle.proc_grammar.specs.Fault.{of_scan, fault_number, fault_place};
+ghost use Rattle.proc_grammar.specs.FaultText.{reason};
 
 use std::alloc::{AllocError, AllocFailed};
 use std::error::Error;
@@ -52,6 +53,18 @@ impl ParseFault {
             ParseFault::NoMemory => 0,
         }
     }
+
+    // What is wrong at its place; nothing where it is told otherwise.
+    fn why(self) -> &'static str
+        ensures { result.now ≡ reason self }
+    {
+        match self {
+            ParseFault::Scan(_) | ParseFault::NoMemory => "",
+            ParseFault::Expected(_) => "no module goes on so",
+            ParseFault::Range(_) => "the number or name is out of its bounds",
+            ParseFault::TooMany(_) => "one too many",
+        }
+    }
 }
 
 impl fmt::Display for ParseFault {
@@ -63,13 +76,10 @@ impl fmt::Display for ParseFault {
     fn fmt<W: fmt::Write>(&self, f: &mut fmt::Formatter<W>) -> fmt::Result {
         match self {
             ParseFault::Scan(fault) => write!(f, "{fault}"),
-            ParseFault::Expected(at) => write!(f, "byte {at}: no module goes on so"),
-            ParseFault::Range(at) => write!(
-                f,
-                "byte {at}: the number or name is out of its bounds"
-            ),
-            ParseFault::TooMany(at) => write!(f, "byte {at}: one too many"),
-            ParseFault::NoMemory => write!(f, "out of memory"),
+            ParseFault::Expected(at) | ParseFault::Range(at) | ParseFault::TooMany(at) => {
+                write!(f, "byte {at}: {}", self.why())
+            }
+            ParseFault::NoMemory => f.write_str("out of memory"),
         }
     }
 }

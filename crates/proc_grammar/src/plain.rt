@@ -1,5 +1,5 @@
 //! The language itself, of this grammar.
-ghost use Rattle.std.specs.Prelude.{◌≡◌};
+ghost use Rattle.std.specs.Prelude.{◌≡◌, IfOk};
 ghost use Rattle.proc_grammar.specs.PlainTrees.{plain_trees};
 
 use crate::header::ModuleHeader;
@@ -9,6 +9,12 @@ use proc_language::{
     Arg, Call, Expr, ExprKind, Global, Import, ModuleFields, Name, Op, Param, Proc, Stmt, StmtKind,
 };
 use std::alloc::{AllocError, Global as Heap};
+
+fn boxed(alloc: Heap, e: Expr) -> Result<Box<Expr>, AllocError>
+    ensures { IfOk result (λ b. b.value ≡ e) }
+{
+    Ok(Box::new(alloc, e)?)
+}
 
 /// The language itself.
 pub struct Plain {}
@@ -55,7 +61,7 @@ impl Language for Plain {
     }
 
     fn element_of(alloc: Heap, at: u32, name: Name, index: Expr) -> Result<Expr, AllocError> {
-        let index = Box::new(alloc, index)?;
+        let index = boxed(alloc, index)?;
         Ok(Expr {
             at,
             kind: ExprKind::Element(name, index),
@@ -72,7 +78,7 @@ impl Language for Plain {
     }
 
     fn op_of(alloc: Heap, at: u32, op: Op, left: Expr, right: Expr) -> Result<Expr, AllocError> {
-        let (left, right) = (Box::new(alloc, left)?, Box::new(alloc, right)?);
+        let (left, right) = (boxed(alloc, left)?, boxed(alloc, right)?);
         Ok(Expr {
             at,
             kind: ExprKind::Op(op, left, right),
