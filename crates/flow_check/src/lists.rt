@@ -1,17 +1,16 @@
 //! The rules of the lists of sites, exports and declared rows: K1 to K4.
-ghost use Rattle.std.specs.Prelude.{◌≡◌, ◌<◌, ◌≤◌, ◌+◌, ◌^◌, length, is_some, IfSome, None, [], ◌∷◌};
+ghost use Rattle.std.specs.Prelude.{◌≡◌, ◌<◌, ◌≤◌, ◌+◌, ◌^◌, length, None, [], ◌∷◌};
 ghost use Rattle.component_file.specs.Limits.{IsComponent};
 ghost use Rattle.component_check.specs.declared.rule.Group.TheVariants.{K};
 ghost use Rattle.component_check.specs.RuleText.{broken_at};
-ghost use Rattle.component_check.specs.Places.{first_place, first_of};
+ghost use Rattle.component_check.specs.Places.{first_place};
 ghost use Rattle.component_check.specs.Verdict.{check_from};
-ghost use Rattle.call_sequence.specs.Standing.{site_difference};
 ghost use Rattle.flow_rules.specs.Lists.{k1, k2, k3, k4, site_is_bad, overlap, meets_entry, meets_site};
 ghost use Rattle.flow_rules.specs.Lists.{entry_is_bad, least_of, row_offset, of_entry, is_misplaced, lists};
 
 use crate::places::in_site;
 use call_sequence::{ENTRY_WORDS, SITE_WORDS, is_entry, site_difference};
-use component_check::{Broken, Group, first_place, kept};
+use component_check::{Broken, Group, kept};
 use component_file::{Component, ComponentFields};
 
 fn site_is_bad(c: &ComponentFields, i: usize) -> bool
@@ -26,56 +25,35 @@ fn site_is_bad(c: &ComponentFields, i: usize) -> bool
     0 < i && at < u64::from(sites[i - 1]) + u64::from(SITE_WORDS)
 }
 
-fn k1_site(c: &ComponentFields) -> Option<u32>
-    requires { IsComponent c.now }
-    ensures is { result ≡ first_of (k1 c.now) }
-    ensures within { IfSome result (λ i. i < length c.now.sites) }
-{
-    first_place(c.sites.as_slice().len(), |i| site_is_bad(c, i))
-}
-
 #[tactic(auto, unfolding(flow_rules::specs::Lists::k1))]
 fn k1(c: &ComponentFields) -> Option<u32>
     requires { IsComponent c.now }
     ensures { result ≡ first_place (k1 c.now) }
 {
-    match k1_site(c) {
-        Some(i) => Some(c.sites.as_slice()[i as usize]),
-        None => None,
+    let sites = c.sites.as_slice();
+    for i in 0..sites.len() {
+        if site_is_bad(c, i) {
+            return Some(sites[i]);
+        }
     }
+    None
 }
 
-// The first word of a site that isn't the one of a call and a return, where K1 is kept.
-fn difference(c: &Component, i: usize) -> Option<u32>
-    requires fits { IsComponent c.now }
-    requires here { i < length c.now.sites }
-    requires placed { first_place (k1 c.now) ≡ None }
-    ensures { result ≡ site_difference c.now i }
-{
-    site_difference(c, i as u32)
-}
-
-fn k2_site(c: &Component) -> Option<u32>
-    requires fits { IsComponent c.now }
-    requires placed { first_place (k1 c.now) ≡ None }
-    ensures is { result ≡ first_of (k2 c.now) }
-    ensures within { IfSome result (λ i. i < length c.now.sites) }
-{
-    first_place(
-        c.fields().sites.as_slice().len(),
-        |i| difference(c, i).is_some(),
-    )
-}
-
+// The first word of a site that isn't the one of a call and a return. Where K1 is kept, the code has
+// room for all words of a site.
+#[tactic(auto, unfolding(flow_rules::specs::Lists::k2))]
 fn k2(c: &Component) -> Option<u32>
     requires fits { IsComponent c.now }
     requires placed { first_place (k1 c.now) ≡ None }
     ensures { result ≡ first_place (k2 c.now) }
 {
-    match k2_site(c) {
-        Some(i) => difference(c, i as usize),
-        None => None,
+    for i in 0..c.fields().sites.as_slice().len() {
+        let difference = site_difference(c, i as u32);
+        if difference.is_some() {
+            return difference;
+        }
     }
+    None
 }
 
 fn overlap(a: u32, size: u32, b: u32, many: u32) -> bool
@@ -161,26 +139,18 @@ fn row_offset(c: &ComponentFields, i: usize) -> u32
     c.rows.as_slice()[i].offset
 }
 
-fn k4_row(c: &ComponentFields) -> Option<u32>
-    requires { IsComponent c.now }
-    ensures is { result ≡ first_of (k4 c.now) }
-    ensures within { IfSome result (λ i. i < length c.now.rows) }
-{
-    first_place(
-        c.rows.as_slice().len(),
-        |i| is_misplaced(c, row_offset(c, i)),
-    )
-}
-
 #[tactic(auto, unfolding(flow_rules::specs::Lists::k4))]
 fn k4(c: &ComponentFields) -> Option<u32>
     requires { IsComponent c.now }
     ensures { result ≡ first_place (k4 c.now) }
 {
-    match k4_row(c) {
-        Some(i) => Some(row_offset(c, i as usize)),
-        None => None,
+    for i in 0..c.rows.as_slice().len() {
+        let offset = row_offset(c, i);
+        if is_misplaced(c, offset) {
+            return Some(offset);
+        }
     }
+    None
 }
 
 // K1 and K2. Where K1 holds, the code has room for each site's words.
