@@ -70,6 +70,12 @@ pub plain_first : (count : ℕ) (broken : ℕ → Bool) {Says : ℕ → Bool →
 plain_first count broken h e f = first_of_is (plainly count broken) h e f
     ∙ sym (option_map_id (first_below broken count))
 
+-- the place of the first index is the first place
+pub first_place_is : {P : Type 0} (t : Test P) (o : Option ℕ) → IsFirstIn t.broken t.count o
+    → option_map t.place o ≡ first_place t
+first_place_is t o h = ap (option_map t.place)
+    (first_unique t.broken t.count o (first_of t) h (first_below_is t.broken t.count))
+
 -- what is the first index is the first place
 pub first_is : (count : ℕ) (broken : ℕ → Bool) (o : Option ℕ) → IsFirstIn broken count o
     → o ≡ first_place (plainly count broken)

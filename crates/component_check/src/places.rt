@@ -22,5 +22,10 @@ pub fn each_of(broken: &[bool]) -> Option<u32>
     requires { length broken.now < 2 ^ 32 }
     ensures { result ≡ first_place (each_of broken.now) }
 {
-    first_place(broken.len(), |i| broken[i])
+    for i in 0..broken.len() {
+        if broken[i] {
+            return Some(i as u32);
+        }
+    }
+    None
 }

@@ -5,7 +5,6 @@ ghost use Rattle.component_check.specs.Places.{first_place};
 ghost use Rattle.component_check.specs.Rules.{c4, c5, c6, slot_is_bad, slot_is_free, export_offset};
 ghost use Rattle.component_check.specs.Rules.{is_zero_word};
 
-use crate::places::first_place;
 use cap_words::Word;
 use component_file::ComponentFields;
 
@@ -26,7 +25,12 @@ pub(crate) fn c4(c: &ComponentFields) -> Option<u32>
     requires { length c.now.imports < 2 ^ 32 }
     ensures { result ≡ first_place (c4 c.now) }
 {
-    first_place(c.imports.as_slice().len(), |i| slot_is_bad(c, i))
+    for i in 0..c.imports.as_slice().len() {
+        if slot_is_bad(c, i) {
+            return Some(i as u32);
+        }
+    }
+    None
 }
 
 /// Whether integer 0 stands at this offset.
@@ -56,7 +60,12 @@ pub(crate) fn c5(c: &ComponentFields) -> Option<u32>
     requires { length c.now.imports < 2 ^ 32 }
     ensures { result ≡ first_place (c5 c.now) }
 {
-    first_place(c.imports.as_slice().len(), |i| !slot_is_free(c, i))
+    for i in 0..c.imports.as_slice().len() {
+        if !slot_is_free(c, i) {
+            return Some(i as u32);
+        }
+    }
+    None
 }
 
 fn export_offset(c: &ComponentFields, i: usize) -> usize
@@ -72,8 +81,10 @@ pub(crate) fn c6(c: &ComponentFields) -> Option<u32>
     ensures { result ≡ first_place (c6 c.now) }
 {
     let code_len = c.code.as_slice().len();
-    first_place(
-        c.exports.as_slice().len(),
-        |i| code_len <= export_offset(c, i),
-    )
+    for i in 0..c.exports.as_slice().len() {
+        if code_len <= export_offset(c, i) {
+            return Some(i as u32);
+        }
+    }
+    None
 }

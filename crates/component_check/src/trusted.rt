@@ -1,12 +1,12 @@
 //! The rules of trusted components: C10 to C12.
-ghost use Rattle.std.specs.Prelude.{◌≡◌, ◌<◌, ◌+◌, ◌^◌, length, slice_get, not, ◌&&◌, IfSome};
+ghost use Rattle.std.specs.Prelude.{◌≡◌, ◌<◌, ◌+◌, ◌^◌, length, slice_get, not, ◌&&◌};
 ghost use Rattle.std.specs.Option.{option_copied};
 ghost use Rattle.component_file.specs.Limits.{IsComponent};
-ghost use Rattle.component_check.specs.Places.{first_place, first_of};
+ghost use Rattle.component_check.specs.Places.{first_place};
 ghost use Rattle.component_check.specs.Rules.{c10, c11, c12, holds_of, is_no_int, is_at, is_zero_word};
 ghost use Rattle.component_check.specs.Rules.{code_at, is_over_seals};
 
-use crate::places::{each_of, first_place};
+use crate::places::each_of;
 use crate::slots::is_zero_word;
 use cap_words::Word;
 use component_file::ComponentFields;
@@ -45,16 +45,12 @@ pub(crate) fn c10(c: &ComponentFields) -> Option<u32>
     requires { IsComponent c.now }
     ensures { result ≡ first_place (c10 c.now) }
 {
-    first_place(c.code.as_slice().len(), |i| is_no_code(c, i))
-}
-
-fn c11_offset(c: &ComponentFields) -> Option<u32>
-    requires { IsComponent c.now }
-    ensures is { result ≡ first_of (c11 c.now) }
-    ensures within { IfSome result (λ i. i < length c.now.data_words) }
-{
-    let words = c.data_words.as_slice();
-    first_place(words.len(), |i| is_no_int(words, i))
+    for i in 0..c.code.as_slice().len() {
+        if is_no_code(c, i) {
+            return Some(i as u32);
+        }
+    }
+    None
 }
 
 #[tactic(auto, unfolding(crate::specs::Rules::c11))]
@@ -62,10 +58,13 @@ pub(crate) fn c11(c: &ComponentFields) -> Option<u32>
     requires { IsComponent c.now }
     ensures { result ≡ first_place (c11 c.now) }
 {
-    match c11_offset(c) {
-        Some(i) => Some(c.code.as_slice().len() as u32 + i),
-        None => None,
+    let words = c.data_words.as_slice();
+    for i in 0..words.len() {
+        if is_no_int(words, i) {
+            return Some((c.code.as_slice().len() + i) as u32);
+        }
     }
+    None
 }
 
 fn code_at(c: &ComponentFields, offset: Option<u32>) -> Option<&Word>

@@ -8,7 +8,6 @@ ghost use Rattle.component_check.specs.Areas.{has_all};
 ghost use Rattle.component_check.specs.Rules.{words, c7, c9, holds_of, is_own, is_foreign, is_foreign_seal};
 
 use crate::areas::{code_area, data_area};
-use crate::places::first_place;
 use cap_words::{CapFields, Word};
 use component_file::{Area, ComponentFields};
 
@@ -67,7 +66,12 @@ pub(crate) fn c7(c: &ComponentFields) -> Option<u32>
     requires { IsComponent c.now }
     ensures { result ≡ first_place (c7 c.now) }
 {
-    first_place(count(c), |i| is_foreign(c, i))
+    for i in 0..count(c) {
+        if is_foreign(c, i) {
+            return Some(i as u32);
+        }
+    }
+    None
 }
 
 fn is_foreign_seal(c: &ComponentFields, i: usize) -> bool
@@ -87,5 +91,10 @@ pub(crate) fn c9(c: &ComponentFields) -> Option<u32>
     requires { IsComponent c.now }
     ensures { result ≡ first_place (c9 c.now) }
 {
-    first_place(count(c), |i| is_foreign_seal(c, i))
+    for i in 0..count(c) {
+        if is_foreign_seal(c, i) {
+            return Some(i as u32);
+        }
+    }
+    None
 }

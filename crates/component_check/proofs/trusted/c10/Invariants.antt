@@ -1,0 +1,9 @@
+use Rattle.std.proofs.Common.{ℕ, ◌≡◌, ◌<◌, false}
+use Rattle.std.specs.Prelude.{slice_get, not, ◌&&◌}
+use Rattle.component_check.specs.Rules.{holds_of, is_no_int, is_at}
+use Rattle.component_check.proofs.trusted.c10.Given as goal
+
+abbrev pub invariant-loop-i : goal.invariant-loop-i
+invariant-loop-i l =
+    (k : ℕ) → k < l.i
+    → (holds_of is_no_int (slice_get l.c.code k) && not (is_at l.c.literal_at k)) ≡ false

@@ -1,0 +1,7 @@
+use Rattle.std.proofs.Common.{ℕ, ◌≡◌, ◌<◌, false}
+use Rattle.std.specs.Prelude.{slice_get}
+use Rattle.component_check.specs.Rules.{words, holds_of, is_foreign_seal}
+use Rattle.component_check.proofs.words.c9.Given as goal
+
+abbrev pub invariant-loop-i : goal.invariant-loop-i
+invariant-loop-i l = (k : ℕ) → k < l.i → holds_of (is_foreign_seal l.c) (slice_get (words l.c) k) ≡ false
