@@ -2,15 +2,13 @@
 ghost use Rattle.std.specs.Prelude.{◌≡◌, ◌<◌, ◌≤◌, ℕ, length, slice_get, is_none};
 ghost use Rattle.component_check.specs.Places.{first_place};
 ghost use Rattle.linked_starts.specs.Start.{imported};
-ghost use Rattle.linked_starts.specs.Pairs.{first_in, passes};
+ghost use Rattle.linked_starts.specs.Pairs.{passes};
 ghost use Rattle.linked_starts.specs.Links.{is_private, l4, l5};
 
 use crate::names::{Exported, imported};
-use crate::pairs::first_in;
 use crate::placed::{Placed, PlacedParts};
 use component_check::first_place;
 use component_file::Import;
-use linked_starts::PartPlace;
 
 fn is_missing(parts: &PlacedParts, imports: &[Import], k: usize) -> bool
     requires { k < length imports.now }
@@ -19,19 +17,13 @@ fn is_missing(parts: &PlacedParts, imports: &[Import], k: usize) -> bool
     imported(parts, &imports[k]).is_none()
 }
 
-fn l4_within(parts: &PlacedParts, i: usize) -> Option<u32>
+/// A part's first import of what isn't there.
+pub(crate) fn l4_within(parts: &PlacedParts, i: usize) -> Option<u32>
     requires { i < length parts.now }
     ensures { result ≡ first_place ((l4 parts.now).within i) }
 {
     let imports = parts.part(i).imports();
     first_place(imports.len(), |k| is_missing(parts, imports, k))
-}
-
-/// The first part with an import of what isn't there, and its first such import.
-pub(crate) fn l4(parts: &PlacedParts) -> Option<PartPlace>
-    ensures { result ≡ first_in (l4 parts.now) }
-{
-    first_in(parts.len(), |i| l4_within(parts, i))
 }
 
 // Whether an export is there that a part may not import.
@@ -52,17 +44,11 @@ fn is_refused(parts: &PlacedParts, part: &Placed, k: usize) -> bool
     is_private(part, imported(parts, &part.imports()[k]))
 }
 
-fn l5_within(parts: &PlacedParts, i: usize) -> Option<u32>
+/// A part's first import that it may not have.
+pub(crate) fn l5_within(parts: &PlacedParts, i: usize) -> Option<u32>
     requires { i < length parts.now }
     ensures { result ≡ first_place ((l5 parts.now).within i) }
 {
     let part = parts.part(i);
     first_place(part.imports().len(), |k| is_refused(parts, &part, k))
-}
-
-/// The first part with an import that it may not have, and its first such import.
-pub(crate) fn l5(parts: &PlacedParts) -> Option<PartPlace>
-    ensures { result ≡ first_in (l5 parts.now) }
-{
-    first_in(parts.len(), |i| l5_within(parts, i))
 }

@@ -14,6 +14,7 @@ mod part;
 mod parts;
 mod placed;
 mod regions;
+mod rules;
 mod started;
 mod whole;
 

@@ -11,13 +11,10 @@ ghost use Rattle.linked_starts.specs.Start.{IsStart};
 ghost use Rattle.linked_starts.specs.TrustedCode.{TrustedInCells};
 ghost use Rattle.linked_starts.specs.Answer.{AnswersParts, AnswersPlaced};
 
-use crate::imports::{l4, l5};
 use crate::part::Part;
-use crate::parts::{l2, l3, l7};
 use crate::placed::PlacedParts;
-use crate::regions::l1;
+use crate::rules::LinkRule;
 use crate::started::start_of;
-use crate::whole::{l6, l8, l9};
 use call_sequence::laws::sequences_stand_word_by_word;
 use component_check::{Group, Rule};
 use flow_rules::laws::sequences_stand;
@@ -62,15 +59,15 @@ fn kept(tried: u8, at: Option<PartPlace>) -> Result<(), RuleAt>
 fn try_rules(parts: &PlacedParts, stack: u32) -> Result<(), RuleAt>
     ensures { result ≡ check_from rule_at 2 (map by_part (rules_l parts.now stack)) }
 {
-    kept(2, l1(parts, stack))?;
-    kept(3, l2(parts))?;
-    kept(4, l3(parts))?;
-    kept(5, l4(parts))?;
-    kept(6, l5(parts))?;
-    kept(7, l6(parts))?;
-    kept(8, l7(parts))?;
-    kept(9, l8(parts, stack))?;
-    kept(10, l9(parts))
+    kept(2, LinkRule::L1.first(parts, stack))?;
+    kept(3, LinkRule::L2.first(parts, stack))?;
+    kept(4, LinkRule::L3.first(parts, stack))?;
+    kept(5, LinkRule::L4.first(parts, stack))?;
+    kept(6, LinkRule::L5.first(parts, stack))?;
+    kept(7, LinkRule::L6.first(parts, stack))?;
+    kept(8, LinkRule::L7.first(parts, stack))?;
+    kept(9, LinkRule::L8.first(parts, stack))?;
+    kept(10, LinkRule::L9.first(parts, stack))
 }
 
 // The first of the rules L1 to L9 that parts with room break, in the first part and at the first place

@@ -7,6 +7,7 @@ ghost use Rattle.linked_starts.specs.Listing.{SitesUpto, OwnersUpto};
 
 use crate::placed::{Placed, PlacedParts};
 use cap_words::{Items, LAST_PLACE, SealRange};
+use component_file::Import;
 use lcm_machine::Span;
 use linked_starts::{CalledEntry, Entry, MOST_PARTS, Owner, Site, SiteList};
 use std::alloc::{AllocError, Global};
@@ -84,6 +85,16 @@ fn entries_of(alloc: Global, part: &Placed<'_>) -> Result<Items<Entry>, AllocErr
     Ok(Items::of(entries))
 }
 
+// What an import names, whose slot is at an address.
+fn called(alloc: Global, import: &Import, at: u32) -> Result<CalledEntry, AllocError>
+    ensures { let x = import.now in
+        IfOk result (λ e. e ≡ record { part = x.part; name = x.name; at = at }) }
+{
+    let part = copy_name(alloc, import.part.as_slice())?;
+    let name = copy_name(alloc, import.name.as_slice())?;
+    Ok(CalledEntry { part, name, at })
+}
+
 // What the slots of a part name, one for each import.
 fn calls_of(alloc: Global, part: &Placed<'_>) -> Result<Items<CalledEntry>, AllocError>
     requires { Kept part.now }
@@ -92,11 +103,7 @@ fn calls_of(alloc: Global, part: &Placed<'_>) -> Result<Items<CalledEntry>, Allo
     let base = part.data_base();
     let mut calls = Vec::new(alloc);
     for import in part.imports() {
-        calls.push(CalledEntry {
-            part: copy_name(alloc, import.part.as_slice())?,
-            name: copy_name(alloc, import.name.as_slice())?,
-            at: base + import.slot,
-        })?;
+        calls.push(called(alloc, import, base + import.slot)?)?;
     }
     Ok(Items::of(calls))
 }
@@ -113,16 +120,19 @@ fn named(alloc: Global, part: &Placed<'_>, number: u32) -> Result<Owner, AllocEr
     requires { Kept part.now }
     ensures { IfOk result (λ o. o ≡ owner_of number part.now) }
 {
+    let name = copy_name(alloc, part.name())?;
+    let entries = entries_of(alloc, part)?;
+    let calls = calls_of(alloc, part)?;
     Ok(Owner {
         part: number,
-        name: copy_name(alloc, part.name())?,
+        name,
         trusted: part.trusted(),
         code: span_of(part.code_base(), part.code().len()),
         data_span: span_of(part.data_base(), part.data_words().len()),
         closure: part.closure(),
         seals: same_seals(part.seals()),
-        entries: entries_of(alloc, part)?,
-        calls: calls_of(alloc, part)?,
+        entries,
+        calls,
     })
 }
 

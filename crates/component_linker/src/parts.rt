@@ -3,14 +3,13 @@ ghost use Rattle.std.specs.Prelude.{◌≡◌, ◌<◌, ◌^◌, length, slice_g
 ghost use Rattle.component_check.specs.Places.{first_place};
 ghost use Rattle.seal_space.specs.Seals.{has_seal};
 ghost use Rattle.linked_starts.specs.Start.{same_name, stack_base_of};
-ghost use Rattle.linked_starts.specs.Pairs.{first_in, passes};
+ghost use Rattle.linked_starts.specs.Pairs.{passes};
 ghost use Rattle.linked_starts.specs.Links.{share_seals, l2, l3, l7};
 
-use crate::pairs::{first_in, once};
+use crate::pairs::once;
 use crate::placed::{Placed, PlacedParts};
 use cap_words::SealRange;
 use component_check::first_place;
-use linked_starts::PartPlace;
 use seal_space::disjoint;
 
 fn has_seal(range: &SealRange, seal: u32) -> bool
@@ -39,20 +38,14 @@ fn shares_seals_with(parts: &PlacedParts, part: &Placed, j: usize) -> bool
     share_seals(part, &parts.part(j))
 }
 
-fn l2_within(parts: &PlacedParts, i: usize) -> Option<u32>
+/// The first part before a part that shares a seal with it.
+pub(crate) fn l2_within(parts: &PlacedParts, i: usize) -> Option<u32>
     requires in_parts { i < length parts.now }
     requires few { i < 2 ^ 32 }
     ensures { result ≡ first_place ((l2 parts.now).within i) }
 {
     let part = parts.part(i);
     first_place(i, |j| shares_seals_with(parts, &part, j))
-}
-
-/// The first part that shares a seal with one before it, and the first of those.
-pub(crate) fn l2(parts: &PlacedParts) -> Option<PartPlace>
-    ensures { result ≡ first_in (l2 parts.now) }
-{
-    first_in(parts.len(), |i| l2_within(parts, i))
 }
 
 fn is_named_as(parts: &PlacedParts, part: &Placed, j: usize) -> bool
@@ -63,7 +56,8 @@ fn is_named_as(parts: &PlacedParts, part: &Placed, j: usize) -> bool
     part.name() == parts.part(j).name()
 }
 
-fn l3_within(parts: &PlacedParts, i: usize) -> Option<u32>
+/// The first part before a part that has its name.
+pub(crate) fn l3_within(parts: &PlacedParts, i: usize) -> Option<u32>
     requires in_parts { i < length parts.now }
     requires few { i < 2 ^ 32 }
     ensures { result ≡ first_place ((l3 parts.now).within i) }
@@ -72,24 +66,11 @@ fn l3_within(parts: &PlacedParts, i: usize) -> Option<u32>
     first_place(i, |j| is_named_as(parts, &part, j))
 }
 
-/// The first part of the name of one before it, and the first of those.
-pub(crate) fn l3(parts: &PlacedParts) -> Option<PartPlace>
-    ensures { result ≡ first_in (l3 parts.now) }
-{
-    first_in(parts.len(), |i| l3_within(parts, i))
-}
-
-fn l7_within(parts: &PlacedParts, i: usize) -> Option<u32>
+/// A part's stack base, where it isn't the first part's.
+pub(crate) fn l7_within(parts: &PlacedParts, i: usize) -> Option<u32>
     requires { i < length parts.now }
     ensures { result ≡ first_place ((l7 parts.now).within i) }
 {
     let base = parts.part(i).stack_base();
     once(base != parts.stack_base(), base)
-}
-
-/// The first part whose stack base isn't the first part's, and its stack base.
-pub(crate) fn l7(parts: &PlacedParts) -> Option<PartPlace>
-    ensures { result ≡ first_in (l7 parts.now) }
-{
-    first_in(parts.len(), |i| l7_within(parts, i))
 }

@@ -3,14 +3,12 @@ ghost use Rattle.std.specs.Prelude.{◌≡◌, ◌<◌, ◌≤◌, ℕ, take, le
 ghost use Rattle.std.specs.List.{list_any};
 ghost use Rattle.component_check.specs.Places.{first_place};
 ghost use Rattle.linked_starts.specs.Regions.{stack_span};
-ghost use Rattle.linked_starts.specs.Pairs.{first_in};
 ghost use Rattle.linked_starts.specs.Links.{near, near_part, near_before, l1};
 
-use crate::pairs::{first_in, once};
+use crate::pairs::once;
 use crate::placed::PlacedParts;
 use component_check::first_place;
 use lcm_machine::Span;
-use linked_starts::PartPlace;
 
 // Whether no address is between two spans, or they share one.
 fn near(a: Option<Span>, b: Option<Span>) -> bool
@@ -54,7 +52,8 @@ fn breaks(parts: &PlacedParts, count: usize, spans: &[Option<Span>], k: usize) -
     near_before(parts, count, &spans[..k], spans[k])
 }
 
-fn l1_within(parts: &PlacedParts, stack: u32, i: usize) -> Option<u32>
+/// The first region of a part that is near one before it; 0 at the number of parts, where the stack is.
+pub(crate) fn l1_within(parts: &PlacedParts, stack: u32, i: usize) -> Option<u32>
     requires { i ≤ length parts.now }
     ensures { result ≡ first_place ((l1 parts.now stack).within i) }
 {
@@ -63,11 +62,4 @@ fn l1_within(parts: &PlacedParts, stack: u32, i: usize) -> Option<u32>
     }
     let spans = parts.part(i).spans();
     first_place(3, |k| breaks(parts, i, &spans, k))
-}
-
-/// The earliest region that is near one before it.
-pub(crate) fn l1(parts: &PlacedParts, stack: u32) -> Option<PartPlace>
-    ensures { result ≡ first_in (l1 parts.now stack) }
-{
-    first_in(parts.len() + 1, |i| l1_within(parts, stack, i))
 }

@@ -4,16 +4,16 @@ ghost use Rattle.std.specs.List.{list_any};
 ghost use Rattle.component_check.specs.Places.{first_place};
 ghost use Rattle.linked_starts.specs.Start.{is_main};
 ghost use Rattle.linked_starts.specs.Regions.{is_stack_size};
-ghost use Rattle.linked_starts.specs.Pairs.{first_in, passes};
+ghost use Rattle.linked_starts.specs.Pairs.{passes};
 ghost use Rattle.linked_starts.specs.Links.{has_main, sites_upto, trusted_sites, l6, l8, l9};
 
 use crate::names::is_main;
-use crate::pairs::{first_in, once};
+use crate::pairs::once;
 use crate::placed::{Placed, PlacedParts, is_stack_size};
 use cap_words::LAST_PLACE;
 use component_check::first_place;
 use component_file::{Export, MOST_SITES};
-use linked_starts::{MOST_PARTS, PartPlace};
+use linked_starts::MOST_PARTS;
 
 fn has_main(part: &Placed) -> bool
     ensures { result ≡ list_any is_main part.now.component.exports }
@@ -40,7 +40,9 @@ fn is_second_main(exports: &[Export], k: usize, earlier: bool) -> bool
     is_main(&exports[k]) && earlier
 }
 
-fn l6_within(parts: &PlacedParts, i: usize) -> Option<u32>
+/// A part's shared export main, where one before it shares one too; 0 at the number of parts, where none
+/// does.
+pub(crate) fn l6_within(parts: &PlacedParts, i: usize) -> Option<u32>
     requires { i ≤ length parts.now }
     ensures { result ≡ first_place ((l6 parts.now).within i) }
 {
@@ -52,15 +54,8 @@ fn l6_within(parts: &PlacedParts, i: usize) -> Option<u32>
     first_place(exports.len(), |k| is_second_main(exports, k, earlier))
 }
 
-/// The second part that shares an export main, and which export that is; or the number of parts,
-/// where none does.
-pub(crate) fn l6(parts: &PlacedParts) -> Option<PartPlace>
-    ensures { result ≡ first_in (l6 parts.now) }
-{
-    first_in(parts.len() + 1, |i| l6_within(parts, i))
-}
-
-fn l8_within(parts: &PlacedParts, stack: u32, i: usize) -> Option<u32>
+/// At the number of parts the stack's size, where that doesn't fit.
+pub(crate) fn l8_within(parts: &PlacedParts, stack: u32, i: usize) -> Option<u32>
     requires { i ≤ length parts.now }
     ensures { result ≡ first_place ((l8 parts.now stack).within i) }
 {
@@ -69,13 +64,6 @@ fn l8_within(parts: &PlacedParts, stack: u32, i: usize) -> Option<u32>
     }
     let fits = is_stack_size(stack) && parts.stack_base() + stack <= LAST_PLACE + 1;
     once(!fits, stack)
-}
-
-/// The number of parts, and the stack's size, where that doesn't fit.
-pub(crate) fn l8(parts: &PlacedParts, stack: u32) -> Option<PartPlace>
-    ensures { result ≡ first_in (l8 parts.now stack) }
-{
-    first_in(parts.len() + 1, |i| l8_within(parts, stack, i))
 }
 
 // The sites of the trusted ones of the first parts.
@@ -91,7 +79,9 @@ fn sites_of_first(parts: &PlacedParts, count: usize) -> u32
     sum
 }
 
-fn l9_within(parts: &PlacedParts, i: usize) -> Option<u32>
+/// At part 16 the number of parts, where there are too many; or at the part with which trusted parts have
+/// too many sites, how many they have up to it.
+pub(crate) fn l9_within(parts: &PlacedParts, i: usize) -> Option<u32>
     requires { i < length parts.now }
     ensures { result ≡ first_place ((l9 parts.now).within i) }
 {
@@ -100,12 +90,4 @@ fn l9_within(parts: &PlacedParts, i: usize) -> Option<u32>
     }
     let sites = sites_of_first(parts, i + 1);
     once(u32::from(MOST_SITES) < sites, sites)
-}
-
-/// Part 16 and the number of parts, where there are too many; or the part with which trusted parts
-/// have too many sites, and how many they have up to it.
-pub(crate) fn l9(parts: &PlacedParts) -> Option<PartPlace>
-    ensures { result ≡ first_in (l9 parts.now) }
-{
-    first_in(parts.len(), |i| l9_within(parts, i))
 }

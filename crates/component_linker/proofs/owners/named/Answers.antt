@@ -7,7 +7,7 @@ pub returns : goal.returns
 unfolding owner_of
 returns c =
     rw (
-      c.in_ok-copy_name.ensures,
+      c.in_ok-name.ensures,
       c.name.ensures,
       c.trusted.ensures,
       c.span_of.ensures,
@@ -21,6 +21,6 @@ returns c =
       c.closure.ensures,
       c.same_seals.ensures,
       c.seals.ensures,
-      c.in_ok-entries_of.ensures,
-      c.in_ok-calls_of.ensures,
+      c.in_ok-entries.ensures,
+      c.in_ok-calls.ensures,
     ) refl

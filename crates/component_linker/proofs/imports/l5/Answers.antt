@@ -1,8 +1,0 @@
-use Rattle.std.proofs.Common.{rules}
-use Rattle.linked_starts.specs.Links.{l5}
-use Rattle.linked_starts.proofs.Offers.{first_in_is}
-use Rattle.component_linker.proofs.imports.l5.Goals as goal
-
-pub returns : goal.returns
-unfolding l5
-returns c = first_in_is (l5 c.args.parts.now) c.first_in.ensures (search rules) (λ p o lt h. search rules)

@@ -1,8 +1,0 @@
-use Rattle.std.proofs.Common.{rules}
-use Rattle.linked_starts.specs.Links.{l3}
-use Rattle.linked_starts.proofs.Offers.{first_in_is}
-use Rattle.component_linker.proofs.parts.l3.Goals as goal
-
-pub returns : goal.returns
-unfolding l3
-returns c = first_in_is (l3 c.args.parts.now) c.first_in.ensures (search rules) (λ p o lt h. search rules)

@@ -1,9 +1,0 @@
-use Rattle.std.proofs.Common.{rules}
-use Rattle.linked_starts.specs.Links.{l1}
-use Rattle.linked_starts.proofs.Offers.{first_in_is}
-use Rattle.component_linker.proofs.regions.l1.Goals as goal
-
-pub returns : goal.returns
-unfolding l1
-returns c = first_in_is (l1 c.args.parts.now c.args.stack) c.first_in.ensures (search rules)
-    (λ p o lt h. search rules)
