@@ -7,7 +7,6 @@ ghost use Rattle.linked_starts.specs.Listing.{SitesUpto, OwnersUpto};
 
 use crate::placed::{Placed, PlacedParts};
 use cap_words::{Items, LAST_PLACE, SealRange};
-use component_file::Import;
 use lcm_machine::Span;
 use linked_starts::{CalledEntry, Entry, MOST_PARTS, Owner, Site, SiteList};
 use std::alloc::{AllocError, Global};
@@ -85,16 +84,6 @@ fn entries_of(alloc: Global, part: &Placed<'_>) -> Result<Items<Entry>, AllocErr
     Ok(Items::of(entries))
 }
 
-// What an import names, whose slot is at an address.
-fn called(alloc: Global, import: &Import, at: u32) -> Result<CalledEntry, AllocError>
-    ensures { let x = import.now in
-        IfOk result (λ e. e ≡ record { part = x.part; name = x.name; at = at }) }
-{
-    let part = copy_name(alloc, import.part.as_slice())?;
-    let name = copy_name(alloc, import.name.as_slice())?;
-    Ok(CalledEntry { part, name, at })
-}
-
 // What the slots of a part name, one for each import.
 fn calls_of(alloc: Global, part: &Placed<'_>) -> Result<Items<CalledEntry>, AllocError>
     requires { Kept part.now }
@@ -103,7 +92,11 @@ fn calls_of(alloc: Global, part: &Placed<'_>) -> Result<Items<CalledEntry>, Allo
     let base = part.data_base();
     let mut calls = Vec::new(alloc);
     for import in part.imports() {
-        calls.push(called(alloc, import, base + import.slot)?)?;
+        calls.push(CalledEntry {
+            part: copy_name(alloc, import.part.as_slice())?,
+            name: copy_name(alloc, import.name.as_slice())?,
+            at: base + import.slot,
+        })?;
     }
     Ok(Items::of(calls))
 }
