@@ -17,7 +17,7 @@ impl fmt::Display for Failed {
     ghost output = { λ f. Some (failed_text f) };
 
     fn fmt<W: fmt::Write>(&self, f: &mut fmt::Formatter<W>) -> fmt::Result {
-        write!(f, "a call to the outside failed")
+        f.write_str("a call to the outside failed")
     }
 }
 

@@ -2,6 +2,7 @@
 ghost use Rattle.std.specs.Prelude.{◌≡◌, IfOk, IfErr};
 ghost use Rattle.outside_io.specs.FilesSeen.{IsFileName};
 ghost use Rattle.outside_io.specs.Whole.{GivesWhole, EndsRead};
+ghost use Rattle.outside_io.specs.FaultTexts.{read_end_text};
 ghost use Rattle.outside_io.specs.declared.whole.ReadEnd.TheVariants.{Fault, NoMemory};
 
 use crate::outside::{Failed, Files};
@@ -23,18 +24,26 @@ pub enum ReadEnd {
     NoMemory,
 }
 
+impl ReadEnd {
+    /// Its text.
+    fn why(self) -> &'static str
+        ensures { result.now ≡ read_end_text self }
+    {
+        match self {
+            ReadEnd::Fault => "the file could not be read",
+            ReadEnd::TooLong => "the file is too long",
+            ReadEnd::NoMemory => "out of memory",
+        }
+    }
+}
+
 impl fmt::Display for ReadEnd {
     ghost use Rattle.std.specs.Prelude.{Some};
-    ghost use Rattle.outside_io.specs.FaultTexts.{read_end_text};
 
     ghost output = { λ e. Some (read_end_text e) };
 
     fn fmt<W: fmt::Write>(&self, f: &mut fmt::Formatter<W>) -> fmt::Result {
-        match self {
-            ReadEnd::Fault => write!(f, "the file could not be read"),
-            ReadEnd::TooLong => write!(f, "the file is too long"),
-            ReadEnd::NoMemory => write!(f, "out of memory"),
-        }
+        f.write_str(self.why())
     }
 }
 
