@@ -10,3 +10,11 @@ token_fault_text (fault.Full at) = at_byte at (codes ": this token is full")
 token_fault_text (fault.Kept at) = at_byte at (codes ": a token is still full")
 token_fault_text (fault.Split at) = at_byte at (codes ": other tokens are full on another way")
 token_fault_text (fault.Dead at) = at_byte at (codes ": nothing leads here")
+
+-- what stands after the place
+abbrev pub why_of : TokenFault → List ℕ
+why_of (fault.Empty at) = codes "this token is empty"
+why_of (fault.Full at) = codes "this token is full"
+why_of (fault.Kept at) = codes "a token is still full"
+why_of (fault.Split at) = codes "other tokens are full on another way"
+why_of (fault.Dead at) = codes "nothing leads here"

@@ -1,6 +1,7 @@
 //! The first rule of tokens that a module breaks.
 ghost use Rattle.std.specs.Prelude.{◌≡◌};
 ghost use Rattle.token_check.specs.Faults.{fault_number, fault_place};
+ghost use Rattle.token_check.specs.FaultText.{why_of};
 
 use std::error::Error;
 use std::fmt;
@@ -48,6 +49,19 @@ impl TokenFault {
             | TokenFault::Dead(at) => at,
         }
     }
+
+    /// What its text says of the place.
+    fn why(self) -> &'static str
+        ensures { result.now ≡ why_of self }
+    {
+        match self {
+            TokenFault::Empty(_) => "this token is empty",
+            TokenFault::Full(_) => "this token is full",
+            TokenFault::Kept(_) => "a token is still full",
+            TokenFault::Split(_) => "other tokens are full on another way",
+            TokenFault::Dead(_) => "nothing leads here",
+        }
+    }
 }
 
 impl fmt::Display for TokenFault {
@@ -57,13 +71,7 @@ impl fmt::Display for TokenFault {
     ghost output = { λ fault. Some (token_fault_text fault) };
 
     fn fmt<W: fmt::Write>(&self, f: &mut fmt::Formatter<W>) -> fmt::Result {
-        match self {
-            TokenFault::Empty(at) => write!(f, "byte {at}: this token is empty"),
-            TokenFault::Full(at) => write!(f, "byte {at}: this token is full"),
-            TokenFault::Kept(at) => write!(f, "byte {at}: a token is still full"),
-            TokenFault::Split(at) => write!(f, "byte {at}: other tokens are full on another way"),
-            TokenFault::Dead(at) => write!(f, "byte {at}: nothing leads here"),
-        }
+        write!(f, "byte {}: {}", self.place(), self.why())
     }
 }
 
