@@ -1,6 +1,7 @@
 //! Why words gave no command.
 ghost use Rattle.std.specs.Prelude.{◌≡◌};
 ghost use Rattle.command_words.specs.declared.fault.WordsFault.TheVariants.{NoMemory};
+ghost use Rattle.command_words.specs.FaultText.{words_fault_text};
 
 use std::alloc::AllocError;
 use std::error::Error;
@@ -15,17 +16,25 @@ pub enum WordsFault {
     NoMemory,
 }
 
+impl WordsFault {
+    /// Its text.
+    fn why(self) -> &'static str
+        ensures { result.now ≡ words_fault_text self }
+    {
+        match self {
+            WordsFault::Usage => "usage",
+            WordsFault::NoMemory => "out of memory",
+        }
+    }
+}
+
 impl fmt::Display for WordsFault {
     ghost use Rattle.std.specs.Prelude.{Some};
-    ghost use Rattle.command_words.specs.FaultText.{words_fault_text};
 
     ghost output = { λ fault. Some (words_fault_text fault) };
 
     fn fmt<W: fmt::Write>(&self, f: &mut fmt::Formatter<W>) -> fmt::Result {
-        match self {
-            WordsFault::Usage => write!(f, "usage"),
-            WordsFault::NoMemory => write!(f, "out of memory"),
-        }
+        f.write_str(self.why())
     }
 }
 

@@ -48,14 +48,16 @@ fn part_words<'a>(alloc: Global) -> Arg<'a>
 fn line<'a>(alloc: Global) -> Result<Command<'a>, AllocError>
     ensures { IfOk result (λ c. app_of c ≡ line) }
 {
-    Command::new(alloc, "stk")
-        .arg(action_word(alloc))?
-        .arg(option(alloc, "stack"))?
-        .arg(option(alloc, "steps"))?
-        .arg(option(alloc, "out"))?
-        .arg(option(alloc, "feed"))?
-        .arg(option(alloc, "seed"))?
-        .arg(part_words(alloc))
+    let args = vec![in alloc;
+        action_word(alloc),
+        option(alloc, "stack"),
+        option(alloc, "steps"),
+        option(alloc, "out"),
+        option(alloc, "feed"),
+        option(alloc, "seed"),
+        part_words(alloc),
+    ]?;
+    Command::new(alloc, "stk").args(args)
 }
 
 /// The matches of the words, and None exactly where the command line doesn't take them.
