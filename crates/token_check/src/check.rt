@@ -1,10 +1,10 @@
 //! The first rule of tokens that a module breaks.
-ghost use Rattle.std.specs.Prelude.{◌≡◌, ◌↔◌, IsOk};
+ghost use Rattle.std.specs.Prelude.{◌≡◌, ◌↔◌, IsOk, Ok, Some};
 ghost use Rattle.token_language.specs.View.{args_of};
 ghost use Rattle.token_language.specs.StmtView.{block_of};
 ghost use Rattle.token_language.specs.Tokens.{tokens_of};
 ghost use Rattle.token_check.specs.Walk.{expr_walk, args_walk, stmt_walk, block_walk, proc_walk, procs_walk};
-ghost use Rattle.token_check.specs.Walk.{module_walk};
+ghost use Rattle.token_check.specs.Walk.{module_walk, walk_on};
 ghost use Rattle.token_check.specs.Typing.{IsTyped};
 
 use crate::fault::TokenFault;
@@ -76,17 +76,24 @@ fn args(p: &TokenProc, list: &[TokenArg], full: Full) -> Result<Full, TokenFault
     }
 }
 
+// What stands after a statement, where something does.
+fn goes_on(walked: Result<Full, TokenFault>) -> Result<Option<Full>, TokenFault>
+    ensures { result ≡ walk_on walked (λ full. Ok (Some full)) }
+{
+    Ok(Some(walked?))
+}
+
 #[cycle(stmt)]
 fn statement(p: &TokenProc, s: &TokenStmt, full: Full) -> Result<Option<Full>, TokenFault>
     ensures { result ≡ stmt_walk (tokens_of p.now) s.now full }
 {
     match &s.kind {
-        TokenStmtKind::Set(_, e) => Ok(Some(expr(p, e, full)?)),
+        TokenStmtKind::Set(_, e) => goes_on(expr(p, e, full)),
         TokenStmtKind::SetAt(_, index, e) => {
             let full = expr(p, index, full)?;
-            Ok(Some(expr(p, e, full)?))
+            goes_on(expr(p, e, full))
         }
-        TokenStmtKind::Call(call) => Ok(Some(args(p, call.args.as_slice(), full)?)),
+        TokenStmtKind::Call(call) => goes_on(args(p, call.args.as_slice(), full)),
         TokenStmtKind::If(c, body, None) => {
             let full = expr(p, c, full)?;
             let after = block(p, body.as_slice(), Some(full))?;
@@ -107,8 +114,8 @@ fn statement(p: &TokenProc, s: &TokenStmt, full: Full) -> Result<Option<Full>, T
             let full = expr(p, e, full)?;
             let_go(s.end, full)
         }
-        TokenStmtKind::Make(x) => Ok(Some(filled(token_at(p, x), x.at, full)?)),
-        TokenStmtKind::Spend(x) => Ok(Some(emptied(token_at(p, x), x.at, full)?)),
+        TokenStmtKind::Make(x) => goes_on(filled(token_at(p, x), x.at, full)),
+        TokenStmtKind::Spend(x) => goes_on(emptied(token_at(p, x), x.at, full)),
     }
 }
 
