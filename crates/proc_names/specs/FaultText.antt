@@ -9,3 +9,10 @@ name_fault_text (Unknown at) = at_byte at (codes ": there is nothing of this nam
 name_fault_text (Twice at) = at_byte at (codes ": this name is taken")
 name_fault_text (Arity at) = at_byte at (codes ": other arguments than it takes")
 name_fault_text (WrongKind at) = at_byte at (codes ": a name of something else")
+
+-- what stands after the place
+abbrev pub why_of : NameFault → List ℕ
+why_of (Unknown at) = codes "there is nothing of this name"
+why_of (Twice at) = codes "this name is taken"
+why_of (Arity at) = codes "other arguments than it takes"
+why_of (WrongKind at) = codes "a name of something else"

@@ -1,6 +1,7 @@
 //! What is wrong with a name.
 ghost use Rattle.std.specs.Prelude.{◌≡◌};
 ghost use Rattle.proc_names.specs.Faults.{fault_number, fault_place, comes_first, earlier};
+ghost use Rattle.proc_names.specs.FaultText.{why_of};
 
 use std::error::Error;
 use std::fmt;
@@ -44,6 +45,18 @@ impl NameFault {
             | NameFault::WrongKind(at) => at,
         }
     }
+
+    /// What its text says of the place.
+    fn why(self) -> &'static str
+        ensures { result.now ≡ why_of self }
+    {
+        match self {
+            NameFault::Unknown(_) => "there is nothing of this name",
+            NameFault::Twice(_) => "this name is taken",
+            NameFault::Arity(_) => "other arguments than it takes",
+            NameFault::WrongKind(_) => "a name of something else",
+        }
+    }
 }
 
 impl fmt::Display for NameFault {
@@ -53,12 +66,7 @@ impl fmt::Display for NameFault {
     ghost output = { λ fault. Some (name_fault_text fault) };
 
     fn fmt<W: fmt::Write>(&self, f: &mut fmt::Formatter<W>) -> fmt::Result {
-        match self {
-            NameFault::Unknown(at) => write!(f, "byte {at}: there is nothing of this name"),
-            NameFault::Twice(at) => write!(f, "byte {at}: this name is taken"),
-            NameFault::Arity(at) => write!(f, "byte {at}: other arguments than it takes"),
-            NameFault::WrongKind(at) => write!(f, "byte {at}: a name of something else"),
-        }
+        write!(f, "byte {}: {}", self.place(), self.why())
     }
 }
 

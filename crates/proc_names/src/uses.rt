@@ -236,7 +236,7 @@ fn stmt_fault(m: &ModuleFields, p: &Proc, s: &Stmt) -> Option<NameFault>
             call_fault(m, p, call),
             args_fault(m, p, call.args.as_slice()),
         ),
-        StmtKind::If(c, body, None) => earlier(
+        StmtKind::If(c, body, None) | StmtKind::While(c, body) => earlier(
             expr_fault(m, p, c),
             block_fault(m, p, body.as_slice()),
         ),
@@ -246,10 +246,6 @@ fn stmt_fault(m: &ModuleFields, p: &Proc, s: &Stmt) -> Option<NameFault>
                 block_fault(m, p, body.as_slice()),
                 block_fault(m, p, other.as_slice()),
             ),
-        ),
-        StmtKind::While(c, body) => earlier(
-            expr_fault(m, p, c),
-            block_fault(m, p, body.as_slice()),
         ),
         StmtKind::Return(e) | StmtKind::Halt(e) => expr_fault(m, p, e),
     }
