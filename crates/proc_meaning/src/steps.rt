@@ -1,12 +1,14 @@
 //! Statements: what each begins with, what a value does then, and what stands after.
-ghost use Rattle.std.specs.Prelude.{◌≡◌, ◌+◌, ◌*◌, IfOk, length, reverse, ◌∷◌};
+ghost use Rattle.std.specs.Prelude.{◌≡◌, ◌+◌, ◌*◌, IfOk, length, reverse, List, ◌∷◌};
 ghost use Rattle.proc_program.specs.StepView.{block_of};
 ghost use Rattle.proc_semantics.specs.Told.{tick};
 ghost use Rattle.proc_semantics.specs.Values.{World, Store};
 ghost use Rattle.proc_semantics.specs.Meaning.{Next, stmt, assigned};
 ghost use Rattle.proc_semantics.specs.Whole.{whole};
 ghost use Rattle.proc_meaning.specs.declared.places.Run.{Run};
-ghost use Rattle.proc_meaning.specs.Rest.{chosen, tested};
+ghost use Rattle.proc_meaning.specs.declared.work.Now.TheVariants.{Eval};
+ghost use Rattle.proc_meaning.specs.declared.work.Work.{Work};
+ghost use Rattle.proc_meaning.specs.Rest.{chosen, tested, now_of};
 ghost use Rattle.proc_meaning.specs.Rest.{with_value, after, back, rest_now, size_of, ahead_of, IsLess};
 
 use crate::ends::end_run;
@@ -18,6 +20,23 @@ use proc_semantics::Value;
 use source_events::End;
 use std::alloc::AllocError;
 
+/// The expression with which a statement begins, and what is to be done with its value.
+fn begun<'a>(s: &'a Statement) -> (Work<'a>, &'a Exp)
+    ensures { (world : World) (r : Run) (ws : List Work) (st : Store) →
+        stmt world (whole world) r.frame s.now (back world ws r.frame) (after world ws r.frame) r.env.items st
+        ≡ tick (now_of world (Eval result.1) (result.0 ∷ ws) r st) }
+{
+    match &s.kind {
+        StatementKind::Set(place, e) => (Work::SetTo(*place), e),
+        StatementKind::SetAt(row, index, e) => (Work::SetIndex(*row, e), index),
+        StatementKind::Do(e) => (Work::Forget, e),
+        StatementKind::If(c, a, b) => (Work::Choose(a.as_slice(), b.as_slice()), c),
+        StatementKind::While(c, b) => (Work::Test(c, b.as_slice()), c),
+        StatementKind::Return(e) => (Work::Return, e),
+        StatementKind::Halt(e) => (Work::Halt, e),
+    }
+}
+
 /// A statement begins.
 fn begin_step<'a>(s: &'a Statement, work: &mut Vec<Work<'a>>) -> Result<Now<'a>, AllocError>
     ensures same { IfOk result (λ n. (world : World) (r : Run) (st : Store) →
@@ -26,36 +45,9 @@ fn begin_step<'a>(s: &'a Statement, work: &mut Vec<Work<'a>>) -> Result<Now<'a>,
         ≡ tick (rest_now world n work.new.items r st)) }
     ensures less { IfOk result (λ n. size_of n work.new.items ≡ 2 * length work.old.items + 2) }
 {
-    match &s.kind {
-        StatementKind::Set(place, e) => {
-            work.push(Work::SetTo(*place))?;
-            Ok(Now::Eval(e))
-        }
-        StatementKind::SetAt(row, index, e) => {
-            work.push(Work::SetIndex(*row, e))?;
-            Ok(Now::Eval(index))
-        }
-        StatementKind::Do(e) => {
-            work.push(Work::Forget)?;
-            Ok(Now::Eval(e))
-        }
-        StatementKind::If(c, a, b) => {
-            work.push(Work::Choose(a.as_slice(), b.as_slice()))?;
-            Ok(Now::Eval(c))
-        }
-        StatementKind::While(c, b) => {
-            work.push(Work::Test(c, b.as_slice()))?;
-            Ok(Now::Eval(c))
-        }
-        StatementKind::Return(e) => {
-            work.push(Work::Return)?;
-            Ok(Now::Eval(e))
-        }
-        StatementKind::Halt(e) => {
-            work.push(Work::Halt)?;
-            Ok(Now::Eval(e))
-        }
-    }
+    let (then, e) = begun(s);
+    work.push(then)?;
+    Ok(Now::Eval(e))
 }
 
 /// A variable is set.
