@@ -166,7 +166,7 @@ fn stmt_fault(m: &TokenModuleFields, p: &TokenProc, s: &TokenStmt) -> Option<Nam
             call_fault(m, p, call),
             args_fault(m, p, call.args.as_slice()),
         ),
-        TokenStmtKind::If(c, body, None) => earlier(
+        TokenStmtKind::If(c, body, None) | TokenStmtKind::While(c, body) => earlier(
             expr_fault(m, p, c),
             block_fault(m, p, body.as_slice()),
         ),
@@ -176,10 +176,6 @@ fn stmt_fault(m: &TokenModuleFields, p: &TokenProc, s: &TokenStmt) -> Option<Nam
                 block_fault(m, p, body.as_slice()),
                 block_fault(m, p, other.as_slice()),
             ),
-        ),
-        TokenStmtKind::While(c, body) => earlier(
-            expr_fault(m, p, c),
-            block_fault(m, p, body.as_slice()),
         ),
         TokenStmtKind::Return(e) | TokenStmtKind::Halt(e) => expr_fault(m, p, e),
         TokenStmtKind::Make(x) => token_fault(p, x),
