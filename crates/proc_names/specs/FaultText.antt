@@ -1,14 +1,9 @@
 -- How the faults of names print.
-use Rattle.std.specs.Prelude.{ℕ, List, codes}
+use Rattle.std.specs.Prelude.{ℕ, List, codes, ◌++◌}
 use Rattle.cap_words.specs.FaultText.{at_byte}
 use Rattle.proc_names.specs.declared.fault.NameFault.{NameFault}
 use Rattle.proc_names.specs.declared.fault.NameFault.TheVariants.{Unknown, Twice, Arity, WrongKind}
-
-abbrev pub name_fault_text : NameFault → List ℕ
-name_fault_text (Unknown at) = at_byte at (codes ": there is nothing of this name")
-name_fault_text (Twice at) = at_byte at (codes ": this name is taken")
-name_fault_text (Arity at) = at_byte at (codes ": other arguments than it takes")
-name_fault_text (WrongKind at) = at_byte at (codes ": a name of something else")
+use Rattle.proc_names.specs.Faults.{fault_place}
 
 -- what stands after the place
 abbrev pub why_of : NameFault → List ℕ
@@ -16,3 +11,6 @@ why_of (Unknown at) = codes "there is nothing of this name"
 why_of (Twice at) = codes "this name is taken"
 why_of (Arity at) = codes "other arguments than it takes"
 why_of (WrongKind at) = codes "a name of something else"
+
+abbrev pub name_fault_text : NameFault → List ℕ
+name_fault_text fault = at_byte (fault_place fault) (codes ": " ++ why_of fault)

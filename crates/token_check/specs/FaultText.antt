@@ -1,15 +1,9 @@
 -- How the faults of tokens print.
-use Rattle.std.specs.Prelude.{ℕ, List, codes}
+use Rattle.std.specs.Prelude.{ℕ, List, codes, ◌++◌}
 use Rattle.cap_words.specs.FaultText.{at_byte}
 use Rattle.token_check.specs.declared.fault.TokenFault.{TokenFault}
 use Rattle.token_check.specs.declared.fault.TokenFault.TheVariants as fault
-
-abbrev pub token_fault_text : TokenFault → List ℕ
-token_fault_text (fault.Empty at) = at_byte at (codes ": this token is empty")
-token_fault_text (fault.Full at) = at_byte at (codes ": this token is full")
-token_fault_text (fault.Kept at) = at_byte at (codes ": a token is still full")
-token_fault_text (fault.Split at) = at_byte at (codes ": other tokens are full on another way")
-token_fault_text (fault.Dead at) = at_byte at (codes ": nothing leads here")
+use Rattle.token_check.specs.Faults.{fault_place}
 
 -- what stands after the place
 abbrev pub why_of : TokenFault → List ℕ
@@ -18,3 +12,6 @@ why_of (fault.Full at) = codes "this token is full"
 why_of (fault.Kept at) = codes "a token is still full"
 why_of (fault.Split at) = codes "other tokens are full on another way"
 why_of (fault.Dead at) = codes "nothing leads here"
+
+abbrev pub token_fault_text : TokenFault → List ℕ
+token_fault_text fault = at_byte (fault_place fault) (codes ": " ++ why_of fault)
