@@ -27,7 +27,8 @@ pub returns-in_err-z : goal.returns-in_err-z
 unfolding plan_in ask need by_cap
 returns-in_err-z g c = λ next.
     let z : operand (faces g.W.MachineWord.look c.args.self.now) c.args.n ≡ None = search rules in
-    rw (c.in_ok-into.ensures, z, fails_by_cap (faces g.W.MachineWord.look c.args.self.now c.args.r1)) (search rules)
+    rw (c.in_ok-into.ensures, z, fails_by_cap (faces g.W.MachineWord.look c.args.self.now c.args.r1))
+    (search rules)
 
 pub returns-in_err-addr-in-Memory : goal.returns-in_err-addr-in-Memory
 unfolding plan_in ask need by_cap
