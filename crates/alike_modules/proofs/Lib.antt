@@ -1,3 +1,16 @@
+mod Steps
+mod Leaves
+mod Nesting
+mod Exprs
+mod Stmts
+mod Items
+mod Modules
+mod Sound
+mod Lines
+mod Texts
+mod PrintedPieces
+mod Shallow
+mod Whole
 pub mod Lists
 pub mod Counts
 pub mod Names

@@ -20,7 +20,7 @@ use Rattle.proc_compiler.specs.declared.fault.CompileFault.TheVariants.{TooLarge
 use Rattle.proc_sources.specs.declared.fault.SourceFault.TheVariants.{Text, Name, Size}
 use Rattle.proc_language.specs.declared.dialect.Dialect.TheVariants.{Plain}
 use Rattle.proc_sources.specs.Sources.{compile_answer, plain_in, module_in, sourced}
-use Rattle.proc_again.specs.Reprint.{ReadAgain}
+use Rattle.alike_modules.specs.Reprint.{ReadAgain}
 use Rattle.alike_modules.specs.Alike.{IsParsedBack, IsSourceOf}
 use Rattle.alike_modules.proofs.Counts.{module_calls_alike}
 use Rattle.alike_modules.proofs.Programs.{same_program}

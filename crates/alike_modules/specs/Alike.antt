@@ -4,7 +4,7 @@ use Rattle.readers.specs.Readers.{told_by}
 use Rattle.proc_language.specs.declared.module.ModuleFields.{ModuleFields}
 use Rattle.proc_language.specs.Unplaced.{unplaced, IsAlike}
 use Rattle.proc_print.specs.Printed.{printed}
-use Rattle.proc_again.specs.Reprint.{HasShortLines, IsShallowText}
+use Rattle.alike_modules.specs.Reprint.{HasShortLines, IsShallowText}
 use Rattle.proc_language.specs.declared.dialect.Dialect.TheVariants.{Plain}
 use Rattle.proc_sources.specs.declared.fault.SourceFault.TheVariants.{Size}
 use Rattle.proc_sources.specs.Sources.{compile_answer, module_in, sourced}

@@ -10,6 +10,8 @@ ghost use Rattle.proc_program.specs.Lower.{part_of};
 ghost use Rattle.proc_sources.specs.Sources.{compile_answer};
 ghost use Rattle.module_rules.specs.Rules.{ruled, stack_base_of};
 ghost use Rattle.alike_modules.specs.Alike.{AreAlike, IsParsedBack, IsSourceOf};
+ghost use Rattle.std.specs.Prelude.{◌<◌, ◌^◌, length};
+ghost use Rattle.alike_modules.specs.Reprint.{ReadAgain};
 
 /// Modules that are alike, the same but for their places, are printed and compiled alike.
 ///
@@ -41,5 +43,15 @@ pub fn printed_modules_are_sources()
     ensures { (m : ModuleFields) → IsModule m → name_faults m ≡ [] → IsParsedBack m
         → IsSourceOf (printed m) m }
 {
-    proc_again::laws::what_is_printed_is_parsed();
+    crate::laws::what_is_printed_is_parsed();
+}
+
+/// A printed module is parsed as an alike one, if text, lines and brackets are within bounds.
+///
+/// The text has fewer than 2^32 bytes, no line above 512 bytes and no bracket opened inside 64 open ones.
+pub fn what_is_printed_is_parsed()
+    ensures { (m : ModuleFields) → length (printed m) < 2 ^ 32 → ReadAgain m }
+{
+    text_scan::laws::tokens_are_pieces();
+    text_scan::laws::reading_keeps_the_grammar();
 }

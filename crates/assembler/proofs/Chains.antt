@@ -3,7 +3,7 @@ use Rattle.std.proofs.Common.{◌≡◌, ℕ, zero, suc, ◌-◌, List, [], ◌�
 use Rattle.std.proofs.Common.{sym, ap, ◌∙◌, subst, arith}
 use Rattle.std.specs.Prelude.{slice_get, slice_set}
 use Rattle.component_file.specs.Limits.{Chain}
-use Rattle.asm_draft.specs.Tables.{last_of}
+use Rattle.assembler.specs.Tables.{last_of}
 
 newest : {A : Type 0} → Option A → List A → Option A
 newest before [] = before

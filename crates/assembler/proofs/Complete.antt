@@ -18,21 +18,22 @@ use Rattle.lcm_isa.specs.Numbers.{IsInstr}
 use Rattle.lcm_isa.proofs.Offers.{decode_of-fits}
 use Rattle.component_file.specs.declared.component.ComponentFields.{ComponentFields}
 use Rattle.component_file.specs.Limits.{Each, IsComponent}
-use Rattle.asm_labels.specs.declared.labels.Section.{Section}
-use Rattle.asm_labels.specs.declared.labels.Section.TheVariants.{Code, Data}
-use Rattle.asm_labels.specs.declared.labels.Label.{Label}
-use Rattle.asm_labels.specs.Labels.{AreWithin, label_of, is_in, offset_in}
-use Rattle.asm_labels.specs.Patch.{with_immediate, instr_in, with_instr_at}
-use Rattle.asm_labels.specs.References.{Reference, value_of, word_resolved, resolved, IsReady, AreReady}
-use Rattle.asm_labels.specs.References.{behind}
-use Rattle.asm_labels.proofs.Offers.{within, first_of, last, rest_ready, word_len, as_many}
+use Rattle.assembler.specs.declared.labels.Section.{Section}
+use Rattle.assembler.specs.declared.labels.Section.TheVariants.{Code, Data}
+use Rattle.assembler.specs.declared.labels.Label.{Label}
+use Rattle.assembler.specs.Labels.{AreWithin, label_of, is_in, offset_in}
+use Rattle.assembler.specs.Patch.{with_immediate, instr_in, with_instr_at}
+use Rattle.assembler.specs.References.{Reference, value_of, word_resolved, resolved, IsReady, AreReady}
+use Rattle.assembler.specs.References.{behind}
+use Rattle.assembler.proofs.LabelTables.{within}
+use Rattle.assembler.proofs.Resolved.{first_of, last, rest_ready, word_len, as_many}
 use Rattle.asm_fields.specs.declared.fault.AsmFault.{AsmFault}
 use Rattle.asm_fields.specs.declared.fault.AsmFault.TheVariants.{LabelMissing}
 use Rattle.asm_fields.specs.Fault.{of_scan}
 use Rattle.asm_fields.specs.declared.directives.ItemKind.TheVariants as item
-use Rattle.asm_draft.specs.Order.{rank, rank_of, reaches_data}
-use Rattle.asm_draft.specs.Draft.{Draft, nothing, may_end}
-use Rattle.asm_draft.specs.Whole.{drafted, ended_all, draft_of_text}
+use Rattle.assembler.specs.Order.{rank, rank_of, reaches_data}
+use Rattle.assembler.specs.Draft.{Draft, nothing, may_end}
+use Rattle.assembler.specs.Whole.{drafted, ended_all, draft_of_text}
 use Rattle.assembler.specs.Assembled.{assembled, none_missing, in_order, component_of, finished}
 use Rattle.readers.specs.Readers.{told_by}
 use Rattle.readers.specs.Results.{◌>>=◌}

@@ -12,12 +12,12 @@ use Rattle.lcm_isa.specs.declared.Instr.{Instr}
 use Rattle.lcm_isa.specs.Numbers.{number_of}
 use Rattle.component_file.specs.declared.TheConstants.{MOST_WORDS}
 use Rattle.cap_words.specs.Names.{is_name}
-use Rattle.asm_labels.specs.declared.labels.Section.{Section as SectionOf}
-use Rattle.asm_labels.specs.declared.labels.Section.TheVariants as section
-use Rattle.asm_labels.specs.declared.labels.Label.{Label}
-use Rattle.asm_labels.specs.Labels.{label_of}
-use Rattle.asm_labels.specs.References.{Reference, AreReady}
-use Rattle.asm_labels.proofs.Offers.{one_more}
+use Rattle.assembler.specs.declared.labels.Section.{Section as SectionOf}
+use Rattle.assembler.specs.declared.labels.Section.TheVariants as section
+use Rattle.assembler.specs.declared.labels.Label.{Label}
+use Rattle.assembler.specs.Labels.{label_of}
+use Rattle.assembler.specs.References.{Reference, AreReady}
+use Rattle.assembler.proofs.LabelTables.{one_more}
 use Rattle.asm_fields.specs.declared.directives.ItemKind.{ItemKind}
 use Rattle.asm_fields.specs.declared.directives.ItemKind.TheVariants as item
 use Rattle.asm_fields.specs.declared.directives.WordKind.{WordKind}
@@ -29,15 +29,15 @@ use Rattle.readers.specs.Readers.{◌>>=◌, unless_none, holds}
 use Rattle.asm_fields.specs.Fields.{Input, place, is_empty, is_labelled, name_at, proper_name_at, sign_at}
 use Rattle.asm_fields.specs.Fields.{colon, end_at}
 use Rattle.asm_fields.specs.Instrs.{Last, Plain, Code as CodeLabel, Data as DataLabel, row_named}
-use Rattle.asm_draft.specs.declared.header.TextHeader.{TextHeader}
-use Rattle.asm_draft.specs.Order.{rank, rank_of, repeats, furthest, may_follow, section_of}
-use Rattle.asm_draft.specs.Tables.{has_room}
-use Rattle.asm_draft.specs.Draft.{Draft, nothing, words_in, has_word_room, with_word, may_end, may_end_in}
-use Rattle.asm_draft.specs.Draft.{with_label, reference_of, with_instr}
-use Rattle.asm_draft.specs.Operands.{seals_of, operands_in}
-use Rattle.asm_draft.specs.Lines.{label_in, label_if, is_code, instr_in, word_in, may_stand, item_in}
-use Rattle.asm_draft.specs.Lines.{directive_from, directed, directive_in, behind_label, line_in}
-use Rattle.asm_draft.specs.Whole.{goes_to, line_or_none, drafted}
+use Rattle.assembler.specs.declared.header.TextHeader.{TextHeader}
+use Rattle.assembler.specs.Order.{rank, rank_of, repeats, furthest, may_follow, section_of}
+use Rattle.assembler.specs.Tables.{has_room}
+use Rattle.assembler.specs.Draft.{Draft, nothing, words_in, has_word_room, with_word, may_end, may_end_in}
+use Rattle.assembler.specs.Draft.{with_label, reference_of, with_instr}
+use Rattle.assembler.specs.Operands.{seals_of, operands_in}
+use Rattle.assembler.specs.Lines.{label_in, label_if, is_code, instr_in, word_in, may_stand, item_in}
+use Rattle.assembler.specs.Lines.{directive_from, directed, directive_in, behind_label, line_in}
+use Rattle.assembler.specs.Whole.{goes_to, line_or_none, drafted}
 use Rattle.assembler.proofs.Gets.{Gets, Any, gets_any, gets_then, gets_done, gets_holds, gets_some, gets_if}
 use Rattle.assembler.proofs.Gets.{gets_looking}
 use Rattle.assembler.proofs.Chains.{each_onto}

@@ -16,21 +16,21 @@ use Rattle.component_file.specs.declared.component.KindRow.{KindRow}
 use Rattle.cap_words.specs.Names.{is_name}
 use Rattle.component_file.specs.Limits.{Each, ImportFits, ExportFits, SiteFits, KindRowFits, KindFits}
 use Rattle.component_file.specs.Limits.{StretchFits}
-use Rattle.asm_labels.specs.declared.labels.Section.{Section}
-use Rattle.asm_labels.specs.declared.labels.Section.TheVariants.{Code, Data}
-use Rattle.asm_labels.specs.declared.labels.Label.{Label as LabelOf}
-use Rattle.asm_labels.specs.Labels.{label_of, is_in, offset_in as label_offset}
-use Rattle.asm_labels.specs.References.{Reference, AreReady}
-use Rattle.asm_labels.proofs.Offers.{within}
+use Rattle.assembler.specs.declared.labels.Section.{Section}
+use Rattle.assembler.specs.declared.labels.Section.TheVariants.{Code, Data}
+use Rattle.assembler.specs.declared.labels.Label.{Label as LabelOf}
+use Rattle.assembler.specs.Labels.{label_of, is_in, offset_in as label_offset}
+use Rattle.assembler.specs.References.{Reference, AreReady}
+use Rattle.assembler.proofs.LabelTables.{within}
 use Rattle.asm_fields.specs.declared.fault.AsmFault.TheVariants as fault
 use Rattle.asm_fields.specs.Fields.{place, place_of, name_or, meant, proper_name_from, proper_name_at}
 use Rattle.asm_fields.specs.Names.{kind_named}
 use Rattle.asm_fields.specs.Operands.{address_at, stretch_at, Offset, Number, Label, offset_at, shared_at}
 use Rattle.asm_fields.specs.Operands.{KindField, Plain, Pc, kind_behind, kind_at}
-use Rattle.asm_draft.specs.Tables.{Tables, first_out_of_order, with_import, with_export, with_site, with_row}
-use Rattle.asm_draft.specs.Draft.{Draft}
-use Rattle.asm_draft.specs.Operands.{offset_found, offset_operand, kind_found, kind_in, kinds_in, import_in}
-use Rattle.asm_draft.specs.Operands.{export_in, site_in, fail_in, literal_in, row_in}
+use Rattle.assembler.specs.Tables.{Tables, first_out_of_order, with_import, with_export, with_site, with_row}
+use Rattle.assembler.specs.Draft.{Draft}
+use Rattle.assembler.specs.Operands.{offset_found, offset_operand, kind_found, kind_in, kinds_in, import_in}
+use Rattle.assembler.specs.Operands.{export_in, site_in, fail_in, literal_in, row_in}
 use Rattle.assembler.proofs.Gets.{Gets, Any, gets_any, gets_then, gets_done, gets_holds, gets_if}
 use Rattle.assembler.proofs.Gets.{gets_looking, natural_within}
 use Rattle.assembler.proofs.Chains.{one_behind, each_free}

@@ -15,16 +15,16 @@ use Rattle.component_file.specs.declared.TheConstants.{MOST_SITES, MOST_ROWS}
 use Rattle.cap_words.specs.Names.{is_name}
 use Rattle.component_file.specs.Limits.{Chain, Each, ImportFits, ExportFits, SiteFits, KindRowFits}
 use Rattle.component_file.specs.Limits.{StretchFits}
-use Rattle.asm_labels.specs.declared.labels.Label.{Label}
-use Rattle.asm_labels.specs.Labels.{AreWithin}
-use Rattle.asm_labels.specs.Patch.{instr_in, some_immediate, has_immediate, has_immediate_at}
-use Rattle.asm_labels.specs.References.{Reference, IsReady, IsFrom, behind, AreReady}
+use Rattle.assembler.specs.declared.labels.Label.{Label}
+use Rattle.assembler.specs.Labels.{AreWithin}
+use Rattle.assembler.specs.Patch.{instr_in, some_immediate, has_immediate, has_immediate_at}
+use Rattle.assembler.specs.References.{Reference, IsReady, IsFrom, behind, AreReady}
 use Rattle.asm_fields.specs.declared.directives.ItemKind.{ItemKind}
-use Rattle.asm_draft.specs.declared.header.TextHeader.{TextHeader}
+use Rattle.assembler.specs.declared.header.TextHeader.{TextHeader}
 use Rattle.asm_fields.specs.declared.directives.ItemKind.TheVariants as item
-use Rattle.asm_draft.specs.Order.{rank, rank_of}
-use Rattle.asm_draft.specs.Tables.{Tables}
-use Rattle.asm_draft.specs.Draft.{Draft}
+use Rattle.assembler.specs.Order.{rank, rank_of}
+use Rattle.assembler.specs.Tables.{Tables}
+use Rattle.assembler.specs.Draft.{Draft}
 use Rattle.assembler.proofs.Words.{IsPartWord}
 
 abbrev pub AreWords : List Word → Type 0

@@ -1,3 +1,8 @@
+pub mod LabelTables
+pub mod Resolved
+mod KindLemmas
+mod LineLemmas
+pub mod Again
 pub mod Gets
 pub mod Words
 pub mod Chains

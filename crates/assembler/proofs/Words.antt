@@ -21,7 +21,7 @@ use Rattle.lcm_isa.specs.declared.Instr.{Instr}
 use Rattle.lcm_isa.specs.Numbers.{all_with, number_of, decode_of, if_numbered, candidate, IsInstr, IsOperand}
 use Rattle.lcm_isa.specs.Texts.{mnemonic_of, operands_of}
 use Rattle.lcm_isa.proofs.Offers.{decode_of-number_of}
-use Rattle.asm_labels.specs.Patch.{has_immediate}
+use Rattle.assembler.specs.Patch.{has_immediate}
 use Rattle.asm_fields.specs.declared.directives.WordKind.{WordKind}
 use Rattle.asm_fields.specs.declared.directives.WordKind.TheVariants.{Int, Cap, Seal}
 use Rattle.asm_fields.specs.declared.fault.AsmFault.TheVariants as fault

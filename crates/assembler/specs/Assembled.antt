@@ -5,12 +5,12 @@ use Rattle.readers.specs.Results.{◌>>=◌}
 use Rattle.text_scan.specs.Tokens.{scanned}
 use Rattle.cap_words.specs.declared.Word.{Word}
 use Rattle.component_file.specs.declared.component.ComponentFields.{ComponentFields}
-use Rattle.asm_labels.specs.References.{resolved}
+use Rattle.assembler.specs.References.{resolved}
 use Rattle.asm_fields.specs.declared.fault.AsmFault.{AsmFault}
 use Rattle.asm_fields.specs.declared.fault.AsmFault.TheVariants.{LabelMissing, Section}
 use Rattle.asm_fields.specs.Fault.{of_scan}
-use Rattle.asm_draft.specs.Draft.{Draft}
-use Rattle.asm_draft.specs.Whole.{draft_of_text}
+use Rattle.assembler.specs.Draft.{Draft}
+use Rattle.assembler.specs.Whole.{draft_of_text}
 
 -- A text is read in four passes. The first pass that finds a fault tells its first one.
 

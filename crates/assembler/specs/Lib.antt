@@ -1,1 +1,10 @@
+pub mod Labels
+pub mod Patch
+pub mod References
+pub mod Order
+pub mod Tables
+pub mod Draft
+pub mod Operands
+pub mod Lines
+pub mod Whole
 pub mod Assembled

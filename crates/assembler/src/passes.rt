@@ -1,12 +1,13 @@
 //! The passes over a text.
 ghost use Rattle.std.specs.Prelude.{◌≡◌, ◌≤◌, ◌<◌, ◌^◌, length};
 ghost use Rattle.component_file.specs.declared.TheConstants.{MOST_WORDS};
-ghost use Rattle.asm_labels.specs.References.{AreReady};
+ghost use Rattle.assembler.specs.References.{AreReady};
 ghost use Rattle.readers.specs.Answers.{AnswersUnlessRefused};
 ghost use Rattle.asm_fields.specs.Fault.{is_refusal};
 ghost use Rattle.assembler.specs.Assembled.{finished, assembled};
 
-use asm_draft::{Draft, DraftParts, draft_of};
+use crate::draft::{Draft, DraftParts};
+use crate::lines::draft_of;
 use asm_fields::AsmFault;
 use cap_words::Items;
 use component_file::{Component, ComponentFields};

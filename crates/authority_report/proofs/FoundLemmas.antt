@@ -18,16 +18,16 @@ use Rattle.lcm_machine.specs.Maps.{State}
 use Rattle.lcm_machine.specs.Places.{reg}
 use Rattle.lcm_machine.specs.Cells.{cell}
 use Rattle.linked_starts.specs.declared.owners.Owner.{Owner}
-use Rattle.place_sets.specs.declared.set.Stretch.{Stretch}
-use Rattle.place_sets.specs.Has.{has}
-use Rattle.place_sets.specs.Takes.{is_left}
-use Rattle.place_sets.proofs.Offers.{kept, fresh, only}
+use Rattle.authority_report.specs.declared.set.Stretch.{Stretch}
+use Rattle.authority_report.specs.Has.{has}
+use Rattle.authority_report.specs.Takes.{is_left}
+use Rattle.authority_report.proofs.TakesLemmas.{kept, fresh, only}
 use Rattle.authority_report.specs.declared.found.Found.{Found}
 use Rattle.authority_report.specs.Reaches.{is_seal_of, whole_code, whole_data, bare, Reaches, its_code}
 use Rattle.authority_report.specs.Reaches.{its_data, the_stack, in_cell, opened, Allows, SealsWith}
 use Rattle.authority_report.specs.Within.{CapWithin, SealsWithin, IsWithin}
 use Rattle.authority_report.specs.declared.reach.Reach.{Reach}
-use Rattle.place_sets.specs.Spans.{allows}
+use Rattle.authority_report.specs.Spans.{allows}
 use Rattle.authority_report.specs.Report.{told_authority, IsJust}
 use Rattle.authority_report.specs.SealRanges.{is_in}
 use Rattle.authority_report.specs.Found.{bared, gives, gives_seal, AddsWord, authority_of, IsSound}

@@ -1,3 +1,11 @@
+mod Ends
+mod Filled
+mod SpansListed
+mod StretchesFound
+pub mod FreeLemmas
+pub mod OneList
+pub mod OneSet
+pub mod TakesLemmas
 mod WithinClosed
 mod RunsWithin
 mod RunsBlind
@@ -9,3 +17,4 @@ mod OwnersSmall
 mod SealsOwn
 mod Ranges
 pub mod OneReport
+pub mod Offers

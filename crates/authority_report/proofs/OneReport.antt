@@ -5,8 +5,8 @@ use Rattle.std.specs.Prelude.{Some}
 use Rattle.cap_words.specs.Stretch.{Stretch}
 use Rattle.linked_starts.specs.declared.owners.Owner.{Owner}
 use Rattle.linked_starts.specs.Started.{StartSeen}
-use Rattle.place_sets.specs.declared.spans.ReachSpan.{ReachSpan}
-use Rattle.place_sets.proofs.Offers.{one_spans}
+use Rattle.authority_report.specs.declared.spans.ReachSpan.{ReachSpan}
+use Rattle.authority_report.proofs.OneSet.{one_spans}
 use Rattle.authority_report.specs.declared.reach.Reach.{Reach}
 use Rattle.authority_report.specs.Report.{owner_of_part, IsReport}
 use Rattle.authority_report.specs.Text.{part_text, TextOf, none, next}

@@ -11,10 +11,10 @@ use Rattle.std.proofs.lemmas.List.Folds.{list_any_at}
 use Rattle.cap_words.specs.declared.TheConstants.{LONGEST_STRETCH}
 use Rattle.cap_words.specs.Stretch.{Stretch}
 use Rattle.seal_space.specs.Seals.{has_seal}
-use Rattle.place_sets.specs.declared.set.Stretch.{Stretch as FromTo}
-use Rattle.place_sets.specs.Takes.{is_left}
-use Rattle.place_sets.specs.Stretches.{IsStretch, AreStretches as FromTosApart}
-use Rattle.place_sets.proofs.Offers.{one_stretches}
+use Rattle.authority_report.specs.declared.set.Stretch.{Stretch as FromTo}
+use Rattle.authority_report.specs.Takes.{is_left}
+use Rattle.authority_report.specs.Stretches.{IsStretch, AreStretches as FromTosApart}
+use Rattle.authority_report.proofs.OneSet.{one_stretches}
 use Rattle.authority_report.specs.SealRanges.{is_in, IsRange, AreRanges, range_of, Fits}
 
 -- ---- lists whose items are made from others

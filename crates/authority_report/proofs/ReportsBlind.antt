@@ -13,8 +13,8 @@ use Rattle.lcm_machine.specs.Maps.{State}
 use Rattle.lcm_machine.specs.Places.{reg}
 use Rattle.lcm_machine.specs.Blind.{SameBut}
 use Rattle.linked_starts.specs.declared.owners.Owner.{Owner}
-use Rattle.place_sets.specs.declared.spans.ReachSpan.{ReachSpan}
-use Rattle.place_sets.specs.Spans.{allows, span_has, IsSpan}
+use Rattle.authority_report.specs.declared.spans.ReachSpan.{ReachSpan}
+use Rattle.authority_report.specs.Spans.{allows, span_has, IsSpan}
 use Rattle.authority_report.specs.Reaches.{Reaches, its_code, its_data, the_stack, in_cell, opened}
 use Rattle.authority_report.specs.Reaches.{Allows, SealsWith}
 use Rattle.authority_report.specs.Within.{Authority}

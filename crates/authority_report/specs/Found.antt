@@ -14,10 +14,10 @@ use Rattle.lcm_machine.specs.Maps.{State}
 use Rattle.lcm_machine.specs.Places.{reg}
 use Rattle.lcm_machine.specs.Cells.{cell}
 use Rattle.linked_starts.specs.declared.owners.Owner.{Owner}
-use Rattle.place_sets.specs.Has.{has}
-use Rattle.place_sets.specs.Free.{free_below}
+use Rattle.authority_report.specs.Has.{has}
+use Rattle.authority_report.specs.Free.{free_below}
 use Rattle.cap_words.specs.declared.TheConstants.{LAST_PLACE}
-use Rattle.place_sets.specs.Takes.{is_left, Takes}
+use Rattle.authority_report.specs.Takes.{is_left, Takes}
 use Rattle.authority_report.specs.declared.found.Found.{Found}
 use Rattle.authority_report.specs.Reaches.{is_seal_of, whole_code, whole_data, bare, Allows, SealsWith}
 use Rattle.authority_report.specs.Within.{Authority, CapWithin, IsWithin}

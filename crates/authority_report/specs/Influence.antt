@@ -8,7 +8,7 @@ use Rattle.lcm_machine.specs.Blind.{SameBut, EndsAlike}
 use Rattle.linked_starts.specs.declared.owners.Owner.{Owner}
 use Rattle.linked_starts.specs.declared.owners.Entry.{Entry}
 use Rattle.linked_starts.specs.Started.{StartSeen}
-use Rattle.place_sets.specs.Spans.{span_has}
+use Rattle.authority_report.specs.Spans.{span_has}
 use Rattle.authority_report.specs.declared.reach.Reach.{Reach}
 use Rattle.authority_report.specs.Within.{Authority}
 use Rattle.authority_report.specs.Report.{told_authority, owner_of_part, IsReport, Reports}

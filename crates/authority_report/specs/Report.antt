@@ -5,7 +5,7 @@ use Rattle.cap_words.specs.Faces.{may_read, may_write, may_run}
 use Rattle.lcm_machine.specs.Maps.{State}
 use Rattle.linked_starts.specs.declared.owners.Owner.{Owner}
 use Rattle.linked_starts.specs.Started.{StartSeen}
-use Rattle.place_sets.specs.Spans.{allows, AreTidy}
+use Rattle.authority_report.specs.Spans.{allows, AreTidy}
 use Rattle.authority_report.specs.declared.reach.Reach.{Reach}
 use Rattle.authority_report.specs.Reaches.{Allows, SealsWith, is_seal_of}
 use Rattle.authority_report.specs.SealRanges.{is_in, AreRanges}

@@ -7,7 +7,7 @@ use Rattle.cap_words.specs.Stretch.{Stretch}
 use Rattle.seal_space.specs.Seals.{has_seal}
 use Rattle.lcm_machine.specs.Maps.{State}
 use Rattle.linked_starts.specs.declared.owners.Owner.{Owner}
-use Rattle.place_sets.specs.declared.set.Stretch.{Stretch as FromTo}
+use Rattle.authority_report.specs.declared.set.Stretch.{Stretch as FromTo}
 use Rattle.authority_report.specs.Reaches.{SealsWith}
 
 -- a seal of one of the ranges

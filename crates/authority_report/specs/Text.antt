@@ -8,7 +8,7 @@ use Rattle.linked_starts.specs.declared.owners.Owner.{Owner}
 use Rattle.linked_starts.specs.declared.owners.CalledEntry.{CalledEntry}
 use Rattle.linked_starts.specs.Start.{same_name}
 use Rattle.linked_starts.specs.Started.{StartSeen}
-use Rattle.place_sets.specs.declared.spans.ReachSpan.{ReachSpan}
+use Rattle.authority_report.specs.declared.spans.ReachSpan.{ReachSpan}
 use Rattle.authority_report.specs.declared.reach.Reach.{Reach}
 use Rattle.authority_report.specs.Report.{owner_of_part, IsReport}
 

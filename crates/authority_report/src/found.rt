@@ -1,16 +1,16 @@
 //! What is found of a part's reach, word by word.
 ghost use Rattle.std.specs.Prelude.{◌≡◌, ◌≤◌, ◌+◌, ◌&&◌, ℕ, false, nat_le, pos, IfOk, OnOk, []};
 ghost use Rattle.cap_words.specs.declared.Word.TheVariants.{Mem as MemWord, Seal as SealWord};
-ghost use Rattle.place_sets.specs.Has.{has};
+ghost use Rattle.authority_report.specs.Has.{has};
 ghost use Rattle.authority_report.specs.Reaches.{is_seal_of, whole_code, whole_data};
 ghost use Rattle.cap_words.specs.Face.{FaceInOrder, ContentInOrder};
 ghost use Rattle.authority_report.specs.Found.{bared, bare_word, opened_word, AddsWord, IsClosedBut, unread};
 
+use crate::set::{PlaceSet, Stretch};
 use cap_words::{CapFields, Content, Face, LAST_PLACE, Lin, Opened, Perm, SealFields, Word};
 use lcm_isa::Reg;
 use lcm_machine::LcmState;
 use linked_starts::Owner;
-use place_sets::{PlaceSet, Stretch};
 use std::alloc::{AllocError, Global};
 
 /// The addresses and seals that were found, and of those that can be read the ones whose words weren't

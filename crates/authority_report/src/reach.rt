@@ -1,6 +1,6 @@
 //! Reports.
+use crate::ReachSpan;
 use cap_words::{Items, SealRange};
-use place_sets::ReachSpan;
 
 /// What a part can reach: the spans of addresses with the same rights, and the ranges of seals. Both
 /// are maximal, disjoint, and in ascending order.

@@ -8,10 +8,10 @@ ghost use Rattle.authority_report.specs.Influence.{BoundsInfluence};
 use crate::found::Found;
 use crate::reach::Reach;
 use crate::seals::ranges_of;
+use crate::spans::spans_of;
 use cap_words::{LAST_PLACE, LONGEST_STRETCH};
 use lcm_machine::LcmState;
 use linked_starts::{Owner, Start};
-use place_sets::spans_of;
 use std::alloc::{AllocError, Global};
 
 /// The report of an owner.

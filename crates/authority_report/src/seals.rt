@@ -3,8 +3,8 @@ ghost use Rattle.std.specs.Prelude.{◌≡◌, map, IfOk};
 ghost use Rattle.std.specs.List.{All};
 ghost use Rattle.authority_report.specs.SealRanges.{range_of, Fits};
 
+use crate::set::Stretch;
 use cap_words::{Items, SealRange};
-use place_sets::Stretch;
 use std::alloc::{AllocError, Global};
 
 // A stretch of seals, as a range.

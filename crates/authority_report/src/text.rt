@@ -7,12 +7,12 @@ ghost use Rattle.authority_report.specs.SealRanges.{IsRange};
 ghost use Rattle.authority_report.specs.Text.{rights, part_line, span_line, seals_line};
 ghost use Rattle.authority_report.specs.Text.{exit_line, part_text, IsReachText};
 
+use crate::ReachSpan;
 use crate::reach::Reach;
 use crate::reporting::{owner_at, report_of};
 use cap_words::{Items, SealRange};
 use itoa::Buffer;
 use linked_starts::{CalledEntry, Owner, Start};
-use place_sets::ReachSpan;
 use std::alloc::{AllocError, Global};
 
 fn push_field(text: &mut Vec<u8>, bytes: &[u8]) -> Result<(), AllocError>

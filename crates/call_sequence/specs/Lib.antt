@@ -1,3 +1,12 @@
+pub mod Kinds
+pub mod Flow
+pub mod Ascending
+pub mod Places
+pub mod Lists
+pub mod Walk
+pub mod Verdict
+pub mod Local
+pub mod Holds
 pub mod Sequences
 pub mod Standing
 pub mod SequenceRuns

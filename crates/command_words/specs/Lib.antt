@@ -1,3 +1,6 @@
+pub mod Plans
+pub mod Answers
+pub mod Handed
 pub mod Texts
 pub mod FaultText
 pub mod Line

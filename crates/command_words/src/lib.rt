@@ -1,7 +1,8 @@
 //! The words of the command line: what they ask for, and nothing where they are no command.
 //!
 //! `clap` takes the words apart, as one simple command: an action, options with a value each, and
-//! part words. What follows from the action is in [`command_of`].
+//! part words. What follows from the action is in [`command_of`]. What the calls of both programs have alike
+//! stands here too: the order in which they read, what they answer, and the words that they are handed.
 #![tactic(auto)]
 
 mod action;
@@ -13,6 +14,7 @@ mod name;
 mod number;
 mod parse;
 mod part;
+mod words;
 
 pub use action::command_of;
 pub use command::{Command, ComponentDeed, LinkDeed, Linked};
@@ -21,6 +23,7 @@ pub use name::FileName;
 pub use number::{Seed, Steps};
 pub use parse::{file_by, matches_by};
 pub use part::{Ending, Mark, PartWord, PartWords};
+pub use words::call_words;
 
 /// The most part words of a command.
 pub const MOST_PARTS: usize = 16;

@@ -15,9 +15,8 @@ use crate::part::Part;
 use crate::placed::PlacedParts;
 use crate::rules::LinkRule;
 use crate::started::start_of;
-use call_sequence::laws::sequences_stand_word_by_word;
+use call_sequence::laws::{sequences_stand, sequences_stand_word_by_word};
 use component_check::{Group, Rule};
-use flow_rules::laws::sequences_stand;
 use linked_starts::{LinkFault, PartPlace, RuleAt, Start};
 use std::alloc::Global;
 

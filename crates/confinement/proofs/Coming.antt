@@ -16,7 +16,7 @@ use Rattle.call_sequence.specs.declared.TheConstants.{CALL_WORDS, RETURN_WORDS, 
 use Rattle.call_sequence.specs.SequenceRuns.{stack_cap}
 use Rattle.call_sequence.specs.SequenceWords.{IsInRange}
 use Rattle.call_sequence.proofs.Offers.{call_words, entry_words}
-use Rattle.flow_rules.specs.Holds.{code_at}
+use Rattle.call_sequence.specs.Holds.{code_at}
 use Rattle.linked_starts.specs.Parts.{PartSeen}
 use Rattle.trusted_border.specs.declared.layout.Layout.{Layout}
 use Rattle.trusted_border.specs.declared.layout.SiteCode.{SiteCode}

@@ -26,8 +26,8 @@ use Rattle.lcm_machine.specs.Acts.{Fetches}
 use Rattle.lcm_machine.proofs.Offers.{after_went, fetch_mapped, fetched_row, row_keeps, run_one, fetch_normal}
 use Rattle.lcm_machine.proofs.Offers.{run_then, used_target}
 use Rattle.call_sequence.specs.declared.TheConstants.{CALL_WORDS, RETURN_WORDS}
-use Rattle.flow_rules.specs.Holds.{code_at}
-use Rattle.flow_rules.specs.Places.{begins_entry}
+use Rattle.call_sequence.specs.Holds.{code_at}
+use Rattle.call_sequence.specs.Places.{begins_entry}
 use Rattle.linked_starts.specs.declared.owners.Site.{Site}
 use Rattle.linked_starts.specs.Owners.{AreSites}
 use Rattle.linked_starts.specs.Parts.{PartSeen}

@@ -15,7 +15,7 @@ use Rattle.component_check.specs.RuleText.{broken_at}
 use Rattle.component_check.specs.Verdict.{NoneBroken, check_from}
 use Rattle.component_check.specs.Rules.{rules_c, c1, c2, c3, c4, c5, c6, c7, c8, c9, c10, c11, c12}
 use Rattle.call_sequence.specs.Sequences.{call_code, return_code, entry_code}
-use Rattle.flow_rules.specs.Verdict.{IsKept}
+use Rattle.call_sequence.specs.Verdict.{IsKept}
 use Rattle.linked_starts.specs.Parts.{PartSeen, IsPart}
 use Rattle.linked_starts.specs.Pairs.{by_part}
 use Rattle.linked_starts.specs.Links.{rules_l, rule_at, l1, l2, l3, l4, l5, l6, l7, l8, l9}

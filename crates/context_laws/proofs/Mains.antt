@@ -9,7 +9,7 @@ use Rattle.cap_words.specs.declared.Word.TheVariants.{Mem}
 use Rattle.cap_words.specs.declared.Perm.TheVariants.{Rx, Rwx}
 use Rattle.lcm_machine.specs.Row.{faces}
 use Rattle.component_file.specs.declared.component.Export.{Export}
-use Rattle.flow_rules.specs.Holds.{code_at}
+use Rattle.call_sequence.specs.Holds.{code_at}
 use Rattle.linked_starts.specs.Parts.{PartSeen}
 use Rattle.linked_starts.specs.Standing.{placed}
 use Rattle.linked_starts.specs.Links.{has_main}

@@ -13,7 +13,7 @@ use Rattle.lcm_isa.specs.declared.Reg.{Reg}
 use Rattle.lcm_isa.specs.declared.Reg.TheVariants.{Stk, Rcode, Rdata, A0, A1, A2, A3}
 use Rattle.lcm_machine.specs.Places.{reg}
 use Rattle.lcm_machine.specs.Row.{faces}
-use Rattle.flow_rules.specs.Holds.{PcAt}
+use Rattle.call_sequence.specs.Holds.{PcAt}
 use Rattle.linked_starts.specs.Owners.{owner_of}
 use Rattle.linked_starts.specs.Start.{Exported, code_of}
 use Rattle.trusted_border.specs.declared.layout.SiteCode.{SiteCode}

@@ -15,10 +15,10 @@ use Rattle.text_scan.specs.Bytes.{is_newline}
 use Rattle.text_scan.specs.Tokens.{line_from, line_tokens, newline_at, lines_from}
 use Rattle.asm_fields.specs.Fields.{Lexeme, seen}
 use Rattle.asm_fields.proofs.Offers.{Alike, Whole, left, alike_seen}
-use Rattle.asm_draft.specs.Draft.{Draft}
-use Rattle.asm_draft.specs.Lines.{line_in}
-use Rattle.asm_draft.specs.Whole.{is_newline as is_line_end, lines_of, onto_first, line_or_none, drafted}
-use Rattle.asm_draft.specs.Whole.{goes_to}
+use Rattle.assembler.specs.Draft.{Draft}
+use Rattle.assembler.specs.Lines.{line_in}
+use Rattle.assembler.specs.Whole.{is_newline as is_line_end, lines_of, onto_first, line_or_none, drafted}
+use Rattle.assembler.specs.Whole.{goes_to}
 use Rattle.cap_words.specs.Text.{newline}
 
 -- reading on from a place of the text, where the lines before made a draft, ends in another

@@ -14,8 +14,8 @@ use Rattle.cap_words.specs.WordBytes.{WordFits, IsUnsealed}
 use Rattle.lcm_isa.specs.declared.Instr.{Instr}
 use Rattle.lcm_isa.specs.Numbers.{decode_of}
 use Rattle.lcm_isa.proofs.Offers.{number_of-decode_of, decode_of-fits}
-use Rattle.asm_labels.specs.declared.labels.Section.{Section}
-use Rattle.asm_labels.specs.declared.labels.Section.TheVariants as section
+use Rattle.assembler.specs.declared.labels.Section.{Section}
+use Rattle.assembler.specs.declared.labels.Section.TheVariants as section
 use Rattle.asm_fields.specs.declared.directives.ItemKind.{ItemKind}
 use Rattle.asm_fields.specs.declared.directives.ItemKind.TheVariants as item
 use Rattle.asm_fields.specs.declared.directives.WordKind.{WordKind}
@@ -26,13 +26,13 @@ use Rattle.asm_fields.specs.Words.{word_line as word_reader}
 use Rattle.asm_fields.proofs.Offers.{Again, Whole, directive_is_field, perm_field, lin_field, place_field}
 use Rattle.asm_fields.proofs.Offers.{i64_field, cap_forms, seals_forms, int_again, cap_again, seals_again}
 use Rattle.asm_fields.proofs.Offers.{instr_forms, instr_printed}
-use Rattle.asm_draft.specs.declared.header.TextHeader.{TextHeader}
-use Rattle.asm_draft.specs.Order.{rank, rank_of, repeats, furthest, may_follow, section_of}
-use Rattle.asm_draft.specs.Tables.{Tables}
-use Rattle.asm_draft.specs.Draft.{Draft, has_word_room, with_word, may_end, may_end_in}
-use Rattle.asm_draft.specs.Operands.{operands_in}
-use Rattle.asm_draft.specs.Lines.{may_stand}
-use Rattle.asm_draft.proofs.Offers.{instr_line_again, word_line_again, item_line_again, offset_forms}
+use Rattle.assembler.specs.declared.header.TextHeader.{TextHeader}
+use Rattle.assembler.specs.Order.{rank, rank_of, repeats, furthest, may_follow, section_of}
+use Rattle.assembler.specs.Tables.{Tables}
+use Rattle.assembler.specs.Draft.{Draft, has_word_room, with_word, may_end, may_end_in}
+use Rattle.assembler.specs.Operands.{operands_in}
+use Rattle.assembler.specs.Lines.{may_stand}
+use Rattle.assembler.proofs.Offers.{instr_line_again, word_line_again, item_line_again, offset_forms}
 use Rattle.disassembler.specs.Disassembled.{item_line, word_line, code_line, integer_line}
 use Rattle.disassembler.proofs.Leads.{Leads, leads_line, leads_fields}
 

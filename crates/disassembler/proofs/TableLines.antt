@@ -17,14 +17,14 @@ use Rattle.asm_fields.specs.declared.directives.ItemKind.{ItemKind}
 use Rattle.asm_fields.specs.declared.directives.ItemKind.TheVariants as item
 use Rattle.asm_fields.specs.Names.{kind_name, ownership}
 use Rattle.asm_fields.proofs.Offers.{proper_field, shared_field, kind_field, offset_field}
-use Rattle.asm_draft.specs.declared.header.TextHeader.{TextHeader}
-use Rattle.asm_draft.specs.Order.{rank, rank_of, may_follow}
-use Rattle.asm_draft.specs.Tables.{Tables, last_of as last_item, first_out_of_order, has_room}
-use Rattle.asm_draft.specs.Draft.{may_end}
-use Rattle.asm_draft.specs.Lines.{may_stand}
-use Rattle.asm_draft.proofs.Offers.{offset_forms, import_forms, export_forms, kind_forms, row_forms}
-use Rattle.asm_draft.proofs.Offers.{import_again, export_again, site_again, fail_again, literal_again}
-use Rattle.asm_draft.proofs.Offers.{row_again}
+use Rattle.assembler.specs.declared.header.TextHeader.{TextHeader}
+use Rattle.assembler.specs.Order.{rank, rank_of, may_follow}
+use Rattle.assembler.specs.Tables.{Tables, last_of as last_item, first_out_of_order, has_room}
+use Rattle.assembler.specs.Draft.{may_end}
+use Rattle.assembler.specs.Lines.{may_stand}
+use Rattle.assembler.proofs.Offers.{offset_forms, import_forms, export_forms, kind_forms, row_forms}
+use Rattle.assembler.proofs.Offers.{import_again, export_again, site_again, fail_again, literal_again}
+use Rattle.assembler.proofs.Offers.{row_again}
 use Rattle.assembler.proofs.Offers.{item_in_chain}
 use Rattle.cap_words.specs.Text.{field_text}
 use Rattle.disassembler.specs.Disassembled.{optional_line, import_line, export_line}

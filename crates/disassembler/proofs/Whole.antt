@@ -14,21 +14,21 @@ use Rattle.component_file.specs.declared.component.Area.{Area}
 use Rattle.component_file.specs.declared.component.ComponentFields.{ComponentFields}
 use Rattle.cap_words.specs.Names.{is_name}
 use Rattle.component_file.specs.Limits.{Chain, WordsFit, StretchFits, IsComponent}
-use Rattle.asm_labels.specs.declared.labels.Section.TheVariants as section
-use Rattle.asm_labels.specs.References.{resolved}
+use Rattle.assembler.specs.declared.labels.Section.TheVariants as section
+use Rattle.assembler.specs.References.{resolved}
 use Rattle.asm_fields.specs.declared.directives.ItemKind.{ItemKind}
 use Rattle.asm_fields.specs.declared.directives.ItemKind.TheVariants as item
 use Rattle.asm_fields.specs.Fields.{seen}
 use Rattle.asm_fields.proofs.Offers.{Again, proper_field, place_field}
-use Rattle.asm_draft.specs.declared.header.TextHeader.{TextHeader}
-use Rattle.asm_draft.specs.Order.{rank, rank_of, reaches_data}
-use Rattle.asm_draft.specs.Tables.{no_tables}
-use Rattle.asm_draft.specs.Draft.{Draft, nothing, may_end}
-use Rattle.asm_draft.specs.Operands.{operands_in}
-use Rattle.asm_draft.specs.Lines.{may_stand}
-use Rattle.asm_draft.specs.Whole.{drafted, lines_of, ended, ended_all, draft_of_text}
-use Rattle.asm_draft.proofs.Offers.{stretch_forms, name_again, stack_again, closure_again, movable_again}
-use Rattle.asm_draft.proofs.Offers.{seals_again, linear_again, code_base_again, data_base_again}
+use Rattle.assembler.specs.declared.header.TextHeader.{TextHeader}
+use Rattle.assembler.specs.Order.{rank, rank_of, reaches_data}
+use Rattle.assembler.specs.Tables.{no_tables}
+use Rattle.assembler.specs.Draft.{Draft, nothing, may_end}
+use Rattle.assembler.specs.Operands.{operands_in}
+use Rattle.assembler.specs.Lines.{may_stand}
+use Rattle.assembler.specs.Whole.{drafted, lines_of, ended, ended_all, draft_of_text}
+use Rattle.assembler.proofs.Offers.{stretch_forms, name_again, stack_again, closure_again, movable_again}
+use Rattle.assembler.proofs.Offers.{seals_again, linear_again, code_base_again, data_base_again}
 use Rattle.assembler.specs.Assembled.{finished, assembled}
 use Rattle.assembler.proofs.Offers.{IsPartWord, item_in_chain}
 use Rattle.disassembler.specs.Disassembled.{item_line, flag_line, stretch_line, code_line, word_line}

@@ -7,9 +7,9 @@ use Rattle.run_audit.specs.Audit.{audited}
 use Rattle.run_audit.specs.Laws.{TracesAreFound, FaultsAreFound}
 use Rattle.run_picture.specs.declared.fault.DrawFault.TheVariants as fault
 use Rattle.run_picture.specs.Picture.{drawn, drawn_if, is_too_long}
-use Rattle.call_answers.specs.Plans.{whole, too_long, unread, Comes}
-use Rattle.call_answers.specs.Answers.{answer, nothing, with_files, GivesAnswer, StayBut}
-use Rattle.call_answers.proofs.Offers.{comes_contents, ends_as, stay_but}
+use Rattle.command_words.specs.Plans.{whole, too_long, unread, Comes}
+use Rattle.command_words.specs.Answers.{answer, nothing, with_files, GivesAnswer, StayBut}
+use Rattle.command_words.proofs.Offers.{comes_contents, ends_as, stay_but}
 use Rattle.draw_call.specs.declared.words.DrawCall.{DrawCall}
 use Rattle.draw_call.specs.declared.refusal.DrawRefusal.{DrawRefusal}
 use Rattle.draw_call.specs.declared.refusal.DrawRefusal.TheVariants.{Usage, ReadFault, TooLong, Audit}

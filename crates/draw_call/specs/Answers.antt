@@ -11,9 +11,9 @@ use Rattle.run_picture.specs.declared.TheConstants.{LAST_LENGTH}
 use Rattle.run_picture.specs.declared.fault.DrawFault.{DrawFault}
 use Rattle.run_picture.specs.declared.fault.DrawFault.TheVariants as fault
 use Rattle.run_picture.specs.Picture.{drawn, is_too_long, picture}
-use Rattle.call_answers.specs.Plans.{Reading, PlanOf, Reads, Ends, Made}
-use Rattle.call_answers.specs.Answers.{AnswerWith, Program, OutsideWith, outside, with_files}
-use Rattle.call_answers.specs.Answers.{Answers, GivesAnswer, GivesNothing, Stay}
+use Rattle.command_words.specs.Plans.{Reading, PlanOf, Reads, Ends, Made}
+use Rattle.command_words.specs.Answers.{AnswerWith, Program, OutsideWith, outside, with_files}
+use Rattle.command_words.specs.Answers.{Answers, GivesAnswer, GivesNothing, Stay}
 use Rattle.draw_call.specs.declared.words.DrawCall.{DrawCall}
 use Rattle.draw_call.specs.declared.refusal.DrawRefusal.{DrawRefusal}
 use Rattle.draw_call.specs.declared.refusal.DrawRefusal.TheVariants as refusal

@@ -1,7 +1,7 @@
 //! The picture of the text in a file.
 ghost use Rattle.std.specs.Prelude.{Some};
 ghost use Rattle.run_picture.specs.Picture.{drawn};
-ghost use Rattle.call_answers.specs.Plans.{Follows, Meets};
+ghost use Rattle.command_words.specs.Plans.{Follows, Meets};
 ghost use Rattle.draw_call.specs.Answers.{picture_plan, plan_in};
 
 use crate::refusal::{DrawRefusal, DrawStop};

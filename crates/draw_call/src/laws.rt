@@ -1,6 +1,6 @@
 //! What holds of the answers of a call. These functions do nothing; their contracts are the laws.
 ghost use Rattle.std.specs.Prelude.{Option};
-ghost use Rattle.call_answers.specs.Answers.{IsComplete};
+ghost use Rattle.command_words.specs.Answers.{IsComplete};
 ghost use Rattle.draw_call.specs.declared.status.DrawStatus.{DrawStatus};
 ghost use Rattle.draw_call.specs.declared.words.DrawCall.{DrawCall};
 ghost use Rattle.draw_call.specs.Answers.{CallSeen, DrawAnswers, Cause, StayAt, stk_draw, out_of, plan_in};
@@ -19,7 +19,7 @@ pub fn each_status_has_its_cause()
 /// outside fails or memory is refused.
 ///
 /// The text is that of the file of `--feed`.
-#[tactic(auto, using(call_answers::proofs::Offers::complete))]
+#[tactic(auto, using(command_words::proofs::Offers::complete))]
 pub fn one_answer_is_due()
     ensures { (asked : Option DrawCall) (old : CallSeen) (status : DrawStatus) (new : CallSeen)
         → DrawAnswers asked old status new

@@ -1,6 +1,6 @@
 //! The call.
 ghost use Rattle.std.specs.Prelude.{◌<◌, [], length, Some, Ok, Err};
-ghost use Rattle.call_answers.specs.Answers.{GivesAnswer, WritesOrFails};
+ghost use Rattle.command_words.specs.Answers.{GivesAnswer, WritesOrFails};
 ghost use Rattle.command_words.specs.Texts.{texts};
 ghost use Rattle.draw_call.specs.Words.{call_in};
 ghost use Rattle.draw_call.specs.Answers.{DrawAnswers, answer_to, stk_draw, seen_by};

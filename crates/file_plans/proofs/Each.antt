@@ -10,8 +10,8 @@ use Rattle.file_plans.specs.declared.refusal.Stop.{Stop}
 use Rattle.file_plans.specs.declared.refusal.Stop.TheVariants.{Refused, NoMemory}
 use Rattle.command_words.specs.declared.part.PartWord.{PartWord}
 use Rattle.file_plans.specs.Plans.{Plan, Made, ◌>>=◌, each_at, Comes, Follows}
-use Rattle.call_answers.proofs.Offers.{comes_bind, comes_end, comes_left, comes_as, comes_map, comes_quiet}
-use Rattle.call_answers.proofs.Offers.{only_same, only_again}
+use Rattle.command_words.proofs.Offers.{comes_bind, comes_end, comes_left, comes_as, comes_map, comes_quiet}
+use Rattle.command_words.proofs.Offers.{only_same, only_again}
 
 -- the words before the k-th made these, and what comes of the others comes of all
 pub record SoFar {A : Type 0} (item : ℕ → PartWord → Plan A) (words : List PartWord) (old : FilesSeen) (k : ℕ)

@@ -7,7 +7,7 @@ use Rattle.file_plans.specs.declared.TheConstants.{LONGEST_FILE}
 use Rattle.file_plans.specs.declared.refusal.Refusal.{Refusal}
 use Rattle.file_plans.specs.declared.refusal.Stop.{Stop}
 use Rattle.file_plans.specs.Plans.{Plan, Ends, Made, ◌>>=◌, file, unless, whole, Comes, Follows}
-use Rattle.call_answers.proofs.Offers.{follows_end as any_follows_end}
+use Rattle.command_words.proofs.Offers.{follows_end as any_follows_end}
 
 -- a plan that stopped stops what goes on with it
 pub follows_end : {A B : Type 0} (p : Plan A) (f : A → Plan B) (old new : FilesSeen) (s : Stop)

@@ -6,9 +6,9 @@ use Rattle.file_plans.specs.declared.refusal.Refusal.{Refusal}
 use Rattle.file_plans.specs.declared.refusal.Refusal.TheVariants.{ReadFault, TooLong}
 use Rattle.file_plans.specs.declared.refusal.Stop.{Stop}
 use Rattle.file_plans.specs.declared.refusal.Stop.TheVariants.{Refused, NoMemory}
-use Rattle.call_answers.specs.Plans.{Reading, PlanOf}
-pub use Rattle.call_answers.specs.Plans.{Reads, Ends, Made, ◌>>=◌, whole, too_long, unread, Comes, Settles}
-pub use Rattle.call_answers.specs.Plans.{Follows, Meets, FollowsAs}
+use Rattle.command_words.specs.Plans.{Reading, PlanOf}
+pub use Rattle.command_words.specs.Plans.{Reads, Ends, Made, ◌>>=◌, whole, too_long, unread, Comes, Settles}
+pub use Rattle.command_words.specs.Plans.{Follows, Meets, FollowsAs}
 
 -- what a stop tells
 abbrev pub stop_tells : Stop → Option Refusal

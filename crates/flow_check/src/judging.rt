@@ -1,12 +1,12 @@
 //! What each instruction asks of the kinds of the registers, where it may jump, and the row after it.
 ghost use Rattle.std.specs.Prelude.{◌≡◌, Some, None};
 ghost use Rattle.lcm_machine.specs.Table.{is_pc};
-ghost use Rattle.flow_rules.specs.Flow.{flow, ask, into, source, is_area, seen, seen_operand, gets, taken};
-ghost use Rattle.flow_rules.specs.Flow.{take_from, led, led_to, cca_of, shows_nothing};
+ghost use Rattle.call_sequence.specs.Flow.{flow, ask, into, source, is_area, seen, seen_operand, gets, taken};
+ghost use Rattle.call_sequence.specs.Flow.{take_from, led, led_to, cca_of, shows_nothing};
 
 use crate::kinds::{below_any, kind_of, set_kind};
+use call_sequence::{Flow, Row};
 use component_file::{Kind, LAST_OFFSET};
-use flow_rules::{Flow, Row};
 use lcm_isa::{Instr, Operand, Reg};
 
 fn is_pc(r: Reg) -> bool
@@ -73,7 +73,7 @@ fn take_from(row: Row, r: Reg) -> Row
 }
 
 // A register gets an integer, where what is read may be read.
-#[tactic(auto, unfolding(flow_rules::specs::Flow::ask))]
+#[tactic(auto, unfolding(call_sequence::specs::Flow::ask))]
 fn int_into(row: Row, r: Reg, may: bool) -> Flow
     ensures { result ≡ into r (ask 6 may (gets row r Kind.Int)) }
 {
@@ -86,7 +86,7 @@ fn int_into(row: Row, r: Reg, may: bool) -> Flow
     gets(row, r, Kind::Int)
 }
 
-#[tactic(auto, unfolding(flow_rules::specs::Flow::flow, flow_rules::specs::Flow::ask))]
+#[tactic(auto, unfolding(call_sequence::specs::Flow::flow, call_sequence::specs::Flow::ask))]
 fn flow_move(at: u32, row: Row, r1: Reg, r2: Reg) -> Flow
     ensures { result ≡ flow (Instr.Move r1 (Operand.R r2)) at row }
 {
@@ -99,7 +99,7 @@ fn flow_move(at: u32, row: Row, r1: Reg, r2: Reg) -> Flow
     gets(take_from(row, r2), r1, source(at, &row, r2))
 }
 
-#[tactic(auto, unfolding(flow_rules::specs::Flow::flow, flow_rules::specs::Flow::ask))]
+#[tactic(auto, unfolding(call_sequence::specs::Flow::flow, call_sequence::specs::Flow::ask))]
 fn flow_set(at: u32, row: Row, r1: Reg, z: i32) -> Flow
     ensures { result ≡ flow (Instr.Move r1 (Operand.Imm z)) at row }
 {
@@ -109,7 +109,7 @@ fn flow_set(at: u32, row: Row, r1: Reg, z: i32) -> Flow
     gets(row, r1, Kind::Int)
 }
 
-#[tactic(auto, unfolding(flow_rules::specs::Flow::flow, flow_rules::specs::Flow::ask))]
+#[tactic(auto, unfolding(call_sequence::specs::Flow::flow, call_sequence::specs::Flow::ask))]
 fn flow_store(at: u32, row: Row, r1: Reg, r2: Reg) -> Flow
     ensures { result ≡ flow (Instr.Store r1 r2) at row }
 {
@@ -119,7 +119,7 @@ fn flow_store(at: u32, row: Row, r1: Reg, r2: Reg) -> Flow
     Flow::Flows(None, Some(take_from(row, r2)))
 }
 
-#[tactic(auto, unfolding(flow_rules::specs::Flow::flow, flow_rules::specs::Flow::ask))]
+#[tactic(auto, unfolding(call_sequence::specs::Flow::flow, call_sequence::specs::Flow::ask))]
 fn flow_load(at: u32, row: Row, r1: Reg, r2: Reg) -> Flow
     ensures { result ≡ flow (Instr.Load r1 r2) at row }
 {
@@ -132,7 +132,7 @@ fn flow_load(at: u32, row: Row, r1: Reg, r2: Reg) -> Flow
     gets(row, r1, Kind::Any)
 }
 
-#[tactic(auto, unfolding(flow_rules::specs::Flow::flow, flow_rules::specs::Flow::ask))]
+#[tactic(auto, unfolding(call_sequence::specs::Flow::flow, call_sequence::specs::Flow::ask))]
 fn flow_jmp(at: u32, row: Row, r1: Reg) -> Flow
     ensures { result ≡ flow (Instr.Jmp r1) at row }
 {
@@ -142,7 +142,7 @@ fn flow_jmp(at: u32, row: Row, r1: Reg) -> Flow
     }
 }
 
-#[tactic(auto, unfolding(flow_rules::specs::Flow::flow, flow_rules::specs::Flow::ask))]
+#[tactic(auto, unfolding(call_sequence::specs::Flow::flow, call_sequence::specs::Flow::ask))]
 fn flow_jnz(at: u32, row: Row, r1: Reg, r2: Reg) -> Flow
     ensures { result ≡ flow (Instr.Jnz r1 r2) at row }
 {
@@ -191,7 +191,7 @@ fn cca_of(row: Row, r: Reg, kind: Kind, n: Operand) -> Flow
     }
 }
 
-#[tactic(auto, unfolding(flow_rules::specs::Flow::flow, flow_rules::specs::Flow::ask))]
+#[tactic(auto, unfolding(call_sequence::specs::Flow::flow, call_sequence::specs::Flow::ask))]
 fn flow_cca(at: u32, row: Row, r1: Reg, n: Operand) -> Flow
     ensures { result ≡ flow (Instr.Cca r1 n) at row }
 {
@@ -222,14 +222,14 @@ const HANDED: [Reg; 14] = [
     Reg::G2,
 ];
 
-#[tactic(auto, unfolding(flow_rules::specs::Flow::shows_nothing))]
+#[tactic(auto, unfolding(call_sequence::specs::Flow::shows_nothing))]
 fn shows_nothing(row: &Row) -> bool
     ensures { result ≡ shows_nothing row.now }
 {
     HANDED.iter().all(|r| below_any(kind_of(row, *r)))
 }
 
-#[tactic(auto, unfolding(flow_rules::specs::Flow::flow, flow_rules::specs::Flow::ask))]
+#[tactic(auto, unfolding(call_sequence::specs::Flow::flow, call_sequence::specs::Flow::ask))]
 fn flow_xjmp(at: u32, row: Row, r1: Reg, r2: Reg) -> Flow
     ensures { result ≡ flow (Instr.Xjmp r1 r2) at row }
 {
@@ -243,7 +243,7 @@ fn flow_xjmp(at: u32, row: Row, r1: Reg, r2: Reg) -> Flow
 }
 
 /// What an instruction at an offset comes to, before which a row is current.
-#[tactic(auto, unfolding(flow_rules::specs::Flow::flow))]
+#[tactic(auto, unfolding(call_sequence::specs::Flow::flow))]
 pub(crate) fn flow_at(instr: Instr, at: u32, row: Row) -> Flow
     ensures { result ≡ flow instr at row }
 {

@@ -1,9 +1,9 @@
 //! Kinds and rows of kinds.
 ghost use Rattle.std.specs.Prelude.{◌≡◌};
-ghost use Rattle.flow_rules.specs.Kinds.{kind_of, set_kind, below_any, kind_below, row_below};
+ghost use Rattle.call_sequence.specs.Kinds.{kind_of, set_kind, below_any, kind_below, row_below};
 
+use call_sequence::Row;
 use component_file::Kind;
-use flow_rules::Row;
 use lcm_isa::Reg;
 
 /// At an entry, data is the part's, and nothing is known of the others.
@@ -45,7 +45,7 @@ pub(crate) const CLEAN_ROW: Row = [
 ];
 
 /// The kind of a register other than pc.
-#[tactic(auto, unfolding(flow_rules::specs::Kinds::kind_of))]
+#[tactic(auto, unfolding(call_sequence::specs::Kinds::kind_of))]
 pub(crate) fn kind_of(row: &Row, r: Reg) -> Kind
     ensures { result ≡ kind_of row.now r }
 {
@@ -53,7 +53,7 @@ pub(crate) fn kind_of(row: &Row, r: Reg) -> Kind
 }
 
 /// The row with another kind of a register other than pc.
-#[tactic(auto, unfolding(flow_rules::specs::Kinds::set_kind))]
+#[tactic(auto, unfolding(call_sequence::specs::Kinds::set_kind))]
 pub(crate) fn set_kind(row: Row, r: Reg, kind: Kind) -> Row
     ensures { result ≡ set_kind row r kind }
 {

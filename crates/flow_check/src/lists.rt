@@ -5,8 +5,9 @@ ghost use Rattle.component_check.specs.declared.rule.Group.TheVariants.{K};
 ghost use Rattle.component_check.specs.RuleText.{broken_at};
 ghost use Rattle.component_check.specs.Places.{first_place};
 ghost use Rattle.component_check.specs.Verdict.{check_from};
-ghost use Rattle.flow_rules.specs.Lists.{k1, k2, k3, k4, site_is_bad, overlap, meets_entry, meets_site};
-ghost use Rattle.flow_rules.specs.Lists.{entry_is_bad, least_of, row_offset, of_entry, is_misplaced, lists};
+ghost use Rattle.call_sequence.specs.Lists.{k1, k2, k3, k4, site_is_bad, overlap, meets_entry, meets_site};
+ghost use Rattle.call_sequence.specs.Lists.{entry_is_bad, least_of, row_offset, of_entry, is_misplaced};
+ghost use Rattle.call_sequence.specs.Lists.{lists};
 
 use crate::places::in_site;
 use call_sequence::{ENTRY_WORDS, SITE_WORDS, is_entry, site_difference};
@@ -25,7 +26,7 @@ fn site_is_bad(c: &ComponentFields, i: usize) -> bool
     0 < i && at < u64::from(sites[i - 1]) + u64::from(SITE_WORDS)
 }
 
-#[tactic(auto, unfolding(flow_rules::specs::Lists::k1))]
+#[tactic(auto, unfolding(call_sequence::specs::Lists::k1))]
 fn k1(c: &ComponentFields) -> Option<u32>
     requires { IsComponent c.now }
     ensures { result ≡ first_place (k1 c.now) }
@@ -41,7 +42,7 @@ fn k1(c: &ComponentFields) -> Option<u32>
 
 // The first word of a site that isn't the one of a call and a return. Where K1 is kept, the code has
 // room for all words of a site.
-#[tactic(auto, unfolding(flow_rules::specs::Lists::k2))]
+#[tactic(auto, unfolding(call_sequence::specs::Lists::k2))]
 fn k2(c: &Component) -> Option<u32>
     requires fits { IsComponent c.now }
     requires placed { first_place (k1 c.now) ≡ None }
@@ -78,7 +79,7 @@ fn meets_site(c: &ComponentFields, at: u32) -> bool
         .any(|s| overlap(*s, SITE_WORDS, at, ENTRY_WORDS))
 }
 
-#[tactic(auto, unfolding(flow_rules::specs::Lists::entry_is_bad))]
+#[tactic(auto, unfolding(call_sequence::specs::Lists::entry_is_bad))]
 fn entry_is_bad(c: &Component, at: u32) -> bool
     ensures { result ≡ entry_is_bad c.now at }
 {
@@ -112,7 +113,7 @@ fn k3(c: &Component) -> Option<u32>
     least
 }
 
-#[tactic(auto, unfolding(flow_rules::specs::Lists::of_entry))]
+#[tactic(auto, unfolding(call_sequence::specs::Lists::of_entry))]
 fn of_entry(c: &ComponentFields, at: u32) -> bool
     ensures { result ≡ of_entry c.now at }
 {
@@ -121,7 +122,7 @@ fn of_entry(c: &ComponentFields, at: u32) -> bool
     })
 }
 
-#[tactic(auto, unfolding(flow_rules::specs::Lists::is_misplaced))]
+#[tactic(auto, unfolding(call_sequence::specs::Lists::is_misplaced))]
 fn is_misplaced(c: &ComponentFields, at: u32) -> bool
     requires { IsComponent c.now }
     ensures { result ≡ is_misplaced c.now at }
@@ -139,7 +140,7 @@ fn row_offset(c: &ComponentFields, i: usize) -> u32
     c.rows.as_slice()[i].offset
 }
 
-#[tactic(auto, unfolding(flow_rules::specs::Lists::k4))]
+#[tactic(auto, unfolding(call_sequence::specs::Lists::k4))]
 fn k4(c: &ComponentFields) -> Option<u32>
     requires { IsComponent c.now }
     ensures { result ≡ first_place (k4 c.now) }

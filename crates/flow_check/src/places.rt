@@ -4,15 +4,14 @@
 //! names: an entry is looked for among all of them, of which there are at most 1,024.
 ghost use Rattle.std.specs.Prelude.{◌≡◌, ◌<◌, ◌≤◌, ◌+◌, ◌^◌, length};
 ghost use Rattle.component_file.specs.Limits.{IsComponent};
-ghost use Rattle.flow_rules.specs.Places.{begins_entry, begins_site, is_behind, in_site, declared};
-ghost use Rattle.flow_rules.specs.Ascending.{IsSplitAt};
+ghost use Rattle.call_sequence.specs.Places.{begins_entry, begins_site, is_behind, in_site, declared};
+ghost use Rattle.call_sequence.specs.Ascending.{IsSplitAt};
 
-use call_sequence::SITE_WORDS;
+use call_sequence::{Row, SITE_WORDS};
 use component_file::{ComponentFields, KindRow};
-use flow_rules::Row;
 
 /// Whether an export begins here.
-#[tactic(auto, unfolding(flow_rules::specs::Places::begins_entry))]
+#[tactic(auto, unfolding(call_sequence::specs::Places::begins_entry))]
 pub(crate) fn begins_entry(c: &ComponentFields, at: u32) -> bool
     ensures { result ≡ begins_entry c.now at }
 {

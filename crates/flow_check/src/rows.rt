@@ -1,16 +1,16 @@
 //! The row at an offset.
 ghost use Rattle.std.specs.Prelude.{◌≡◌, ◌≤◌, false, IfSome, IfNone};
 ghost use Rattle.component_file.specs.Limits.{IsComponent};
-ghost use Rattle.flow_rules.specs.Kinds.{Row};
-ghost use Rattle.flow_rules.specs.Places.{is_inside};
-ghost use Rattle.flow_rules.specs.Walk.{RowAt};
-ghost use Rattle.flow_rules.specs.Verdict.{IsKept};
+ghost use Rattle.call_sequence.specs.Kinds.{Row};
+ghost use Rattle.call_sequence.specs.Places.{is_inside};
+ghost use Rattle.call_sequence.specs.Walk.{RowAt};
+ghost use Rattle.call_sequence.specs.Verdict.{IsKept};
 
 use crate::kinds::ENTRY_ROW;
 use crate::places::{begins_entry, declared};
 use crate::walking::next_from;
+use call_sequence::{Row, Walk};
 use component_file::{Component, ComponentFields, Kind};
-use flow_rules::{Row, Walk};
 
 // The row at an offset: an entry's, or the current one when the walk has come there.
 fn row_of(c: &ComponentFields, offset: u32) -> Option<Row>

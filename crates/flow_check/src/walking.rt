@@ -2,25 +2,24 @@
 ghost use Rattle.std.specs.Prelude.{◌≡◌, ◌<◌, ◌≤◌, Some, None, length};
 ghost use Rattle.component_file.specs.Limits.{IsComponent};
 ghost use Rattle.component_check.specs.Rules.{is_at};
-ghost use Rattle.flow_rules.specs.Kinds.{entry_row, clean_row};
-ghost use Rattle.flow_rules.specs.Flow.{is_stk, flow};
-ghost use Rattle.flow_rules.specs.Walk.{instr_at, keep, comes_in, is_data, passes, site_ready, good_target};
-ghost use Rattle.flow_rules.specs.Walk.{flow_of, after_flow, at_row, past, at_word, at_entry, at_end};
-ghost use Rattle.flow_rules.specs.Walk.{next_from};
-ghost use Rattle.flow_rules.specs.Verdict.{WalksTo, IsFirstOfFlow, flow_answer};
+ghost use Rattle.call_sequence.specs.Kinds.{entry_row, clean_row};
+ghost use Rattle.call_sequence.specs.Flow.{is_stk, flow};
+ghost use Rattle.call_sequence.specs.Walk.{instr_at, keep, comes_in, is_data, passes, site_ready};
+ghost use Rattle.call_sequence.specs.Walk.{good_target, flow_of, after_flow, at_row, past, at_word, at_entry};
+ghost use Rattle.call_sequence.specs.Walk.{at_end, next_from};
+ghost use Rattle.call_sequence.specs.Verdict.{WalksTo, IsFirstOfFlow, flow_answer};
 
 use crate::judging::flow_at;
 use crate::kinds::{CLEAN_ROW, ENTRY_ROW, below_any, kind_of, row_below};
 use crate::lists::check_lists;
 use crate::places::{begins_entry, begins_site, declared};
-use call_sequence::{ENTRY_WORDS, SITE_WORDS};
+use call_sequence::{ENTRY_WORDS, Flow, Row, SITE_WORDS, Walk};
 use cap_words::Word;
 use component_check::{Broken, Group, Rule};
 use component_file::{Component, ComponentFields, Kind};
-use flow_rules::{Flow, Row, Walk};
 use lcm_isa::{Instr, Reg, decode};
 
-#[tactic(auto, unfolding(flow_rules::specs::Walk::instr_at))]
+#[tactic(auto, unfolding(call_sequence::specs::Walk::instr_at))]
 fn instr_at(c: &ComponentFields, at: u32) -> Option<Instr>
     ensures { result ≡ instr_at c.now at }
 {
@@ -31,7 +30,7 @@ fn instr_at(c: &ComponentFields, at: u32) -> Option<Instr>
 }
 
 // Goes on where the rule is kept.
-#[tactic(auto, unfolding(flow_rules::specs::Walk::keep))]
+#[tactic(auto, unfolding(call_sequence::specs::Walk::keep))]
 fn keep(rule: u8, at: u32, kept: bool, next: Walk) -> Walk
     ensures { result ≡ keep rule at kept next }
 {
@@ -79,7 +78,7 @@ fn passes(row: &Row) -> bool
     PASSED.iter().all(|p| below_any(kind_of(row, *p)))
 }
 
-#[tactic(auto, unfolding(flow_rules::specs::Walk::site_ready))]
+#[tactic(auto, unfolding(call_sequence::specs::Walk::site_ready))]
 fn site_ready(row: &Row) -> bool
     ensures { result ≡ site_ready row.now }
 {
@@ -92,7 +91,7 @@ fn site_ready(row: &Row) -> bool
     passes(row)
 }
 
-#[tactic(auto, unfolding(flow_rules::specs::Walk::good_target))]
+#[tactic(auto, unfolding(call_sequence::specs::Walk::good_target))]
 fn good_target(c: &ComponentFields, row: &Row, to: u32) -> bool
     requires { IsComponent c.now }
     ensures { result ≡ good_target c.now row.now to }
@@ -133,7 +132,7 @@ fn flow_of(instr: Option<Instr>, at: u32, row: Row) -> Flow
 }
 
 // A word before which a row is current.
-#[tactic(auto, unfolding(flow_rules::specs::Walk::at_row))]
+#[tactic(auto, unfolding(call_sequence::specs::Walk::at_row))]
 fn at_row(c: &ComponentFields, at: u32, row: Row) -> Walk
     requires fits { IsComponent c.now }
     requires here { at < length c.now.code }
@@ -147,7 +146,7 @@ fn at_row(c: &ComponentFields, at: u32, row: Row) -> Walk
 }
 
 // A word before which no row is current.
-#[tactic(auto, unfolding(flow_rules::specs::Walk::past))]
+#[tactic(auto, unfolding(call_sequence::specs::Walk::past))]
 fn past(c: &ComponentFields, at: u32) -> Walk
     requires fits { IsComponent c.now }
     requires here { at < length c.now.code }
@@ -158,7 +157,7 @@ fn past(c: &ComponentFields, at: u32) -> Walk
 }
 
 // A word that isn't an entry's first.
-#[tactic(auto, unfolding(flow_rules::specs::Walk::at_word))]
+#[tactic(auto, unfolding(call_sequence::specs::Walk::at_word))]
 fn at_word(c: &ComponentFields, at: u32, declared: Option<Row>, current: Option<Row>) -> Walk
     requires fits { IsComponent c.now }
     requires here { at < length c.now.code }
@@ -175,7 +174,7 @@ fn at_word(c: &ComponentFields, at: u32, declared: Option<Row>, current: Option<
 }
 
 /// One step of the walk, from an offset at which a row may be current.
-#[tactic(auto, unfolding(flow_rules::specs::Walk::next_from))]
+#[tactic(auto, unfolding(call_sequence::specs::Walk::next_from))]
 pub(crate) fn next_from(c: &ComponentFields, at: u32, current: Option<Row>) -> Walk
     requires { IsComponent c.now }
     ensures { result ≡ next_from c.now at current }

@@ -17,8 +17,8 @@ use Rattle.lcm_machine.specs.Cells.{cell}
 use Rattle.call_sequence.specs.Sequences.{call_code, return_code, entry_code}
 use Rattle.linked_starts.specs.Regions.{regions_of}
 use Rattle.linked_starts.specs.Start.{start_cell, start_regs, part_word, stack_of}
-use Rattle.place_sets.specs.declared.spans.ReachSpan.{ReachSpan}
-use Rattle.place_sets.specs.Spans.{span_has, IsSpan, Before, AreTidy}
+use Rattle.authority_report.specs.declared.spans.ReachSpan.{ReachSpan}
+use Rattle.authority_report.specs.Spans.{span_has, IsSpan, Before, AreTidy}
 use Rattle.overlay_machine.proofs.Offers.{any_is, any_of}
 use Rattle.authority_report.specs.declared.reach.Reach.{Reach}
 use Rattle.authority_report.specs.Reaches.{is_seal_of, whole_code, whole_data, Reaches, its_code, its_data}

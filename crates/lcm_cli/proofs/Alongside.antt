@@ -9,7 +9,7 @@ use Rattle.file_plans.specs.declared.TheConstants.{LONGEST_FILE}
 use Rattle.file_plans.specs.declared.refusal.Refusal.{Refusal}
 use Rattle.file_plans.specs.declared.refusal.Refusal.TheVariants.{TooLong}
 use Rattle.file_plans.specs.Plans.{Plan, Reads, Ends, Made, ◌>>=◌, unless, each_at}
-use Rattle.call_answers.specs.Plans.{Settles}
+use Rattle.command_words.specs.Plans.{Settles}
 use Rattle.lcm_cli.specs.Roads.{Held, Pairwise}
 
 -- ---- what is due, as a value; none where a file isn't there

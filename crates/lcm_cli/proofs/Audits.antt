@@ -16,8 +16,8 @@ use Rattle.refusal_lines.specs.declared.status.Status.{Status}
 use Rattle.refusal_lines.specs.declared.status.Status.TheVariants as status
 use Rattle.ready_tasks.specs.Audits.{audit_at}
 use Rattle.ready_tasks.specs.Commands.{Task, Write, ok_text, plan_of, plan_in}
-use Rattle.call_answers.specs.Answers.{with_files, AnswersWhole, whole, unput, unwritten, Answers, answer}
-use Rattle.call_answers.specs.Answers.{nothing}
+use Rattle.command_words.specs.Answers.{with_files, AnswersWhole, whole, unput, unwritten, Answers, answer}
+use Rattle.command_words.specs.Answers.{nothing}
 use Rattle.lcm_cli.specs.Answers.{Answer, Outside, writes, refused, IsAnswerOf, read_in, stk}
 use Rattle.lcm_cli.specs.Bytes.{bytes_of}
 use Rattle.lcm_cli.specs.Causes.{AuditTold}

@@ -40,7 +40,7 @@ use Rattle.source_events.specs.declared.End.{End}
 use Rattle.source_events.specs.declared.End.TheVariants as end
 use Rattle.meaning_tool.specs.Subjects.{Subject, told_of}
 use Rattle.ready_tasks.specs.Commands.{Telling, Task, Run, Trace, Reach, Debug, Put, Write, Tell, plan_in}
-use Rattle.call_answers.specs.Answers.{IsPut, whole, unput, unwritten, Answers, answer, nothing}
+use Rattle.command_words.specs.Answers.{IsPut, whole, unput, unwritten, Answers, answer, nothing}
 use Rattle.lcm_cli.specs.Answers.{Answer, Outside, end_status, meaning_status, writes, ran, ran_overlay}
 use Rattle.lcm_cli.specs.Answers.{tells, refused, IsAnswerOf, read_in, stk}
 use Rattle.lcm_cli.specs.Causes.{IsTurn, IsUnread, IsLong, IsUndecoded, IsUncompiled, IsUnassembled}
@@ -52,7 +52,7 @@ use Rattle.lcm_cli.specs.Causes.{Causes, Promised}
 use Rattle.lcm_cli.proofs.Making.{came_of}
 use Rattle.lcm_cli.proofs.Why.{WhyIs, why_is}
 use Rattle.lcm_cli.proofs.Put.{put_of}
-use Rattle.call_answers.proofs.Offers.{complete, puts_rose}
+use Rattle.command_words.proofs.Offers.{complete, puts_rose}
 
 -- ---- a read that failed
 

@@ -13,7 +13,7 @@ use Rattle.refusal_lines.specs.declared.status.Status.{Status}
 use Rattle.refusal_lines.specs.declared.status.Status.TheVariants as status
 use Rattle.ready_tasks.specs.Commands.{Task, Debug, plan_in, debug_plan}
 use Rattle.lcm_cli.specs.Bytes.{ComesOf, ComesBy}
-use Rattle.call_answers.specs.Answers.{with_files, AnswersWhole, Answers}
+use Rattle.command_words.specs.Answers.{with_files, AnswersWhole, Answers}
 use Rattle.lcm_cli.specs.Answers.{Answer, Outside, writes, IsAnswerOf, read_in, stk}
 use Rattle.lcm_cli.specs.Causes.{IsRunStatus, DebugGiven}
 use Rattle.lcm_cli.proofs.Debugs.{DebugCame, debug_came}

@@ -11,7 +11,7 @@ use Rattle.generated_load.specs.Loads.{load_steps}
 use Rattle.ready_tasks.specs.Commands.{Lines, Totals, Task, Run, Trace, Reach, Debug, Put, Write, Tell}
 use Rattle.debug_tool.specs.Replies.{debug_text}
 use Rattle.ready_tasks.specs.ReadyTasks.{IsTextOf, Does, FollowsTask}
-use Rattle.call_answers.specs.Answers.{unwritten, Answers, answer, nothing, GivesOrNothing, with_files}
+use Rattle.command_words.specs.Answers.{unwritten, Answers, answer, nothing, GivesOrNothing, with_files}
 use Rattle.lcm_cli.specs.Answers.{Outside, writes, meaning_status, says_ok, puts, ran, ran_overlay}
 use Rattle.lcm_cli.specs.Answers.{IsAnswerOf, ready_answer, IsReady, stk}
 use Rattle.file_plans.proofs.Offers.{only_again, comes_quiet}

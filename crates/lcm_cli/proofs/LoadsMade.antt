@@ -13,7 +13,7 @@ use Rattle.refusal_lines.specs.declared.status.Status.{Status}
 use Rattle.link_tool.specs.Loads.{load_plan}
 use Rattle.ready_tasks.specs.Commands.{Task, Totals, for_task, plan_in, load_task}
 use Rattle.lcm_cli.specs.Bytes.{ComesOf}
-use Rattle.call_answers.specs.Answers.{with_files, AnswersWhole, Answers}
+use Rattle.command_words.specs.Answers.{with_files, AnswersWhole, Answers}
 use Rattle.lcm_cli.specs.Answers.{Answer, Outside, ran, IsAnswerOf, read_in, stk}
 use Rattle.lcm_cli.specs.Causes.{IsRunStatus, LoadGiven}
 use Rattle.lcm_cli.proofs.Loads.{load_made, comes_stays}

@@ -13,7 +13,7 @@ use Rattle.meaning_tool.specs.Subjects.{Subject, told_of, subject_in}
 use Rattle.refusal_lines.specs.declared.status.Status.{Status}
 use Rattle.ready_tasks.specs.Commands.{Task, Tell, plan_of, plan_in}
 use Rattle.lcm_cli.specs.Bytes.{ComesOf, ComesBy}
-use Rattle.call_answers.specs.Answers.{with_files, AnswersWhole, Answers}
+use Rattle.command_words.specs.Answers.{with_files, AnswersWhole, Answers}
 use Rattle.lcm_cli.specs.Answers.{Answer, Outside, tells, IsAnswerOf, read_in, stk}
 use Rattle.lcm_cli.specs.Causes.{IsRunStatus, MeaningGiven}
 use Rattle.lcm_cli.proofs.Tasks.{made_of}

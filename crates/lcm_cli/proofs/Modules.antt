@@ -19,8 +19,8 @@ use Rattle.proc_sources.specs.declared.fault.SourceFault.{SourceFault}
 use Rattle.proc_sources.specs.Sources.{module_in}
 use Rattle.source_events.specs.declared.Item.{Item}
 use Rattle.module_rules.specs.Rules.{stack_base_of, ruled}
-use Rattle.run_feed.specs.declared.fault.FeedFault.{FeedFault}
-use Rattle.run_feed.specs.Feed.{fed}
+use Rattle.line_fields.specs.declared.fault.FeedFault.{FeedFault}
+use Rattle.line_fields.specs.Feed.{fed}
 use Rattle.file_plans.specs.declared.TheConstants.{LONGEST_FILE}
 use Rattle.file_plans.specs.declared.refusal.Refusal.{Refusal}
 use Rattle.file_plans.specs.declared.refusal.Refusal.TheVariants as refusal

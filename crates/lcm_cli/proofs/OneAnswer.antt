@@ -14,8 +14,8 @@ use Rattle.file_plans.specs.declared.refusal.Refusal.{Refusal}
 use Rattle.file_plans.specs.declared.refusal.Refusal.TheVariants as refusal
 use Rattle.file_plans.specs.Plans.{Plan, Reads, Ends, Made}
 use Rattle.ready_tasks.specs.Commands.{Task, Run, Trace, Reach, Debug, Put, Write, Tell, plan_in}
-use Rattle.call_answers.specs.Plans.{Settles}
-use Rattle.call_answers.specs.Answers.{IsWritten}
+use Rattle.command_words.specs.Plans.{Settles}
+use Rattle.command_words.specs.Answers.{IsWritten}
 use Rattle.lcm_cli.specs.Answers.{Answer, IsAnswerOf, writes, ran, ran_overlay, stk}
 use Rattle.refusal_lines.specs.declared.status.Status.TheVariants.{Done}
 use Rattle.lcm_cli.proofs.OneStart.{one_start}

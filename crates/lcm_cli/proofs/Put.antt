@@ -33,8 +33,8 @@ use Rattle.ready_tasks.specs.Commands.{Task, Run, Trace, Reach, Debug, Put, Writ
 use Rattle.ready_tasks.specs.Commands.{spelling_of, IsReadAgain, link_task, component_task, plan_of, plan_in}
 use Rattle.link_tool.specs.Linked.{linked_plan}
 use Rattle.link_tool.specs.Loads.{load_plan}
-use Rattle.call_answers.specs.Answers.{NewFile, IsPut, whole, unput, unwritten, Answers, answer, nothing}
-use Rattle.call_answers.specs.Answers.{Stay}
+use Rattle.command_words.specs.Answers.{NewFile, IsPut, whole, unput, unwritten, Answers, answer, nothing}
+use Rattle.command_words.specs.Answers.{Stay}
 use Rattle.lcm_cli.specs.Answers.{Answer, Outside, end_status, meaning_status, ran, ran_overlay, tells, puts}
 use Rattle.lcm_cli.specs.Answers.{refused, IsAnswerOf, read_in, stk}
 use Rattle.lcm_cli.specs.Causes.{PutsFile, link_out, component_out, out_name, OthersStay, StayAt}
@@ -43,7 +43,7 @@ use Rattle.lcm_cli.specs.Bytes.{bytes_of, ComesOf}
 use Rattle.lcm_cli.proofs.Debugs.{debug_came}
 use Rattle.lcm_cli.proofs.Making.{came_of}
 use Rattle.lcm_cli.proofs.Tasks.{made_of}
-use Rattle.call_answers.proofs.Offers.{comes_contents, keeps_from, puts_rose}
+use Rattle.command_words.proofs.Offers.{comes_contents, keeps_from, puts_rose}
 
 -- ---- its name is that of `--out`
 

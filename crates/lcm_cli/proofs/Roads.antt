@@ -29,7 +29,7 @@ use Rattle.alike_modules.specs.Alike.{AreAlike, IsSourceOf}
 use Rattle.proc_program.specs.Lower.{part_of}
 use Rattle.proc_sources.specs.Sources.{module_in, sourced}
 use Rattle.module_rules.specs.Rules.{stack_base_of, ruled}
-use Rattle.run_feed.specs.Feed.{fed}
+use Rattle.line_fields.specs.Feed.{fed}
 use Rattle.source_events.specs.declared.Told.{Told}
 use Rattle.proc_language.specs.declared.dialect.Dialect.TheVariants.{Plain, Tokens}
 use Rattle.file_plans.specs.declared.TheConstants.{LONGEST_FILE}
@@ -45,7 +45,7 @@ use Rattle.ready_tasks.specs.Debugs.{unscripted, script_at}
 use Rattle.ready_tasks.specs.Commands.{Task, Tell, Debug, link_task, component_task, debug_plan, for_task}
 use Rattle.link_tool.specs.Linked.{parts_plan, image_plan, linked_plan}
 use Rattle.ready_tasks.specs.Commands.{plan_of}
-use Rattle.call_answers.specs.Answers.{NewFile, IsWritten}
+use Rattle.command_words.specs.Answers.{NewFile, IsWritten}
 use Rattle.lcm_cli.specs.Answers.{Answer, IsAnswerOf, tells, puts, writes, stk}
 use Rattle.lcm_cli.specs.Roads.{Held, PutsComponent, PutsImage, ShowsText, IsErasure, HoldsShort, Pairwise}
 use Rattle.lcm_cli.specs.Roads.{HaveOneText, same, erasure, IsBeside, one_text, component, shown, AreBeside}

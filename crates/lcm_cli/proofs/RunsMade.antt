@@ -42,8 +42,8 @@ use Rattle.file_plans.specs.Plans.{Plan}
 use Rattle.ready_tasks.specs.Commands.{Lines, Task, link_task, plan_of, plan_in}
 use Rattle.link_tool.specs.Linked.{linked_plan}
 use Rattle.lcm_cli.specs.Bytes.{ComesOf, ComesBy}
-use Rattle.call_answers.specs.Answers.{NewFile, with_files, IsPut, AnswersWhole, whole, unput, unwritten}
-use Rattle.call_answers.specs.Answers.{Answers, answer, nothing}
+use Rattle.command_words.specs.Answers.{NewFile, with_files, IsPut, AnswersWhole, whole, unput, unwritten}
+use Rattle.command_words.specs.Answers.{Answers, answer, nothing}
 use Rattle.lcm_cli.specs.Answers.{Answer, Outside, end_status, writes, ran, ran_overlay, refused, IsAnswerOf}
 use Rattle.lcm_cli.specs.Answers.{read_in, stk}
 use Rattle.lcm_cli.specs.Causes.{IsRunStatus, Started, text_of_run, RunGiven, TraceGiven, ReachGiven, RunCut}

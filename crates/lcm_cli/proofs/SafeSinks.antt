@@ -13,7 +13,7 @@ use Rattle.lcm_machine.specs.Run.{answer as last_step, plain}
 use Rattle.refusal_lines.specs.declared.status.Status.TheVariants as status
 use Rattle.lcm_cli.specs.Bytes.{ComesOf}
 use Rattle.ready_tasks.specs.Commands.{plan_in}
-use Rattle.call_answers.specs.Answers.{outside}
+use Rattle.command_words.specs.Answers.{outside}
 use Rattle.lcm_cli.specs.Answers.{Answer, read_in}
 use Rattle.lcm_cli.specs.SafeRuns.{SafeSinksHoldRuns}
 use Rattle.lcm_cli.proofs.RunsMade.{cut_of, DeedDue, told, made, asked_due, no_cut, never_cut, run_never}

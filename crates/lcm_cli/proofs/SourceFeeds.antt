@@ -8,7 +8,7 @@ use Rattle.proc_language.specs.declared.module.ModuleFields.{ModuleFields}
 use Rattle.proc_language.specs.Limits.{Each}
 use Rattle.proc_names.specs.NameFaults.{name_faults}
 use Rattle.proc_templates.specs.Compiled.{compiled}
-use Rattle.linked_modules.specs.Among.{AreAmong, AreResolved}
+use Rattle.module_rules.specs.Among.{AreAmong, AreResolved}
 use Rattle.source_starts.specs.Sources.{trusted_parts}
 
 -- ---- the modules' components are among the parts

@@ -12,9 +12,9 @@ use Rattle.source_events.specs.Outs.{out_lines}
 use Rattle.proc_semantics.specs.Meaning.{meaning}
 use Rattle.proc_semantics.specs.Fuel.{Prefix}
 use Rattle.module_rules.specs.Rules.{stack_base_of}
-use Rattle.run_feed.specs.declared.fault.FeedFault.{FeedFault}
-use Rattle.run_feed.specs.Feed.{fed}
-use Rattle.meaning_text.specs.Text.{told_text}
+use Rattle.line_fields.specs.declared.fault.FeedFault.{FeedFault}
+use Rattle.line_fields.specs.Feed.{fed}
+use Rattle.proc_meaning.specs.Text.{told_text}
 use Rattle.run_lines.specs.Layout.{layout}
 use Rattle.source_starts.specs.RunMeans.{went_out, came_in}
 use Rattle.refusal_lines.specs.declared.status.Status.{Status}

@@ -15,7 +15,7 @@ use Rattle.component_file.specs.declared.component.ComponentFields.{ComponentFie
 use Rattle.component_check.specs.declared.rule.Group.TheVariants.{C}
 use Rattle.component_check.specs.RuleText.{broken_at}
 use Rattle.component_check.specs.Verdict.{check_from}
-use Rattle.flow_rules.specs.Verdict.{flow_answer}
+use Rattle.call_sequence.specs.Verdict.{flow_answer}
 use Rattle.linked_starts.specs.Parts.{PartSeen, rules_of}
 use Rattle.linked_starts.specs.Accepted.{accepted}
 use Rattle.assembler.specs.Assembled.{assembled}

@@ -15,13 +15,13 @@ use Rattle.source_starts.specs.Sources.{LinkedStart, LinkedSources}
 use Rattle.source_starts.specs.RunMeans.{RunsMean, StacksBegin}
 use Rattle.source_starts.specs.Shown.{SourcesShowNothingElse}
 use Rattle.linked_starts.specs.Standing.{placed}
-use Rattle.linked_modules.specs.Among.{LinkedModulesKeepRules}
+use Rattle.module_rules.specs.Among.{LinkedModulesKeepRules}
 use Rattle.module_rules.specs.Rules.{stack_base_of}
 use Rattle.run_items.specs.Items.{TextsTellItems}
 use Rattle.run_lines.specs.Layout.{layout}
 use Rattle.refusal_lines.specs.declared.status.Status.{Status}
 use Rattle.ready_tasks.specs.Commands.{plan_in}
-use Rattle.call_answers.specs.Answers.{Answers}
+use Rattle.command_words.specs.Answers.{Answers}
 use Rattle.lcm_cli.specs.Answers.{Outside, read_in, stk}
 use Rattle.lcm_cli.specs.Causes.{Started, RunGiven}
 use Rattle.lcm_cli.specs.SourceRuns.{StartFact, linking_in}

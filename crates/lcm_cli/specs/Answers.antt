@@ -1,7 +1,7 @@
 -- What a call of the program answers.
 use Rattle.std.specs.Prelude.{◌≡◌, ℕ, List, [], Option, Some, None, Result, Ok, Err}
 use Rattle.authority_report.specs.Text.{IsReachText}
-use Rattle.call_answers.specs.Answers.{AnswerWith, OutsideWith, Program, Answers, answer, nothing}
+use Rattle.command_words.specs.Answers.{AnswerWith, OutsideWith, Program, Answers, answer, nothing}
 use Rattle.debug_tool.specs.Replies.{debug_text}
 use Rattle.generated_load.specs.Loads.{load_steps}
 use Rattle.lcm_machine.specs.Run.{Run as Machine, answer as last_step, plain}
@@ -16,7 +16,7 @@ use Rattle.run_lines.specs.Traces.{trace_of, trace_text}
 use Rattle.source_events.specs.declared.End.{End}
 use Rattle.source_events.specs.declared.End.TheVariants as end
 use Rattle.source_events.specs.declared.Told.{Told}
-use Rattle.meaning_text.specs.Text.{told_text}
+use Rattle.proc_meaning.specs.Text.{told_text}
 use Rattle.meaning_tool.specs.Subjects.{told_of}
 use Rattle.refusal_lines.specs.declared.status.Status.{Status}
 use Rattle.refusal_lines.specs.declared.status.Status.TheVariants.{Done, MachineFailed, StepsUsed}

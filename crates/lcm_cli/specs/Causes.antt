@@ -70,9 +70,9 @@ use Rattle.source_events.specs.declared.End.{End}
 use Rattle.source_events.specs.declared.End.TheVariants as meaning_end
 use Rattle.proc_semantics.specs.Meaning.{meaning}
 use Rattle.module_rules.specs.Rules.{stack_base_of, ruled}
-use Rattle.run_feed.specs.declared.fault.FeedFault.{FeedFault}
-use Rattle.run_feed.specs.Feed.{fed}
-use Rattle.meaning_text.specs.Text.{told_text}
+use Rattle.line_fields.specs.declared.fault.FeedFault.{FeedFault}
+use Rattle.line_fields.specs.Feed.{fed}
+use Rattle.proc_meaning.specs.Text.{told_text}
 use Rattle.meaning_tool.specs.Subjects.{Subject, told_of, module_at, feed_line}
 use Rattle.file_plans.specs.declared.TheConstants.{LONGEST_FILE}
 use Rattle.file_plans.specs.declared.refusal.Refusal.{Refusal}
@@ -96,7 +96,7 @@ use Rattle.lcm_cli.specs.Totals.{totals_text}
 use Rattle.ready_tasks.specs.Debugs.{script_line}
 use Rattle.link_tool.specs.Linked.{linked_plan}
 use Rattle.lcm_cli.specs.Bytes.{ComesOf, ComesBy}
-use Rattle.call_answers.specs.Answers.{Answers, IsComplete, Stay}
+use Rattle.command_words.specs.Answers.{Answers, IsComplete, Stay}
 use Rattle.lcm_cli.specs.Answers.{Outside, read_in, end_status, meaning_status, stk}
 
 -- ---- files

@@ -18,7 +18,7 @@ use Rattle.alike_modules.specs.Alike.{IsParsedBack}
 use Rattle.file_plans.specs.declared.TheConstants.{LONGEST_FILE}
 use Rattle.refusal_lines.specs.declared.status.Status.TheVariants.{Done}
 use Rattle.ready_tasks.specs.Commands.{plan_of}
-use Rattle.call_answers.specs.Answers.{IsWritten}
+use Rattle.command_words.specs.Answers.{IsWritten}
 use Rattle.lcm_cli.specs.Answers.{Answer, puts, writes, stk}
 
 -- the bytes of files, by their names

@@ -11,7 +11,7 @@ use Rattle.file_plans.specs.Plans.{Plan}
 use Rattle.refusal_lines.specs.declared.status.Status.TheVariants.{WriteFault}
 use Rattle.ready_tasks.specs.Commands.{Task, plan_in}
 use Rattle.lcm_cli.specs.Bytes.{ComesOf, ComesBy}
-use Rattle.call_answers.specs.Answers.{Answers, outside}
+use Rattle.command_words.specs.Answers.{Answers, outside}
 use Rattle.lcm_cli.specs.Answers.{Answer, IsAnswerOf, read_in, stk}
 
 -- the answer to what came of the plan, which left the files so, is of these bytes, and its text has so many

@@ -18,7 +18,7 @@ use Rattle.meaning_tool.specs.Subjects.{language_of}
 use Rattle.linked_starts.specs.Parts.{PartSeen}
 use Rattle.linked_starts.specs.Started.{StartSeen}
 use Rattle.module_rules.specs.Rules.{stack_base_of, ruled}
-use Rattle.run_feed.specs.Feed.{fed}
+use Rattle.line_fields.specs.Feed.{fed}
 use Rattle.source_events.specs.declared.End.{End}
 use Rattle.source_events.specs.declared.Told.{Told}
 use Rattle.source_events.specs.Outs.{out_lines}
@@ -39,7 +39,7 @@ use Rattle.lcm_cli.specs.Bytes.{ComesOf, ComesBy}
 use Rattle.refusal_lines.specs.Refusals.{refusal_text}
 use Rattle.proc_semantics.specs.Meaning.{meaning}
 use Rattle.proc_semantics.specs.Fuel.{Prefix}
-use Rattle.meaning_text.specs.Text.{told_text}
+use Rattle.proc_meaning.specs.Text.{told_text}
 use Rattle.lcm_cli.specs.Answers.{Outside, meaning_status}
 use Rattle.refusal_lines.specs.declared.status.Status.TheVariants.{WriteFault}
 use Rattle.lcm_cli.specs.Causes.{IsRunStatus, Started, IsMadeOf, RunGiven, text_of_run, MeaningGiven}

@@ -8,7 +8,7 @@ ghost use Rattle.linked_starts.specs.Standing.{placed};
 ghost use Rattle.image_loader.specs.Image.{ImageSeen, IsImage, image_bytes};
 ghost use Rattle.link_tool.specs.Parts.{linked, loaded};
 ghost use Rattle.ready_tasks.specs.Commands.{plan_in};
-ghost use Rattle.call_answers.specs.Answers.{IsWritten};
+ghost use Rattle.command_words.specs.Answers.{IsWritten};
 ghost use Rattle.lcm_cli.specs.Answers.{Answer, stk};
 ghost use Rattle.lcm_cli.specs.SourceRuns.{MeanTellsRuns};
 ghost use Rattle.lcm_cli.specs.SafeRuns.{SafeSinksHoldRuns};

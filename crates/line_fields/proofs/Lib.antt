@@ -1,3 +1,6 @@
+pub mod Feeding
+pub mod FormLemmas
+pub mod FirstBad
 mod Digits
 pub mod Cuts
 pub mod Numbers

@@ -1,3 +1,8 @@
+pub mod Seen
+pub mod Lines
+pub mod Feed
+pub mod Bad
+pub mod FaultText
 pub mod Options
 pub mod Cuts
 pub mod Numbers

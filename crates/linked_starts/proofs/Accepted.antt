@@ -7,8 +7,8 @@ use Rattle.component_check.specs.declared.rule.Group.TheVariants.{C}
 use Rattle.component_check.specs.RuleText.{broken_at}
 use Rattle.component_check.specs.Verdict.{IsFirstBroken, NoneBroken, check_from}
 use Rattle.component_check.proofs.Offers.{first_broken, is_tried}
-use Rattle.flow_rules.specs.Verdict.{IsFirstOfFlow, flow_answer}
-use Rattle.flow_rules.proofs.Offers.{flow_is, flow_answer_is}
+use Rattle.call_sequence.specs.Verdict.{IsFirstOfFlow, flow_answer}
+use Rattle.call_sequence.proofs.Offers.{flow_is, flow_answer_is}
 use Rattle.linked_starts.specs.Parts.{PartSeen, rules_of, TriesFlow, Accepts}
 use Rattle.linked_starts.specs.Accepted.{accepted}
 

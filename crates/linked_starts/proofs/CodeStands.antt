@@ -28,8 +28,8 @@ use Rattle.component_check.specs.Rules.{c12, is_zero_word, code_at, is_over_seal
 use Rattle.call_sequence.specs.declared.TheConstants.{CALL_WORDS}
 use Rattle.call_sequence.specs.Sequences.{call_code, return_code, entry_code}
 use Rattle.call_sequence.specs.Standing as seq
-use Rattle.flow_rules.specs.Verdict.{IsKept}
-use Rattle.flow_rules.specs.Places.{begins_entry}
+use Rattle.call_sequence.specs.Verdict.{IsKept}
+use Rattle.call_sequence.specs.Places.{begins_entry}
 use Rattle.linked_starts.specs.Parts.{PartSeen, IsPart}
 use Rattle.linked_starts.specs.Regions.{regions_of, in_regions}
 use Rattle.linked_starts.specs.Start.{first_given, part_word, start_cell, from, data_word, IsStart}

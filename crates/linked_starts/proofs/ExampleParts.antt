@@ -27,12 +27,12 @@ use Rattle.component_check.proofs.Offers.{first_broken}
 use Rattle.call_sequence.specs.declared.TheConstants.{CALL_WORDS, ENTRY_WORDS, SITE_WORDS}
 use Rattle.call_sequence.specs.Sequences.{call_code, return_code, entry_code}
 use Rattle.call_sequence.specs.Standing.{sequence_difference, is_entry}
-use Rattle.flow_rules.specs.Kinds.{kind_of, set_kind}
-use Rattle.flow_rules.specs.Places.{begins_entry, begins_site, declared}
-use Rattle.flow_rules.specs.Flow.{flow, ask}
-use Rattle.flow_rules.specs.Lists.{k1, k2, k3, k4, lists, entry_is_bad}
-use Rattle.flow_rules.specs.declared.flow.Walk.TheVariants.{Ended as ended}
-use Rattle.flow_rules.specs.Walk.{instr_at, keep, site_ready, at_row, past, at_word, next_from, Arrives}
+use Rattle.call_sequence.specs.Kinds.{kind_of, set_kind}
+use Rattle.call_sequence.specs.Places.{begins_entry, begins_site, declared}
+use Rattle.call_sequence.specs.Flow.{flow, ask}
+use Rattle.call_sequence.specs.Lists.{k1, k2, k3, k4, lists, entry_is_bad}
+use Rattle.call_sequence.specs.declared.flow.Walk.TheVariants.{Ended as ended}
+use Rattle.call_sequence.specs.Walk.{instr_at, keep, site_ready, at_row, past, at_word, next_from, Arrives}
 use Rattle.linked_starts.specs.Parts.{PartSeen, IsPart}
 use Rattle.linked_starts.specs.Pairs.{NoneIsBroken, IsFirstBrokenIn, by_part}
 use Rattle.linked_starts.specs.Links.{rules_l, rule_at, l1, l2, l3, l4, l5, l6, l7, l8, l9}

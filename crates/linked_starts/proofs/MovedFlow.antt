@@ -10,15 +10,15 @@ use Rattle.component_file.specs.declared.component.ComponentFields.{ComponentFie
 use Rattle.component_check.specs.Places.{Test, BrokenAt}
 use Rattle.component_check.specs.Verdict.{NoneBroken}
 use Rattle.call_sequence.specs.Standing.{is_int, difference, sequence_difference, site_difference, is_entry}
-use Rattle.flow_rules.specs.Kinds.{Row}
-use Rattle.flow_rules.specs.Places.{begins_entry, begins_site, in_site, declared}
-use Rattle.flow_rules.specs.Lists.{k1, k2, k3, k4, lists, entry_is_bad, is_misplaced, of_entry}
-use Rattle.flow_rules.specs.declared.flow.Walk.{Walk}
-use Rattle.flow_rules.specs.declared.flow.Walk.TheVariants.{Before as before, Ended as ended}
-use Rattle.flow_rules.specs.declared.flow.Walk.TheVariants.{Broken as broken}
-use Rattle.flow_rules.specs.Walk.{instr_in, instr_at, good_target, at_row, past, at_word, next_from, next}
-use Rattle.flow_rules.specs.Walk.{walk}
-use Rattle.flow_rules.specs.Verdict.{IsKept}
+use Rattle.call_sequence.specs.Kinds.{Row}
+use Rattle.call_sequence.specs.Places.{begins_entry, begins_site, in_site, declared}
+use Rattle.call_sequence.specs.Lists.{k1, k2, k3, k4, lists, entry_is_bad, is_misplaced, of_entry}
+use Rattle.call_sequence.specs.declared.flow.Walk.{Walk}
+use Rattle.call_sequence.specs.declared.flow.Walk.TheVariants.{Before as before, Ended as ended}
+use Rattle.call_sequence.specs.declared.flow.Walk.TheVariants.{Broken as broken}
+use Rattle.call_sequence.specs.Walk.{instr_in, instr_at, good_target, at_row, past, at_word, next_from, next}
+use Rattle.call_sequence.specs.Walk.{walk}
+use Rattle.call_sequence.specs.Verdict.{IsKept}
 use Rattle.linked_starts.specs.Placing.{moved, moved_word}
 use Rattle.linked_starts.specs.declared.moving.Move.{Move}
 

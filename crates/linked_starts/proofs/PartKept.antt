@@ -21,7 +21,7 @@ use Rattle.seal_space.specs.Seals.{has_seal}
 use Rattle.component_check.specs.Rules.{c1, c2, c3, c4, c7, c8, c12, slot_of, slot_is_bad, words, holds_of}
 use Rattle.component_check.specs.Rules.{is_foreign, is_own, linear_at, linear_in, meet, meets_before, rules_c}
 use Rattle.component_check.proofs.Offers.{first_below_is, IsFirstIn}
-use Rattle.flow_rules.specs.Lists.{k1, site_is_bad, lists}
+use Rattle.call_sequence.specs.Lists.{k1, site_is_bad, lists}
 use Rattle.linked_starts.specs.Parts.{PartSeen, IsPart, rules_of}
 use Rattle.linked_starts.specs.Linked.{Kept, IsOwn, HasRange}
 

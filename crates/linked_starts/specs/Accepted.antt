@@ -6,7 +6,7 @@ use Rattle.component_check.specs.declared.rule.Broken.{Broken}
 use Rattle.component_check.specs.declared.rule.Group.TheVariants.{C}
 use Rattle.component_check.specs.RuleText.{broken_at}
 use Rattle.component_check.specs.Verdict.{check_from}
-use Rattle.flow_rules.specs.Verdict.{flow_answer}
+use Rattle.call_sequence.specs.Verdict.{flow_answer}
 use Rattle.linked_starts.specs.Parts.{PartSeen, rules_of}
 
 -- the part, or the first rule that it breaks

@@ -8,7 +8,7 @@ use Rattle.component_check.specs.RuleText.{broken_at}
 use Rattle.component_check.specs.Places.{Test}
 use Rattle.component_check.specs.Verdict.{NoneBroken, IsFirst}
 use Rattle.component_check.specs.Rules.{rules_c}
-use Rattle.flow_rules.specs.Verdict.{IsKept, IsFirstOfFlow}
+use Rattle.call_sequence.specs.Verdict.{IsKept, IsFirstOfFlow}
 
 -- a component, and whether it is trusted
 pub record PartSeen : Type 0 where

@@ -26,7 +26,7 @@ use Rattle.lcm_machine.specs.Row.{step_fetched, plan_in}
 use Rattle.lcm_machine.specs.Refusals.{HasFailed}
 use Rattle.lcm_machine.specs.Closed.{AllAre, OpensTo}
 use Rattle.lcm_machine.proofs.Offers.{fetch_normal, after_went, used_target, row_keeps}
-use Rattle.flow_rules.specs.Holds.{PcAt}
+use Rattle.call_sequence.specs.Holds.{PcAt}
 use Rattle.linked_starts.specs.Parts.{PartSeen}
 use Rattle.trusted_border.specs.declared.layout.SiteCode.{SiteCode}
 use Rattle.trusted_border.specs.Layout.{site_code}

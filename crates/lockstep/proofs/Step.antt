@@ -30,7 +30,7 @@ use Rattle.lcm_machine.specs.Row.{went, halted, failed, Outcome, faces, opens, c
 use Rattle.lcm_machine.specs.Row.{none, some, row, step_fetched, put, perform, clear, plan_in}
 use Rattle.lcm_machine.specs.Refusals.{HasFailed, Refuses}
 use Rattle.lcm_machine.proofs.Offers.{reg-set_other, look_seals, xjmp_fails, xjmp_runs_fails, OpensSame}
-use Rattle.flow_rules.specs.Holds.{code_at}
+use Rattle.call_sequence.specs.Holds.{code_at}
 use Rattle.linked_starts.specs.Parts.{PartSeen}
 use Rattle.linked_starts.specs.Start.{Exported, code_half, data_half, code_of, data_of}
 use Rattle.trusted_border.specs.declared.layout.Layout.{Layout}

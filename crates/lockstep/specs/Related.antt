@@ -9,7 +9,7 @@ use Rattle.lcm_isa.specs.declared.Reg.TheVariants.{Pc, Dat, A0}
 use Rattle.lcm_machine.specs.Maps.{State}
 use Rattle.lcm_machine.specs.Places.{reg}
 use Rattle.lcm_machine.specs.Cells.{cell}
-use Rattle.flow_rules.specs.Holds.{PcAt}
+use Rattle.call_sequence.specs.Holds.{PcAt}
 use Rattle.linked_starts.specs.Start.{Exported, code_half, data_half}
 use Rattle.trusted_border.specs.declared.layout.Layout.{Layout}
 use Rattle.trusted_border.specs.declared.events.Event.{Event}

@@ -13,10 +13,10 @@ use Rattle.source_events.specs.declared.Item.{Item}
 use Rattle.source_events.specs.declared.Told.{Told}
 use Rattle.proc_semantics.specs.Meaning.{meaning}
 use Rattle.module_rules.specs.Rules.{stack_base_of, ruled}
-use Rattle.run_feed.specs.declared.fault.FeedFault.{FeedFault}
-use Rattle.run_feed.specs.declared.fault.FeedFault.TheVariants.{Line, NoMemory}
-use Rattle.run_feed.specs.Feed.{fed}
-use Rattle.meaning_text.specs.Text.{told_text}
+use Rattle.line_fields.specs.declared.fault.FeedFault.{FeedFault}
+use Rattle.line_fields.specs.declared.fault.FeedFault.TheVariants.{Line, NoMemory}
+use Rattle.line_fields.specs.Feed.{fed}
+use Rattle.proc_meaning.specs.Text.{told_text}
 use Rattle.file_plans.specs.declared.refusal.Refusal.{Refusal}
 use Rattle.file_plans.specs.declared.refusal.Refusal.TheVariants as refusal
 use Rattle.file_plans.specs.Plans.{Plan, Made, ◌>>=◌, file, unless, each_at}

@@ -1,14 +1,14 @@
 //! The feed of modules.
 ghost use Rattle.std.specs.Prelude.{◌≡◌, ◌<◌, ◌^◌, length};
-ghost use Rattle.run_feed.specs.Feed.{fed};
+ghost use Rattle.line_fields.specs.Feed.{fed};
 ghost use Rattle.file_plans.specs.Plans.{Follows, Meets, unless};
 ghost use Rattle.meaning_tool.specs.Subjects.{unfed, feed_at};
 
 use cap_words::Items;
 use command_words::FileName;
 use file_plans::{Refusal, Stop, read};
+use line_fields::{FeedFault, read_feed};
 use outside_io::Files;
-use run_feed::{FeedFault, read_feed};
 use source_events::Item;
 use std::alloc::Global;
 

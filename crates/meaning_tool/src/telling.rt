@@ -12,11 +12,10 @@ use crate::modules::modules;
 use cap_words::Items;
 use command_words::{FileName, PartWord};
 use file_plans::{Refusal, Stop};
-use meaning_text::told_text;
 use module_rules::{check_modules, stack_base_of};
 use outside_io::Files;
 use proc_language::Module;
-use proc_meaning::meaning;
+use proc_meaning::{meaning, told_text};
 use source_events::{End, Item};
 use std::alloc::Global;
 

@@ -1,0 +1,3 @@
+mod Exports
+mod Unmoved
+mod Keeping

@@ -12,9 +12,9 @@ use Rattle.lcm_machine.specs.Row.{word_at, Outcome}
 use Rattle.lcm_machine.specs.Regions.{HeldOnce}
 use Rattle.lcm_machine.specs.Runs.{run_of}
 use Rattle.linked_starts.specs.Parts.{PartSeen}
-use Rattle.flow_rules.specs.Kinds.{Row}
-use Rattle.flow_rules.specs.Walk.{RowAt}
-use Rattle.flow_rules.specs.Holds.{data_cap, HasKinds, PcAt}
+use Rattle.call_sequence.specs.Kinds.{Row}
+use Rattle.call_sequence.specs.Walk.{RowAt}
+use Rattle.call_sequence.specs.Holds.{data_cap, HasKinds, PcAt}
 use Rattle.trusted_border.specs.declared.layout.Layout.{Layout}
 use Rattle.trusted_border.specs.declared.layout.SiteCode.{SiteCode}
 use Rattle.trusted_border.specs.Layout.{site_code}

@@ -8,7 +8,7 @@ use Rattle.lcm_machine.specs.Cells.{cell}
 use Rattle.call_sequence.specs.SequenceRuns.{IsOutsideRange}
 use Rattle.linked_starts.specs.Parts.{PartSeen}
 use Rattle.linked_starts.specs.Regions.{code_span, data_span, linear_span, region, regions_of, in_regions}
-use Rattle.flow_rules.specs.Holds.{Ranges}
+use Rattle.call_sequence.specs.Holds.{Ranges}
 use Rattle.trusted_border.specs.declared.layout.Layout.{Layout}
 use Rattle.overlay_machine.specs.declared.words.OWord.TheVariants.{Plain}
 use Rattle.overlay_machine.specs.State.{OpenFrame, Cells, framed}

@@ -3,8 +3,8 @@ use Rattle.std.specs.Prelude.{◌≡◌, ℕ, ◌+◌, ◌==◌, ℤ, true, List
 use Rattle.std.specs.List.{Contains}
 use Rattle.cap_words.specs.declared.Face.TheVariants.{Memory}
 use Rattle.component_file.specs.declared.component.Export.{Export}
-use Rattle.flow_rules.specs.Holds.{code_at}
-use Rattle.flow_rules.specs.Places.{begins_entry}
+use Rattle.call_sequence.specs.Holds.{code_at}
+use Rattle.call_sequence.specs.Places.{begins_entry}
 use Rattle.linked_starts.specs.declared.owners.Site.{Site}
 use Rattle.linked_starts.specs.Parts.{PartSeen}
 use Rattle.linked_starts.specs.Owners.{owner_of}

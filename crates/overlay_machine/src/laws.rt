@@ -21,8 +21,7 @@ ghost use Rattle.overlay_machine.specs.Starting.{overlay_at, StartsBegin, Agrees
 ghost use Rattle.overlay_machine.specs.Starting.{StartThere};
 ghost use Rattle.overlay_machine.specs.Names.{StartsTellNames};
 
-use call_sequence::laws::sequences_stand_word_by_word;
-use flow_rules::laws::sequences_stand;
+use call_sequence::laws::{sequences_stand, sequences_stand_word_by_word};
 
 /// Each state of the overlay stands for exactly one plain state.
 ///

@@ -1,7 +1,7 @@
 //! Modules.
 ghost use Rattle.std.specs.Prelude.{◌≡◌, ◌≤◌, ◌+◌, ◌*◌, OnOk, IfOk, IfErr, length, sum_by, []};
 ghost use Rattle.component_file.specs.declared.TheConstants.{MOST_WORDS};
-ghost use Rattle.flow_rules.specs.Verdict.{IsKept};
+ghost use Rattle.call_sequence.specs.Verdict.{IsKept};
 ghost use Rattle.proc_language.specs.Limits.{Each};
 ghost use Rattle.proc_names.specs.NameFaults.{name_faults};
 ghost use Rattle.proc_program.specs.Calls.{procedure_calls, part_calls};

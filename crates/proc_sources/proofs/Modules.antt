@@ -22,7 +22,7 @@ use Rattle.token_language.specs.declared.module.TokenModuleFields.{TokenModuleFi
 use Rattle.token_language.specs.Limits.{IsTokenModule}
 use Rattle.token_language.specs.Erased.{erased}
 use Rattle.token_parse.specs.Text.{parsed_text as parsed_tokens}
-use Rattle.token_names.specs.TokenFaults.{IsTokenResolved, token_name_faults, resolved_tokens}
+use Rattle.token_language.specs.TokenFaults.{IsTokenResolved, token_name_faults, resolved_tokens}
 use Rattle.token_check.specs.declared.fault.TokenFault.{TokenFault}
 use Rattle.token_check.specs.Walk.{module_walk}
 use Rattle.proc_sources.specs.declared.fault.SourceFault.{SourceFault}

@@ -20,7 +20,7 @@ use Rattle.proc_language.specs.declared.dialect.Dialect.TheVariants.{Plain, Toke
 use Rattle.token_language.specs.declared.module.TokenModuleFields.{TokenModuleFields}
 use Rattle.token_language.specs.Erased.{erased}
 use Rattle.token_parse.specs.Text.{parsed_text as parsed_tokens}
-use Rattle.token_names.specs.TokenFaults.{resolved_tokens}
+use Rattle.token_language.specs.TokenFaults.{resolved_tokens}
 use Rattle.token_check.specs.Walk.{module_walk}
 use Rattle.proc_sources.specs.declared.fault.SourceFault.{SourceFault}
 use Rattle.proc_sources.specs.declared.fault.SourceFault.TheVariants.{Text, Name, Token, Size, NoMemory}

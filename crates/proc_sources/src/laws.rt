@@ -10,7 +10,7 @@ ghost use Rattle.proc_language.specs.declared.dialect.Dialect.TheVariants.{Token
 ghost use Rattle.token_language.specs.declared.module.TokenModuleFields.{TokenModuleFields};
 ghost use Rattle.token_language.specs.Erased.{erased};
 ghost use Rattle.token_language.specs.Limits.{IsTokenModule};
-ghost use Rattle.token_names.specs.TokenFaults.{IsTokenResolved};
+ghost use Rattle.token_language.specs.TokenFaults.{IsTokenResolved};
 ghost use Rattle.token_check.specs.Typing.{IsTyped};
 ghost use Rattle.proc_sources.specs.Sources.{token_module_in, module_in, sourced};
 
@@ -24,7 +24,7 @@ pub fn sources_are_modules()
 {
     proc_parse::laws::texts_spell_modules();
     token_parse::laws::texts_spell_modules();
-    token_names::laws::erased_modules_are_resolved();
+    token_language::laws::erased_modules_are_resolved();
 }
 
 /// The module of a source with tokens is the erasure of a typed one.

@@ -5,7 +5,7 @@ ghost use Rattle.readers.specs.Readers.{told_by};
 ghost use Rattle.proc_parse.specs.Text.{parsed_text};
 ghost use Rattle.proc_names.specs.NameFaults.{name_faults, resolved};
 ghost use Rattle.token_parse.specs.Text.{parsed_text as parsed_tokens};
-ghost use Rattle.token_names.specs.TokenFaults.{IsTokenResolved, resolved_tokens};
+ghost use Rattle.token_language.specs.TokenFaults.{IsTokenResolved, resolved_tokens};
 ghost use Rattle.token_check.specs.Walk.{module_walk};
 ghost use Rattle.proc_sources.specs.declared.fault.SourceFault.TheVariants.{Text, Name, Token, Size};
 ghost use Rattle.proc_sources.specs.Sources.{is_refusal, text_fault, compile_answer, plain_in};
@@ -20,9 +20,7 @@ use proc_names::resolve;
 use proc_parse::parse;
 use std::alloc::Global;
 use token_check::check_tokens;
-use token_erase::erase;
-use token_language::TokenModule;
-use token_names::resolve_tokens;
+use token_language::{TokenModule, erase, resolve_tokens};
 use token_parse::parse_tokens;
 
 // A fault of a text, or that memory was refused.

@@ -13,7 +13,7 @@ use Rattle.proc_program.specs.declared.program.Program.{Program}
 use Rattle.proc_program.specs.declared.program.Procedure.{Procedure}
 use Rattle.proc_program.specs.Limits.{registers_of}
 use Rattle.proc_program.specs.StepView.{block_of}
-use Rattle.flow_rules.specs.Places.{begins_entry, begins_site, declared}
+use Rattle.call_sequence.specs.Places.{begins_entry, begins_site, declared}
 use Rattle.proc_templates.specs.Items.{Spot, Item, does, guards, goes, goes_if, finishes, label, site, entry}
 use Rattle.proc_templates.specs.Items.{leaves, instrs, FAIL_AT, LITERAL_AT, Laid, word_of, put, lay, zero_of}
 use Rattle.proc_templates.specs.declared.FrameShape.{FrameShape}

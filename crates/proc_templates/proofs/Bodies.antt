@@ -6,7 +6,7 @@ use Rattle.lcm_isa.specs.declared.Reg.TheVariants.{G0}
 use Rattle.call_sequence.specs.Sequences.{distance}
 use Rattle.proc_program.specs.Program.{Statement, Set, SetAt, Do, If, While, Return, Halt}
 use Rattle.proc_program.specs.Program.{Block, no_steps, step}
-use Rattle.flow_rules.specs.Places.{declared}
+use Rattle.call_sequence.specs.Places.{declared}
 use Rattle.proc_templates.specs.Items.{Spot, Item, does, goes, goes_if, finishes, label, FAIL_AT}
 use Rattle.proc_templates.specs.declared.FrameShape.{FrameShape}
 use Rattle.proc_templates.specs.Templates.{exp_words, block_words, code, answer, step_code, block_code}

@@ -14,8 +14,8 @@ use Rattle.lcm_isa.specs.declared.Operand.TheVariants.{R, Imm}
 use Rattle.lcm_isa.specs.declared.Instr.{Instr}
 use Rattle.lcm_isa.specs.declared.Instr.TheVariants.{Halt, Jmp, Jnz, Move, Cca, Xjmp}
 use Rattle.call_sequence.specs.Sequences.{distance}
-use Rattle.flow_rules.specs.Flow.{led}
-use Rattle.flow_rules.specs.Places.{declared}
+use Rattle.call_sequence.specs.Flow.{led}
+use Rattle.call_sequence.specs.Places.{declared}
 use Rattle.proc_templates.specs.Items.{Spot, Item, does, guards, goes, goes_if, finishes, label, site, entry}
 use Rattle.proc_templates.specs.Items.{leaves, leading, zero_of, wiped, FAIL_AT}
 use Rattle.proc_templates.specs.Compiled.{label_row}

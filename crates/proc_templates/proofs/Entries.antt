@@ -14,7 +14,7 @@ use Rattle.proc_program.specs.Program.{Exp, Statement, Set, SetAt, Do, If, While
 use Rattle.proc_program.specs.Program.{no_steps, step}
 use Rattle.proc_program.specs.Limits.{registers_of}
 use Rattle.proc_program.specs.StepView.{block_of}
-use Rattle.flow_rules.specs.Places.{begins_entry, begins_site, declared}
+use Rattle.call_sequence.specs.Places.{begins_entry, begins_site, declared}
 use Rattle.proc_templates.specs.Items.{Spot, Item, does, guards, goes, goes_if, finishes, label, site, entry}
 use Rattle.proc_templates.specs.Items.{leaves, Laid, put, lay, zero_of}
 use Rattle.proc_templates.specs.declared.FrameShape.{FrameShape}

@@ -8,7 +8,7 @@ use Rattle.component_file.specs.declared.component.ComponentFields.{ComponentFie
 use Rattle.lcm_isa.specs.declared.Reg.TheVariants.{T2}
 use Rattle.lcm_isa.specs.declared.Instr.{Instr}
 use Rattle.call_sequence.specs.Sequences.{call_code, return_code, entry_code}
-use Rattle.flow_rules.specs.Places.{begins_entry, begins_site, declared}
+use Rattle.call_sequence.specs.Places.{begins_entry, begins_site, declared}
 use Rattle.proc_templates.specs.Items.{is_last, Spot, Item, does, guards, goes, goes_if, finishes, label}
 use Rattle.proc_templates.specs.Items.{site, entry, leaves, instrs, zero_of, Laid, word_of, with_label}
 use Rattle.proc_templates.specs.Items.{sites_with, entries_with, labels_with, put, lay}

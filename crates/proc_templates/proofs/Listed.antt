@@ -21,10 +21,10 @@ use Rattle.call_sequence.specs.Sequences.{call_code, return_code, entry_code}
 use Rattle.call_sequence.specs.Standing.{is_int, code_difference, sequence_difference, site_difference}
 use Rattle.call_sequence.specs.Standing.{is_entry}
 use Rattle.proc_program.specs.declared.program.Program.{Program}
-use Rattle.flow_rules.specs.Places.{begins_entry, begins_site, declared, in_site}
-use Rattle.flow_rules.specs.Lists.{k1, k2, k3, k4, site_of, site_is_bad, overlap, meets_entry, meets_site}
-use Rattle.flow_rules.specs.Lists.{entry_is_bad, row_offset, of_entry, is_misplaced, lists}
-use Rattle.flow_rules.specs.Verdict.{IsKept}
+use Rattle.call_sequence.specs.Places.{begins_entry, begins_site, declared, in_site}
+use Rattle.call_sequence.specs.Lists.{k1, k2, k3, k4, site_of, site_is_bad, overlap, meets_entry, meets_site}
+use Rattle.call_sequence.specs.Lists.{entry_is_bad, row_offset, of_entry, is_misplaced, lists}
+use Rattle.call_sequence.specs.Verdict.{IsKept}
 use Rattle.std.proofs.lemmas.Bool.{and_parts, cases_lt, not-true, false_from_ne_true, lt-leb, or_from}
 use Rattle.std.proofs.lemmas.Option.{slice_get_within}
 use Rattle.std.proofs.lemmas.Map.Keys.{any_passes_from_place}

@@ -14,14 +14,14 @@ use Rattle.lcm_isa.specs.declared.Operand.TheVariants.{R, Imm}
 use Rattle.lcm_isa.specs.declared.Instr.{Instr}
 use Rattle.lcm_isa.specs.declared.Instr.TheVariants.{Halt, Jmp, Jnz, Move, Cca, Xjmp}
 use Rattle.call_sequence.specs.declared.TheConstants.{SITE_WORDS, ENTRY_WORDS}
-use Rattle.flow_rules.specs.Kinds.{Row, kind_of, set_kind, below_any, row_below, entry_row, clean_row}
-use Rattle.flow_rules.specs.declared.flow.Flow.TheVariants.{Flows as flows}
-use Rattle.flow_rules.specs.declared.flow.Walk.{Walk}
-use Rattle.flow_rules.specs.declared.flow.Walk.TheVariants.{Before as before, Ended as ended}
-use Rattle.flow_rules.specs.Flow.{flow, ask, led, shows_nothing}
-use Rattle.flow_rules.specs.Places.{begins_entry, begins_site, declared}
-use Rattle.flow_rules.specs.Walk.{instr_at, instr_in, keep, comes_in, site_ready, passes, good_target}
-use Rattle.flow_rules.specs.Walk.{after_flow, at_row, past, at_word, next_from, next, Arrives}
+use Rattle.call_sequence.specs.Kinds.{Row, kind_of, set_kind, below_any, row_below, entry_row, clean_row}
+use Rattle.call_sequence.specs.declared.flow.Flow.TheVariants.{Flows as flows}
+use Rattle.call_sequence.specs.declared.flow.Walk.{Walk}
+use Rattle.call_sequence.specs.declared.flow.Walk.TheVariants.{Before as before, Ended as ended}
+use Rattle.call_sequence.specs.Flow.{flow, ask, led, shows_nothing}
+use Rattle.call_sequence.specs.Places.{begins_entry, begins_site, declared}
+use Rattle.call_sequence.specs.Walk.{instr_at, instr_in, keep, comes_in, site_ready, passes, good_target}
+use Rattle.call_sequence.specs.Walk.{after_flow, at_row, past, at_word, next_from, next, Arrives}
 use Rattle.proc_templates.specs.Compiled.{label_row}
 use Rattle.proc_templates.specs.Ready.{is_low, is_quiet}
 use Rattle.proc_templates.proofs.Rows.{Works, low-kind, stk-kind, data-kind, sets-t2, t2-set, quiet_goes}

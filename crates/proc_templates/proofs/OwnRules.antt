@@ -26,7 +26,7 @@ use Rattle.component_check.specs.Rules.{is_foreign_seal, is_no_int, is_at, code_
 use Rattle.proc_program.specs.declared.program.Program.{Program}
 use Rattle.proc_program.specs.declared.program.ProgramImport as program
 use Rattle.proc_program.specs.declared.program.Procedure.{Procedure}
-use Rattle.flow_rules.specs.Places.{begins_entry}
+use Rattle.call_sequence.specs.Places.{begins_entry}
 use Rattle.proc_templates.specs.Items.{Spot, Item, Laid, instrs, put, lay, word_of}
 use Rattle.proc_templates.specs.Templates.{proc_code}
 use Rattle.proc_program.specs.StepView.{block_of}

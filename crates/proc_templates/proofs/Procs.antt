@@ -11,9 +11,9 @@ use Rattle.lcm_isa.specs.declared.Reg.TheVariants.{Rcode, Rdata, T1, A0, A1, A2,
 use Rattle.call_sequence.specs.declared.TheConstants.{ENTRY_WORDS}
 use Rattle.proc_program.specs.Program.{Block}
 use Rattle.proc_program.specs.Limits.{register_count, registers_of}
-use Rattle.flow_rules.specs.declared.flow.Walk.TheVariants.{Before as before}
-use Rattle.flow_rules.specs.Places.{declared}
-use Rattle.flow_rules.specs.Walk.{Arrives}
+use Rattle.call_sequence.specs.declared.flow.Walk.TheVariants.{Before as before}
+use Rattle.call_sequence.specs.Places.{declared}
+use Rattle.call_sequence.specs.Walk.{Arrives}
 use Rattle.proc_templates.specs.declared.FrameShape.{FrameShape}
 use Rattle.proc_templates.specs.Items.{Spot, Item, does, label, entry, leaves, zero_of, FAIL_AT}
 use Rattle.proc_templates.specs.Templates.{block_words, block_code, arguments, check_words, checks_words}

@@ -3,7 +3,7 @@ use Rattle.std.proofs.Common.{◌≡◌, ◌+◌, ◌*◌, ◌≤◌, List, [], 
 use Rattle.std.specs.Prelude.{sum_by}
 use Rattle.std.proofs.lemmas.List.Sums.{sum_by-cons}
 use Rattle.component_file.specs.declared.TheConstants.{MOST_WORDS}
-use Rattle.flow_rules.specs.Verdict.{IsKept}
+use Rattle.call_sequence.specs.Verdict.{IsKept}
 use Rattle.proc_language.specs.Limits.{Each}
 use Rattle.proc_program.specs.declared.program.Location.{Location}
 use Rattle.proc_program.specs.declared.program.Location.TheVariants.{Local, Global}

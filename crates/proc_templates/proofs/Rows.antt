@@ -16,11 +16,11 @@ use Rattle.lcm_isa.specs.declared.Instr.TheVariants.{Getlin, Move, Store, Load, 
 use Rattle.lcm_isa.specs.declared.Instr.TheVariants.{Minus, Seta2b, Xjmp, Cseal, Split, Splice}
 use Rattle.lcm_isa.specs.Numbers.{reg_number}
 use Rattle.lcm_machine.specs.Table.{is_pc}
-use Rattle.flow_rules.specs.Kinds.{Row, kind_of, set_kind, below_any, kind_below, row_below}
-use Rattle.flow_rules.specs.declared.flow.Flow.{Flow}
-use Rattle.flow_rules.specs.declared.flow.Flow.TheVariants.{Flows as flows}
-use Rattle.flow_rules.specs.Flow.{flow, ask, into, source, is_top, is_area, seen, seen_operand, taken}
-use Rattle.flow_rules.specs.Flow.{take_from, gets, on, cca_of}
+use Rattle.call_sequence.specs.Kinds.{Row, kind_of, set_kind, below_any, kind_below, row_below}
+use Rattle.call_sequence.specs.declared.flow.Flow.{Flow}
+use Rattle.call_sequence.specs.declared.flow.Flow.TheVariants.{Flows as flows}
+use Rattle.call_sequence.specs.Flow.{flow, ask, into, source, is_top, is_area, seen, seen_operand, taken}
+use Rattle.call_sequence.specs.Flow.{take_from, gets, on, cca_of}
 use Rattle.proc_templates.specs.Compiled.{label_row}
 use Rattle.proc_templates.specs.Ready.{is_low, is_low_operand, leads_to_area, is_quiet}
 

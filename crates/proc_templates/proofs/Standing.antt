@@ -12,8 +12,8 @@ use Rattle.lcm_isa.specs.declared.Instr.{Instr}
 use Rattle.lcm_isa.specs.Numbers.{IsInstr}
 use Rattle.lcm_isa.proofs.Offers.{decode_of-number_of}
 use Rattle.call_sequence.proofs.Offers.{near_operand}
-use Rattle.flow_rules.specs.Places.{declared}
-use Rattle.flow_rules.specs.Walk.{instr_at, instr_in}
+use Rattle.call_sequence.specs.Places.{declared}
+use Rattle.call_sequence.specs.Walk.{instr_at, instr_in}
 use Rattle.proc_templates.specs.Items.{Spot, Item, does, guards, goes, goes_if, finishes, label, site, entry}
 use Rattle.proc_templates.specs.Items.{leaves, instrs, zero_of, FAIL_AT, Laid, word_of, put, lay}
 use Rattle.proc_templates.specs.Compiled.{label_row}

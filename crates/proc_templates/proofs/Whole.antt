@@ -8,8 +8,8 @@ use Rattle.component_file.specs.declared.component.ComponentFields.{ComponentFie
 use Rattle.proc_program.specs.declared.program.Program.{Program}
 use Rattle.proc_program.specs.declared.program.Procedure.{Procedure}
 use Rattle.proc_program.specs.StepView.{block_of}
-use Rattle.flow_rules.specs.declared.flow.Walk.TheVariants.{Before as before, Ended as ended}
-use Rattle.flow_rules.specs.Walk.{Arrives}
+use Rattle.call_sequence.specs.declared.flow.Walk.TheVariants.{Before as before, Ended as ended}
+use Rattle.call_sequence.specs.Walk.{Arrives}
 use Rattle.proc_templates.specs.Items.{Spot, Laid, lay, FAIL_AT}
 use Rattle.proc_templates.specs.Templates.{proc_code, before_epilogue}
 use Rattle.proc_templates.specs.Compiled.{frame_of, size_of_proc, head_of, lay_proc, lay_procs, laid_of}

@@ -1,7 +1,7 @@
 //! What holds of the components of modules. These functions do nothing; their contracts are the laws.
 ghost use Rattle.std.specs.Prelude.{◌≡◌, ◌≤◌, [], length};
 ghost use Rattle.component_file.specs.Limits.{IsComponent};
-ghost use Rattle.flow_rules.specs.Verdict.{IsKept};
+ghost use Rattle.call_sequence.specs.Verdict.{IsKept};
 ghost use Rattle.proc_language.specs.declared.module.ModuleFields.{ModuleFields};
 ghost use Rattle.proc_names.specs.NameFaults.{name_faults};
 ghost use Rattle.proc_program.specs.declared.program.Program.{Program};

@@ -15,7 +15,7 @@ use Rattle.run_lines.specs.Views.{View, view_of}
 use Rattle.run_lines.specs.EndLines.{cause_text, pc_text, halted_text, running_text, failed_text}
 use Rattle.run_lines.specs.EndLines.{failed_by_text, line_at, end_line}
 use Rattle.line_fields.specs.Cuts.{behind}
-use Rattle.run_feed.specs.Lines.{other_line as Other, seen}
+use Rattle.line_fields.specs.Lines.{other_line as Other, seen}
 use Rattle.run_items.proofs.High.{IsHigh, decimal_high, signed_high, word_high, IsOneLine, line_join}
 use Rattle.run_items.proofs.High.{high_line}
 

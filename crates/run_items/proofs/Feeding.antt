@@ -14,9 +14,9 @@ use Rattle.run_lines.specs.Feed as line
 use Rattle.line_fields.specs.Cuts.{behind}
 use Rattle.line_fields.specs.Fields.{lines}
 use Rattle.line_fields.proofs.Offers.{parts_at, parts_none, is_free, cut_front}
-use Rattle.run_feed.specs.Lines.{seen, is_enter}
-use Rattle.run_feed.specs.Feed.{pairs_of, pairs_next, line_item as item_seen, with_item, fed_line, fed_from}
-use Rattle.run_feed.specs.Feed.{fed}
+use Rattle.line_fields.specs.Lines.{seen, is_enter}
+use Rattle.line_fields.specs.Feed.{pairs_of, pairs_next, line_item as item_seen, with_item, fed_line}
+use Rattle.line_fields.specs.Feed.{fed_from, fed}
 use Rattle.run_items.proofs.Spaced.{cut_free}
 use Rattle.run_items.proofs.FieldsRead.{integer_read, left_read}
 use Rattle.run_items.proofs.LinesSeen.{line_told, body, line_text_is, line_seen}

@@ -14,10 +14,10 @@ use Rattle.run_lines.specs.Texts.{line_text}
 use Rattle.run_lines.specs.Fits.{LineFits}
 use Rattle.line_fields.specs.Cuts.{behind}
 use Rattle.line_fields.specs.Fields.{meant, tested, whole}
-use Rattle.run_feed.specs.Seen.{EnterSeen}
-use Rattle.run_feed.specs.Lines.{LineSeen, enter_line as Enter, ret_line as Ret, pass_line as Pass}
-use Rattle.run_feed.specs.Lines.{other_line as Other}
-use Rattle.run_feed.specs.Lines.{begun, entered, answered, passed, enter_in, ret_in, pass_in, seen}
+use Rattle.line_fields.specs.Seen.{EnterSeen}
+use Rattle.line_fields.specs.Lines.{LineSeen, enter_line as Enter, ret_line as Ret, pass_line as Pass}
+use Rattle.line_fields.specs.Lines.{other_line as Other}
+use Rattle.line_fields.specs.Lines.{begun, entered, answered, passed, enter_in, ret_in, pass_in, seen}
 use Rattle.line_fields.proofs.Offers.{text_is_back, text_is_handed}
 use Rattle.run_items.proofs.High.{IsHigh, decimal_high, word_high, name_high, name_is, IsOneLine, line_join}
 use Rattle.run_items.proofs.High.{high_line}

@@ -8,7 +8,7 @@ use Rattle.run_lines.specs.Layout.{layout}
 use Rattle.run_lines.specs.Feed.{items_of}
 use Rattle.run_lines.specs.Runs.{run_text, written}
 use Rattle.run_lines.specs.Traces.{trace_text}
-use Rattle.run_feed.specs.Feed.{fed}
+use Rattle.line_fields.specs.Feed.{fed}
 
 -- of a run of so many instructions, where stacks begin at this base
 abbrev pub TextsTellItems : Type 0

@@ -21,9 +21,9 @@ use Rattle.lcm_machine.specs.Table.{is_pc}
 use Rattle.lcm_machine.specs.Row.{faces}
 use Rattle.call_sequence.specs.Sequences.{entry_code}
 use Rattle.call_sequence.specs.Standing.{CodeStands}
-use Rattle.flow_rules.specs.Kinds.{Row, kind_of, entry_row}
-use Rattle.flow_rules.specs.Holds.{code_at, HasKind}
-use Rattle.flow_rules.specs.Places.{begins_entry}
+use Rattle.call_sequence.specs.Kinds.{Row, kind_of, entry_row}
+use Rattle.call_sequence.specs.Holds.{code_at, HasKind}
+use Rattle.call_sequence.specs.Places.{begins_entry}
 use Rattle.linked_starts.specs.declared.owners.Owner.{Owner}
 use Rattle.linked_starts.specs.declared.owners.Entry.{Entry}
 use Rattle.linked_starts.specs.Parts.{PartSeen}

@@ -14,7 +14,7 @@ use Rattle.component_file.specs.declared.component.ComponentFields.{ComponentFie
 use Rattle.component_file.specs.Limits.{IsComponent}
 use Rattle.call_sequence.specs.declared.TheConstants.{CALL_WORDS, ENTRY_WORDS, SITE_WORDS}
 use Rattle.call_sequence.specs.Sequences.{call_code, return_code, entry_code}
-use Rattle.flow_rules.specs.Verdict.{IsKept}
+use Rattle.call_sequence.specs.Verdict.{IsKept}
 use Rattle.proc_language.specs.declared.tree.Name.{Name}
 use Rattle.proc_language.specs.declared.module.ModuleFields.{ModuleFields}
 use Rattle.proc_language.specs.Tree.{call, no_args, return}

@@ -19,7 +19,7 @@ use Rattle.overlay_machine.specs.Safe.{IsSafe}
 use Rattle.overlay_machine.specs.Starting.{overlay_at}
 use Rattle.linked_starts.specs.Started.{StartSeen}
 use Rattle.run_lines.specs.Layout.{layout}
-use Rattle.flow_rules.specs.Holds.{data_cap}
+use Rattle.call_sequence.specs.Holds.{data_cap}
 use Rattle.overlay_machine.specs.State.{OState}
 use Rattle.overlay_machine.specs.Link.{ranges_of}
 use Rattle.linked_starts.specs.Parts.{PartSeen}

@@ -27,7 +27,7 @@ use Rattle.lcm_isa.specs.declared.Operand.TheVariants.{Imm}
 use Rattle.lcm_machine.specs.Places.{reg, set_reg}
 use Rattle.lcm_machine.specs.Table.{fits_64}
 use Rattle.lcm_machine.proofs.Offers.{reg-set_same, reg-set_other, set_goes}
-use Rattle.flow_rules.specs.Holds.{data_cap, part_stack_cap}
+use Rattle.call_sequence.specs.Holds.{data_cap, part_stack_cap}
 use Rattle.overlay_machine.specs.declared.words.OWord.{OWord}
 use Rattle.overlay_machine.specs.declared.words.OWord.TheVariants.{Plain}
 use Rattle.overlay_machine.specs.Words.{look}

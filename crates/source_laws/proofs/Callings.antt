@@ -31,7 +31,7 @@ use Rattle.lcm_machine.specs.Maps.{State}
 use Rattle.lcm_machine.specs.Places.{reg}
 use Rattle.lcm_machine.specs.Table.{fits_64, runs_in}
 use Rattle.lcm_machine.specs.Row.{row, failed, faces}
-use Rattle.flow_rules.specs.Holds.{code_at, data_cap, part_stack_cap}
+use Rattle.call_sequence.specs.Holds.{code_at, data_cap, part_stack_cap}
 use Rattle.linked_starts.specs.Parts.{PartSeen}
 use Rattle.trusted_border.specs.declared.layout.SiteCode.{SiteCode}
 use Rattle.trusted_border.specs.Reaches.{site_of_seal}

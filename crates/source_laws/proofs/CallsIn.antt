@@ -10,7 +10,7 @@ use Rattle.lcm_isa.specs.declared.Reg.TheVariants.{Pc, Dat, Stk, Rcode, Rdata, A
 use Rattle.lcm_isa.specs.declared.Instr.TheVariants.{Xjmp}
 use Rattle.lcm_machine.specs.Places.{reg}
 use Rattle.lcm_machine.specs.Table.{fits_64, unsealed}
-use Rattle.flow_rules.specs.Holds.{data_cap, part_stack_cap, code_at}
+use Rattle.call_sequence.specs.Holds.{data_cap, part_stack_cap, code_at}
 use Rattle.linked_starts.specs.Parts.{PartSeen}
 use Rattle.trusted_border.specs.declared.layout.SiteCode.{SiteCode}
 use Rattle.trusted_border.specs.declared.events.Event.TheVariants.{Called, Returned as ReturnedTo}

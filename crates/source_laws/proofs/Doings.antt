@@ -23,7 +23,7 @@ use Rattle.lcm_machine.specs.declared.Place.TheVariants.{R}
 use Rattle.lcm_machine.specs.Places.{reg}
 use Rattle.lcm_machine.specs.Table.{fits_64, is_zero}
 use Rattle.lcm_machine.proofs.Offers.{stays, move_goes, halt_halts}
-use Rattle.flow_rules.specs.Holds.{data_cap}
+use Rattle.call_sequence.specs.Holds.{data_cap}
 use Rattle.overlay_machine.specs.declared.words.OWord.{OWord}
 use Rattle.overlay_machine.specs.declared.words.OWord.TheVariants.{Plain}
 use Rattle.overlay_machine.specs.Words.{look}

@@ -12,7 +12,7 @@ use Rattle.lcm_isa.specs.declared.Instr.TheVariants.{Xjmp}
 use Rattle.lcm_machine.specs.declared.Place.TheVariants.{R}
 use Rattle.lcm_machine.specs.Cells.{put_back}
 use Rattle.lcm_machine.specs.Table.{ask, need}
-use Rattle.flow_rules.specs.Holds.{part_stack_cap as stack_at}
+use Rattle.call_sequence.specs.Holds.{part_stack_cap as stack_at}
 use Rattle.linked_starts.specs.Parts.{PartSeen}
 use Rattle.trusted_border.specs.declared.layout.SiteCode.{SiteCode}
 use Rattle.trusted_border.specs.declared.events.Event.TheVariants.{Returned as ReturnedTo}

@@ -12,8 +12,8 @@ use Rattle.lcm_machine.specs.Places.{reg}
 use Rattle.lcm_machine.specs.Cells.{cell}
 use Rattle.lcm_machine.specs.Row.{faces}
 use Rattle.lcm_machine.specs.Table.{fits_64}
-use Rattle.flow_rules.specs.Holds.{data_cap, PcAt, part_stack_cap as stack_at}
-use Rattle.flow_rules.specs.Places.{begins_entry}
+use Rattle.call_sequence.specs.Holds.{data_cap, PcAt, part_stack_cap as stack_at}
+use Rattle.call_sequence.specs.Places.{begins_entry}
 use Rattle.linked_starts.specs.Parts.{PartSeen}
 use Rattle.trusted_border.specs.declared.layout.SiteCode.{SiteCode}
 use Rattle.trusted_border.specs.Layout.{site_code}

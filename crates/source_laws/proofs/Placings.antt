@@ -7,8 +7,8 @@ use Rattle.cap_words.specs.declared.Word.TheVariants.{Int, Mem, Seal, Sealed}
 use Rattle.lcm_isa.specs.declared.Instr.{Instr}
 use Rattle.lcm_isa.specs.Numbers.{number_of, IsInstr}
 use Rattle.lcm_isa.proofs.Offers.{number_of-decode_of, decode_of-fits}
-use Rattle.flow_rules.specs.Places.{begins_site}
-use Rattle.flow_rules.specs.Walk.{instr_at, instr_in}
+use Rattle.call_sequence.specs.Places.{begins_site}
+use Rattle.call_sequence.specs.Walk.{instr_at, instr_in}
 use Rattle.linked_starts.specs.Parts.{PartSeen}
 use Rattle.trusted_border.specs.declared.layout.SiteCode.{SiteCode}
 use Rattle.trusted_border.specs.Layout.{site_at}

@@ -18,8 +18,8 @@ use Rattle.lcm_isa.specs.declared.Reg.{Reg}
 use Rattle.lcm_isa.specs.declared.Reg.TheVariants.{Pc, Rcode, Rdata, Stk, Dat, A0, A1, A2, A3}
 use Rattle.lcm_machine.specs.Places.{reg}
 use Rattle.lcm_machine.specs.Table.{fits_64}
-use Rattle.flow_rules.specs.Holds.{part_stack_cap}
-use Rattle.flow_rules.specs.Places.{begins_entry}
+use Rattle.call_sequence.specs.Holds.{part_stack_cap}
+use Rattle.call_sequence.specs.Places.{begins_entry}
 use Rattle.linked_starts.specs.Parts.{PartSeen}
 use Rattle.overlay_machine.specs.declared.words.OWord.{OWord}
 use Rattle.overlay_machine.specs.declared.words.OWord.TheVariants.{Plain}

@@ -1,7 +1,7 @@
 -- The theorem of sources: compiled procedures that stand in the parts of a link do what the modules mean,
 -- against every code outside them.
 use Rattle.std.proofs.Common.{◌≡◌, ℕ, map, true, Some, subst}
-use Rattle.flow_rules.specs.Places.{begins_entry}
+use Rattle.call_sequence.specs.Places.{begins_entry}
 use Rattle.linked_starts.specs.Parts.{PartSeen}
 use Rattle.linked_starts.specs.Started.{StartSeen}
 use Rattle.linked_starts.specs.declared.owners.Owner.{Owner}

@@ -1,7 +1,7 @@
 -- The sites of a component among the pieces of its code, and the calls of a program in order.
 use Rattle.std.specs.Prelude.{◌≡◌, ℕ, suc, ◌+◌, true, List, [], ◌∷◌, slice_get, Some}
 use Rattle.component_file.specs.declared.component.ComponentFields.{ComponentFields}
-use Rattle.flow_rules.specs.Places.{begins_site}
+use Rattle.call_sequence.specs.Places.{begins_site}
 use Rattle.proc_program.specs.Program.{Exp, Number, Load, Element, Call, Binary, Args, no_args, value, pass}
 use Rattle.proc_program.specs.Program.{Statement, Set, SetAt, Do, If, While, Return, Halt}
 use Rattle.proc_program.specs.Program.{Block, no_steps, step}

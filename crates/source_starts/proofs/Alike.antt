@@ -9,8 +9,8 @@ use Rattle.cap_words.specs.declared.Word.{Word}
 use Rattle.cap_words.specs.declared.Word.TheVariants.{Int, Mem, Seal, Sealed}
 use Rattle.component_file.specs.declared.component.ComponentFields.{ComponentFields}
 use Rattle.component_file.specs.declared.component.Export.{Export}
-use Rattle.flow_rules.specs.Places.{begins_entry, begins_site, declared}
-use Rattle.flow_rules.specs.Walk.{instr_at, instr_in}
+use Rattle.call_sequence.specs.Places.{begins_entry, begins_site, declared}
+use Rattle.call_sequence.specs.Walk.{instr_at, instr_in}
 use Rattle.linked_starts.specs.Placing.{moved_by, moved_word}
 use Rattle.proc_program.specs.declared.program.Program.{Program}
 use Rattle.proc_templates.specs.Items.{FAIL_AT, Spot, Item, does, guards, goes, goes_if, finishes, label}

@@ -15,7 +15,7 @@ use Rattle.cap_words.specs.declared.Opened.{Opened}
 use Rattle.cap_words.specs.Face.{face_of, opened_of}
 use Rattle.cap_words.specs.Linear.{is_linear}
 use Rattle.lcm_machine.specs.Table.{memory_content, unsealed, runs_in}
-use Rattle.flow_rules.specs.Holds.{code_at, data_cap}
+use Rattle.call_sequence.specs.Holds.{code_at, data_cap}
 use Rattle.linked_starts.specs.declared.owners.Owner.{Owner}
 use Rattle.linked_starts.specs.Owners.{owner_of}
 use Rattle.linked_starts.specs.Parts.{PartSeen}

@@ -10,7 +10,7 @@ use Rattle.cap_words.specs.declared.Perm.TheVariants.{Rx, Rwx}
 use Rattle.cap_words.specs.Faces.{may_run}
 use Rattle.cap_words.specs.Linear.{lin_is}
 use Rattle.cap_words.specs.Face.{face_of}
-use Rattle.flow_rules.specs.Holds.{code_at, data_cap}
+use Rattle.call_sequence.specs.Holds.{code_at, data_cap}
 use Rattle.linked_starts.specs.declared.owners.Site.{Site}
 use Rattle.linked_starts.specs.declared.owners.Owner.{Owner}
 use Rattle.linked_starts.specs.Parts.{PartSeen}

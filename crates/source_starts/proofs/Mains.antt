@@ -19,7 +19,7 @@ use Rattle.lcm_isa.specs.declared.Reg.TheVariants.{G0, G1, G2}
 use Rattle.lcm_machine.specs.declared.cells.Span.{Span}
 use Rattle.lcm_machine.specs.Maps.{Regs}
 use Rattle.lcm_machine.specs.Places.{reg}
-use Rattle.flow_rules.specs.Holds.{code_at, data_cap, PcAt}
+use Rattle.call_sequence.specs.Holds.{code_at, data_cap, PcAt}
 use Rattle.linked_starts.specs.Parts.{PartSeen}
 use Rattle.linked_starts.specs.Regions.{addresses, span_of, stack_span, is_stack_size}
 use Rattle.linked_starts.specs.Pairs.{NoneIsBroken, at_each, passes, once}

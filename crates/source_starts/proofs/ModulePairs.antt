@@ -14,7 +14,7 @@ use Rattle.component_file.specs.declared.component.Import.{Import}
 use Rattle.component_file.proofs.Offers.{inside as there_is}
 use Rattle.lcm_machine.specs.Cells.{cell}
 use Rattle.lcm_machine.specs.Table.{fits_64}
-use Rattle.flow_rules.specs.Holds.{code_at, data_cap}
+use Rattle.call_sequence.specs.Holds.{code_at, data_cap}
 use Rattle.linked_starts.specs.Parts.{PartSeen}
 use Rattle.linked_starts.specs.Start.{Exported, code_half, data_half, code_of, data_of, imported}
 use Rattle.linked_starts.specs.Started.{StartSeen}

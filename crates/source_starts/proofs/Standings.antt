@@ -10,8 +10,8 @@ use Rattle.std.specs.List.{Contains}
 use Rattle.std.proofs.lemmas.List.{length-map}
 use Rattle.std.proofs.lemmas.Option.{slice_get_within}
 use Rattle.lcm_isa.specs.declared.Instr.TheVariants.{Fail}
-use Rattle.flow_rules.specs.Holds.{code_at, data_cap}
-use Rattle.flow_rules.specs.Places.{begins_site}
+use Rattle.call_sequence.specs.Holds.{code_at, data_cap}
+use Rattle.call_sequence.specs.Places.{begins_site}
 use Rattle.linked_starts.specs.declared.owners.Site.{Site}
 use Rattle.linked_starts.specs.Parts.{PartSeen}
 use Rattle.linked_starts.specs.Started.{StartSeen}

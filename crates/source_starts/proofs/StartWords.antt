@@ -8,7 +8,7 @@ use Rattle.cap_words.specs.declared.Word.{Word}
 use Rattle.cap_words.specs.declared.Word.TheVariants.{Int, Mem, Seal, Sealed}
 use Rattle.component_file.specs.declared.component.Import.{Import}
 use Rattle.lcm_machine.specs.Cells.{cell}
-use Rattle.flow_rules.specs.Holds.{code_at}
+use Rattle.call_sequence.specs.Holds.{code_at}
 use Rattle.linked_starts.specs.Parts.{PartSeen, IsPart}
 use Rattle.linked_starts.specs.Regions.{regions_of, in_regions}
 use Rattle.linked_starts.specs.Start.{Exported, imported, code_half, data_half, code_of, data_of}

@@ -10,8 +10,8 @@ use Rattle.cap_words.specs.declared.Word.TheVariants.{Int}
 use Rattle.cap_words.specs.declared.Face.TheVariants.{Memory}
 use Rattle.cap_words.specs.Face.{face_of}
 use Rattle.lcm_machine.specs.Row.{faces}
-use Rattle.flow_rules.specs.Holds.{code_at}
-use Rattle.flow_rules.specs.Places.{begins_entry}
+use Rattle.call_sequence.specs.Holds.{code_at}
+use Rattle.call_sequence.specs.Places.{begins_entry}
 use Rattle.linked_starts.specs.declared.owners.Owner.{Owner}
 use Rattle.linked_starts.specs.Owners.{owner_of}
 use Rattle.linked_starts.specs.Parts.{PartSeen}

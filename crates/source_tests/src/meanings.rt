@@ -1,10 +1,9 @@
 //! What modules mean that `stk mean` refuses, and what a meaning tells with numbers that none reaches.
 use cap_words::Items;
-use meaning_text::told_text;
+use line_fields::read_feed;
 use proc_language::Module;
-use proc_meaning::meaning;
+use proc_meaning::{meaning, told_text};
 use proc_parse::parse;
-use run_feed::read_feed;
 use source_events::{End, Item, OutArg, OutEvent, Told};
 use std::alloc::{AllocError, Global};
 use std::process::Abort;

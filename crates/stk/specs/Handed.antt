@@ -6,7 +6,7 @@ use Rattle.lcm_machine.specs.Run.{Run as Machine}
 use Rattle.command_words.specs.Action.{asked_in}
 use Rattle.refusal_lines.specs.declared.status.Status.{Status}
 use Rattle.refusal_lines.specs.Status.{status_number}
-use Rattle.call_answers.specs.Answers.{outside}
+use Rattle.command_words.specs.Answers.{outside}
 use Rattle.lcm_cli.specs.Causes.{Promised}
 
 -- the number is that of a status that the top call promises of these words, over these files and this sink

@@ -1,13 +1,13 @@
 //! The program `stk`: the top call over the files and the standard output of the system.
 #![tactic(auto)]
 
-ghost use Rattle.call_answers.specs.Handed.{Handed, IsUncalled};
+ghost use Rattle.command_words.specs.Handed.{Handed, IsUncalled};
 ghost use Rattle.command_words.specs.Texts.{texts};
 ghost use Rattle.refusal_lines.specs.declared.status.Status.TheVariants.{NoMemory};
 ghost use Rattle.refusal_lines.specs.Status.{status_number};
 ghost use Rattle.stk.specs.Handed.{IsAnswered};
 
-use call_answers::call_words;
+use command_words::call_words;
 use lcm_cli::{Status, stk_main};
 use outside_io::{Files, HostFiles, HostSink, Sink};
 use std::alloc::Global;

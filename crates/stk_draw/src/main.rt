@@ -1,13 +1,13 @@
 //! The program `stk_draw`: its call over the files and the standard output of the system.
 #![tactic(auto)]
 
-ghost use Rattle.call_answers.specs.Handed.{Handed, IsUncalled};
+ghost use Rattle.command_words.specs.Handed.{Handed, IsUncalled};
 ghost use Rattle.command_words.specs.Texts.{texts};
 ghost use Rattle.draw_call.specs.declared.status.DrawStatus.TheVariants.{NoMemory};
 ghost use Rattle.draw_call.specs.Answers.{draw_status_number};
 ghost use Rattle.stk_draw.specs.Drawn.{IsAnswered};
 
-use call_answers::call_words;
+use command_words::call_words;
 use draw_call::{DrawStatus, draw_main};
 use outside_io::{Files, HostFiles, HostSink, Sink};
 use std::alloc::Global;

@@ -37,8 +37,8 @@ use Rattle.overlay_machine.specs.Safe.{IsSafe}
 use Rattle.overlay_machine.specs.Linked.{IsLink}
 use Rattle.overlay_machine.specs.Agree.{IsForeign}
 use Rattle.overlay_machine.proofs.Offers.{found_at, numbered_is, foreign, Crossed}
-use Rattle.flow_rules.specs.Holds.{code_at, data_cap, PcAt}
-use Rattle.flow_rules.specs.Places.{begins_entry}
+use Rattle.call_sequence.specs.Holds.{code_at, data_cap, PcAt}
+use Rattle.call_sequence.specs.Places.{begins_entry}
 use Rattle.template_runs.specs.Public.{IsShown, IsSharedAt}
 use Rattle.template_runs.specs.Runs.{Makes}
 use Rattle.template_runs.proofs.Valid.{Valid}

@@ -23,7 +23,7 @@ use Rattle.lcm_machine.specs.Cells.{cell, all_there, words_from, put_back}
 use Rattle.lcm_machine.specs.Row.{put, row, went, opens}
 use Rattle.lcm_machine.specs.Runs.{code_cap}
 use Rattle.lcm_machine.proofs.Offers.{stays, xjmp_goes, cell-without_out}
-use Rattle.flow_rules.specs.Holds.{part_stack_cap}
+use Rattle.call_sequence.specs.Holds.{part_stack_cap}
 use Rattle.linked_starts.specs.Parts.{PartSeen}
 use Rattle.trusted_border.specs.declared.layout.SiteCode.{SiteCode}
 use Rattle.trusted_border.specs.declared.events.Event.TheVariants.{Called}

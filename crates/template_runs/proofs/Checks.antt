@@ -22,7 +22,7 @@ use Rattle.lcm_machine.specs.Row.{put}
 use Rattle.lcm_machine.specs.Runs.{code_cap}
 use Rattle.lcm_machine.proofs.Offers.{is_linear-face, stays, fail_fails, gettype_goes, getlin_goes}
 use Rattle.lcm_machine.proofs.Offers.{minus_goes, jnz_goes, jnz_jumps, move_goes, cca_goes}
-use Rattle.flow_rules.specs.Holds.{code_at}
+use Rattle.call_sequence.specs.Holds.{code_at}
 use Rattle.linked_starts.specs.Parts.{PartSeen}
 use Rattle.overlay_machine.specs.declared.words.OWord.{OWord}
 use Rattle.overlay_machine.specs.declared.words.OWord.TheVariants.{Plain}

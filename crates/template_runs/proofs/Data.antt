@@ -19,7 +19,7 @@ use Rattle.lcm_machine.specs.Cells.{cell, set_cell}
 use Rattle.lcm_machine.specs.Table.{fits_64, operand}
 use Rattle.lcm_machine.specs.Row.{put, row, went, faces, jump_of}
 use Rattle.lcm_machine.proofs.Offers.{stays, cca_goes, load_goes, store_goes, cell-set_other, cell-set_same}
-use Rattle.flow_rules.specs.Holds.{data_cap}
+use Rattle.call_sequence.specs.Holds.{data_cap}
 use Rattle.linked_starts.specs.Parts.{PartSeen}
 use Rattle.overlay_machine.specs.declared.words.OWord.{OWord}
 use Rattle.overlay_machine.specs.declared.words.OWord.TheVariants.{Plain}

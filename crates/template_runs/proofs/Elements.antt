@@ -14,7 +14,7 @@ use Rattle.lcm_machine.specs.Table.{fits_64, is_zero, bit}
 use Rattle.lcm_machine.specs.Row.{put}
 use Rattle.lcm_machine.proofs.Offers.{stays, set_goes, lt_goes, plus_goes, minus_goes, number_in, jnz_goes}
 use Rattle.lcm_machine.proofs.Offers.{jnz_jumps}
-use Rattle.flow_rules.specs.Holds.{code_at}
+use Rattle.call_sequence.specs.Holds.{code_at}
 use Rattle.linked_starts.specs.Parts.{PartSeen}
 use Rattle.overlay_machine.specs.declared.words.OWord.{OWord}
 use Rattle.overlay_machine.specs.declared.words.OWord.TheVariants.{Plain}

@@ -24,8 +24,8 @@ use Rattle.lcm_machine.proofs.Offers.{Gives, gives_goes, Gives-effect, Gives-nee
 use Rattle.lcm_machine.proofs.Offers.{step_at}
 use Rattle.lcm_machine.specs.Row.{went, put, clear, perform, outcome, plan_in, faces, opens, cell_faces}
 use Rattle.lcm_machine.specs.Row.{fetch, some, row}
-use Rattle.flow_rules.specs.Holds.{data_cap, code_at, PcAt}
-use Rattle.flow_rules.specs.Places.{begins_entry}
+use Rattle.call_sequence.specs.Holds.{data_cap, code_at, PcAt}
+use Rattle.call_sequence.specs.Places.{begins_entry}
 use Rattle.linked_starts.specs.Parts.{PartSeen}
 use Rattle.linked_starts.specs.declared.owners.Owner.{Owner}
 use Rattle.trusted_border.specs.declared.layout.SiteCode.{SiteCode}

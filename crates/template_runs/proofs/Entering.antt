@@ -9,10 +9,10 @@ use Rattle.lcm_isa.specs.declared.Reg.{Reg}
 use Rattle.lcm_isa.specs.declared.Reg.TheVariants.{Pc, Rcode, Rdata, Stk, Dat, T1, T2, C1, C2, A0, A1, A2, A3}
 use Rattle.lcm_isa.specs.declared.Reg.TheVariants.{G0, G1, G2}
 use Rattle.lcm_machine.specs.Places.{reg, set_reg}
-use Rattle.flow_rules.specs.Kinds.{Row, kind_of, entry_row}
-use Rattle.flow_rules.specs.Walk.{RowAt}
-use Rattle.flow_rules.specs.Holds.{part_stack_cap, HasKinds, HasKind}
-use Rattle.flow_rules.specs.Places.{begins_entry}
+use Rattle.call_sequence.specs.Kinds.{Row, kind_of, entry_row}
+use Rattle.call_sequence.specs.Walk.{RowAt}
+use Rattle.call_sequence.specs.Holds.{part_stack_cap, HasKinds, HasKind}
+use Rattle.call_sequence.specs.Places.{begins_entry}
 use Rattle.linked_starts.specs.Parts.{PartSeen}
 use Rattle.overlay_machine.specs.declared.words.OWord.{OWord}
 use Rattle.overlay_machine.specs.declared.words.OWord.TheVariants.{Plain}

@@ -23,8 +23,8 @@ use Rattle.lcm_machine.specs.Row.{row, failed, faces, plan_in, pc_at}
 use Rattle.lcm_machine.specs.Runs.{code_cap}
 use Rattle.lcm_machine.proofs.Offers.{shows}
 use Rattle.call_sequence.specs.declared.TheConstants.{ENTRY_WORDS}
-use Rattle.flow_rules.specs.Holds.{data_cap, part_stack_cap}
-use Rattle.flow_rules.specs.Places.{begins_entry}
+use Rattle.call_sequence.specs.Holds.{data_cap, part_stack_cap}
+use Rattle.call_sequence.specs.Places.{begins_entry}
 use Rattle.linked_starts.specs.Parts.{PartSeen}
 use Rattle.trusted_border.specs.Layout.{site_at}
 use Rattle.overlay_machine.specs.declared.words.OWord.{OWord}

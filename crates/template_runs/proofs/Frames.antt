@@ -24,7 +24,7 @@ use Rattle.lcm_machine.specs.Row.{put, row, Outcome, went, halted, failed}
 use Rattle.lcm_machine.specs.Refusals.{HasFailed}
 use Rattle.lcm_machine.proofs.Offers.{cell-set_same, cell-set_other, is_linear-face, stays, left, cca_goes}
 use Rattle.lcm_machine.proofs.Offers.{load_goes, load_linear_goes, store_goes, store_fails}
-use Rattle.flow_rules.specs.Holds.{data_cap, part_stack_cap}
+use Rattle.call_sequence.specs.Holds.{data_cap, part_stack_cap}
 use Rattle.linked_starts.specs.Parts.{PartSeen}
 use Rattle.overlay_machine.specs.declared.words.OWord.{OWord}
 use Rattle.overlay_machine.specs.declared.words.OWord.TheVariants.{Plain}

@@ -2,8 +2,8 @@
 use Rattle.std.proofs.Common.{◌≡◌, ℕ, Some, true}
 use Rattle.std.specs.Prelude.{slice_get}
 use Rattle.cap_words.specs.declared.Face.TheVariants.{Memory}
-use Rattle.flow_rules.specs.Holds.{code_at}
-use Rattle.flow_rules.specs.Places.{begins_entry}
+use Rattle.call_sequence.specs.Holds.{code_at}
+use Rattle.call_sequence.specs.Places.{begins_entry}
 use Rattle.linked_starts.specs.Parts.{PartSeen}
 use Rattle.linked_starts.specs.Owners.{owner_of}
 use Rattle.linked_starts.specs.declared.owners.Owner.{Owner}

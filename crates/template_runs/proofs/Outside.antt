@@ -27,8 +27,8 @@ use Rattle.lcm_machine.specs.Table.{target, unsealed, memory_content}
 use Rattle.lcm_machine.specs.Row.{went, faces, opens, cell_faces, fetch, some, row, step_of}
 use Rattle.lcm_machine.proofs.Offers.{cases_reg, fetch_normal, after_went, row_others, fetched_row}
 use Rattle.lcm_machine.proofs.Offers.{used_target, row_keeps, is_none}
-use Rattle.flow_rules.specs.Holds.{data_cap, code_at, PcAt}
-use Rattle.flow_rules.specs.Places.{begins_entry}
+use Rattle.call_sequence.specs.Holds.{data_cap, code_at, PcAt}
+use Rattle.call_sequence.specs.Places.{begins_entry}
 use Rattle.linked_starts.specs.Parts.{PartSeen}
 use Rattle.linked_starts.specs.declared.owners.Owner.{Owner}
 use Rattle.linked_starts.proofs.Offers.{found, listed_at}

@@ -23,7 +23,7 @@ use Rattle.lcm_machine.specs.Table.{fits_64, is_pc}
 use Rattle.lcm_machine.specs.Row.{put, row, went}
 use Rattle.lcm_machine.proofs.Offers.{stays, cca_goes, load_goes, store_goes, cell-set_other}
 use Rattle.template_runs.proofs.Numbers.{fits_small, fits_less}
-use Rattle.flow_rules.specs.Holds.{data_cap, part_stack_cap}
+use Rattle.call_sequence.specs.Holds.{data_cap, part_stack_cap}
 use Rattle.linked_starts.specs.Parts.{PartSeen}
 use Rattle.overlay_machine.specs.declared.words.OWord.{OWord}
 use Rattle.overlay_machine.specs.declared.words.OWord.TheVariants.{Plain}

@@ -17,7 +17,7 @@ use Rattle.lcm_isa.specs.declared.Reg.TheVariants.{Pc, Rcode, Rdata, Stk, Dat, T
 use Rattle.lcm_isa.specs.declared.Reg.TheVariants.{G0, G1, G2}
 use Rattle.lcm_machine.specs.Places.{reg}
 use Rattle.lcm_machine.specs.Table.{unsealed}
-use Rattle.flow_rules.specs.Holds.{part_stack_cap as stack_at}
+use Rattle.call_sequence.specs.Holds.{part_stack_cap as stack_at}
 use Rattle.call_sequence.specs.SequenceRuns.{stack_cap}
 use Rattle.linked_starts.specs.Parts.{PartSeen}
 use Rattle.trusted_border.specs.declared.layout.SiteCode.{SiteCode}

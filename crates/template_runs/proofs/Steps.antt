@@ -15,8 +15,8 @@ use Rattle.lcm_machine.specs.Row.{Outcome, went, halted, failed, look_face, face
 use Rattle.lcm_machine.specs.Row.{row, jump_of}
 use Rattle.lcm_machine.specs.Runs.{code_cap}
 use Rattle.lcm_machine.proofs.Offers.{fetch_at, step_at}
-use Rattle.flow_rules.specs.Holds.{PcAt}
-use Rattle.flow_rules.specs.Places.{begins_entry, begins_site}
+use Rattle.call_sequence.specs.Holds.{PcAt}
+use Rattle.call_sequence.specs.Places.{begins_entry, begins_site}
 use Rattle.linked_starts.specs.Parts.{PartSeen}
 use Rattle.trusted_border.specs.Layout.{trusted_at, site_at}
 use Rattle.overlay_machine.specs.declared.words.OWord.{OWord}

@@ -7,7 +7,7 @@ use Rattle.cap_words.specs.declared.Sealable.TheVariants.{Mem as MemIn}
 use Rattle.component_file.specs.declared.component.Export.{Export}
 use Rattle.component_file.specs.declared.component.ComponentFields.{ComponentFields}
 use Rattle.call_sequence.specs.SequenceRuns.{IsOutsideRange}
-use Rattle.flow_rules.specs.Holds.{code_at}
+use Rattle.call_sequence.specs.Holds.{code_at}
 use Rattle.linked_starts.specs.Parts.{PartSeen}
 use Rattle.lcm_machine.specs.Cells.{cell}
 use Rattle.overlay_machine.specs.declared.words.OWord.{OWord}

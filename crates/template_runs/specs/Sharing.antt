@@ -11,7 +11,7 @@ use Rattle.lcm_machine.specs.Runs.{code_cap}
 use Rattle.call_sequence.specs.declared.TheConstants.{CALL_WORDS, RETURN_WORDS}
 use Rattle.trusted_border.specs.declared.layout.SiteCode.{SiteCode}
 use Rattle.trusted_border.specs.Layout.{site_code}
-use Rattle.flow_rules.specs.Holds.{PcAt}
+use Rattle.call_sequence.specs.Holds.{PcAt}
 use Rattle.linked_starts.specs.Parts.{PartSeen}
 use Rattle.overlay_machine.specs.declared.words.OWord.TheVariants.{Plain}
 use Rattle.overlay_machine.specs.Words.{look}

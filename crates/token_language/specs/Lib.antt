@@ -1,3 +1,5 @@
+pub mod Fronts
+pub mod TokenFaults
 pub mod Tree
 pub mod Codes
 pub mod View

@@ -20,7 +20,7 @@ use Rattle.token_language.specs.Limits.{IsTokenModule}
 use Rattle.token_language.specs.Tree.{number, var, call, no_args, value, token, return, halt, make, spend}
 use Rattle.token_language.specs.Tree.{Expr, Stmt}
 use Rattle.token_language.specs.Erased.{erased}
-use Rattle.token_names.specs.TokenFaults.{IsTokenResolved}
+use Rattle.token_language.specs.TokenFaults.{IsTokenResolved}
 use Rattle.token_check.specs.Tokens.{Full, none_full}
 use Rattle.token_check.specs.Typing.{IsTyped}
 use Rattle.token_semantics.specs.Hands.{Hands, Ledger}

@@ -14,7 +14,7 @@ use Rattle.token_language.specs.Tree.{spend, Block, no_stmts, stmt}
 use Rattle.token_language.specs.StmtView.{block_of}
 use Rattle.token_language.specs.Tokens.{param_tokens}
 use Rattle.token_language.specs.Erased.{erased, erased_proc}
-use Rattle.token_names.specs.TokenFaults.{arg_tokens}
+use Rattle.token_language.specs.TokenFaults.{arg_tokens}
 
 -- how many tokens a call hands over, and how many a procedure takes
 abbrev pub tokens_given : Args → ℕ

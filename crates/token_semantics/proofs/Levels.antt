@@ -39,7 +39,7 @@ use Rattle.token_semantics.proofs.Fits.{tokens_taken, ProcFits}
 use Rattle.token_semantics.specs.Law.{HasNoTokens, IsAccepted}
 use Rattle.token_semantics.proofs.Resolved.{calls_fit, names_fit}
 use Rattle.token_semantics.proofs.Reached.{ProcGoes, checked_goes, tokenless_goes}
-use Rattle.token_names.specs.TokenFaults.{IsTokenResolved}
+use Rattle.token_language.specs.TokenFaults.{IsTokenResolved}
 use Rattle.token_semantics.proofs.HandLemmas.{handed_length, empty_length, handed_held, handed_full}
 use Rattle.token_semantics.proofs.Same.{Running, Same, same_more, ended_same, ticks_same, emitted, item_taken}
 use Rattle.token_semantics.proofs.Same.{place_same, HandsAre, plus, with_numbers, calling, leave_same}

@@ -28,11 +28,11 @@ use Rattle.token_language.specs.Tokens.{param_name, local_name, param_tokens, lo
 use Rattle.token_language.specs.Limits.{TokensFit}
 use Rattle.token_language.specs.Erased.{erased_expr, erased_args, erased_before, erased_block, stmts_in}
 use Rattle.token_language.specs.Erased.{erased_params, erased_locals, erased_proc, erased}
-use Rattle.token_names.specs.TokenFaults.{is_token, wrong, arg_tokens, fit, fit_proc, outside_faults}
-use Rattle.token_names.specs.TokenFaults.{called_faults, or_token, variable_faults, element_faults}
-use Rattle.token_names.specs.TokenFaults.{call_faults, handed_faults, expr_faults, args_faults, stmt_faults}
-use Rattle.token_names.specs.TokenFaults.{block_faults, shared_faults, proc_faults, procs_faults}
-use Rattle.token_names.specs.TokenFaults.{token_name_faults}
+use Rattle.token_language.specs.TokenFaults.{is_token, wrong, arg_tokens, fit, fit_proc, outside_faults}
+use Rattle.token_language.specs.TokenFaults.{called_faults, or_token, variable_faults, element_faults}
+use Rattle.token_language.specs.TokenFaults.{call_faults, handed_faults, expr_faults, args_faults}
+use Rattle.token_language.specs.TokenFaults.{stmt_faults, block_faults, shared_faults, proc_faults}
+use Rattle.token_language.specs.TokenFaults.{procs_faults, token_name_faults}
 use Rattle.token_semantics.specs.Plain.{tokened_expr, tokened_args, tokened_stmt, tokened_block, tokened_proc}
 use Rattle.token_semantics.specs.Plain.{tokened}
 use Rattle.token_semantics.specs.Law.{PlainAreAccepted}

@@ -16,9 +16,9 @@ use Rattle.token_language.specs.Tree.{Stmt, set, set_at, do_call, if_then, if_el
 use Rattle.token_language.specs.Tree.{spend, Block, no_stmts, stmt}
 use Rattle.token_language.specs.StmtView.{block_of}
 use Rattle.token_language.specs.Tokens.{tokens_of, param_tokens, local_tokens}
-use Rattle.token_names.specs.TokenFaults.{is_plain, token_faults, variable_faults, element_faults}
-use Rattle.token_names.specs.TokenFaults.{call_faults}
-use Rattle.token_names.specs.TokenFaults.{handed_faults, expr_faults, args_faults, stmt_faults, block_faults}
+use Rattle.token_language.specs.TokenFaults.{is_plain, token_faults, variable_faults, element_faults}
+use Rattle.token_language.specs.TokenFaults.{call_faults, handed_faults, expr_faults, args_faults}
+use Rattle.token_language.specs.TokenFaults.{stmt_faults, block_faults}
 use Rattle.token_check.specs.Tokens.{Full, is_clear, none_full, params_full, token_at}
 use Rattle.token_check.specs.Walk.{FullAfter, at_first}
 use Rattle.token_check.specs.Typing.{Fills, Empties, Joins, ComesBack, IsClear, ExprTyped, ArgsTyped}

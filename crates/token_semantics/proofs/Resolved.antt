@@ -28,10 +28,11 @@ use Rattle.token_language.specs.Tree.{spend, Block, no_stmts, stmt}
 use Rattle.token_language.specs.StmtView.{block_of}
 use Rattle.token_language.specs.Tokens.{param_tokens}
 use Rattle.token_language.specs.Erased.{erased, erased_proc, erased_params}
-use Rattle.token_names.specs.TokenFaults.{is_token, wrong, arg_tokens, fit, fit_proc, called_faults, or_token}
-use Rattle.token_names.specs.TokenFaults.{variable_faults, element_faults, call_faults, handed_faults}
-use Rattle.token_names.specs.TokenFaults.{token_faults, expr_faults, args_faults, stmt_faults, block_faults}
-use Rattle.token_names.specs.TokenFaults.{shared_faults, proc_faults, procs_faults, IsTokenResolved}
+use Rattle.token_language.specs.TokenFaults.{is_token, wrong, arg_tokens, fit, fit_proc, called_faults}
+use Rattle.token_language.specs.TokenFaults.{or_token, variable_faults, element_faults, call_faults}
+use Rattle.token_language.specs.TokenFaults.{handed_faults, token_faults, expr_faults, args_faults}
+use Rattle.token_language.specs.TokenFaults.{stmt_faults, block_faults, shared_faults, proc_faults}
+use Rattle.token_language.specs.TokenFaults.{procs_faults, IsTokenResolved}
 use Rattle.token_semantics.proofs.Fits.{tokens_given, tokens_taken, taken_by, ExprFits}
 use Rattle.token_semantics.proofs.Fits.{ArgsFit, StmtFits, BlockFits, ProcFits, CallsFit}
 

@@ -11,7 +11,7 @@ use Rattle.token_language.specs.declared.module.TokenModuleFields.{TokenModuleFi
 use Rattle.token_language.specs.Tokens.{tokens_of}
 use Rattle.token_language.specs.Limits.{IsTokenModule}
 use Rattle.token_language.specs.Erased.{erased}
-use Rattle.token_names.specs.TokenFaults.{IsTokenResolved}
+use Rattle.token_language.specs.TokenFaults.{IsTokenResolved}
 use Rattle.token_check.specs.Typing.{IsTyped}
 use Rattle.token_semantics.specs.Hands.{Hands, Ledger, spent_by, count}
 use Rattle.token_semantics.specs.Told.{TokensTold}

@@ -20,7 +20,7 @@ use Rattle.lcm_machine.specs.Row.{went, faces, cell_faces, fetch}
 use Rattle.lcm_machine.specs.Run.{Run, next_state, plain, fresh, EndsAs}
 use Rattle.lcm_machine.specs.Runs.{run_of}
 use Rattle.lcm_machine.proofs.Offers.{plain_ends}
-use Rattle.flow_rules.specs.Places.{begins_entry}
+use Rattle.call_sequence.specs.Places.{begins_entry}
 use Rattle.linked_starts.specs.Parts.{PartSeen}
 use Rattle.overlay_machine.specs.declared.words.OWord.{OWord}
 use Rattle.overlay_machine.specs.declared.words.OWord.TheVariants.{Plain, RetCode, RetData}

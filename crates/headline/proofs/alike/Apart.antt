@@ -12,9 +12,9 @@ use Rattle.lcm_isa.specs.declared.Instr.{Instr}
 use Rattle.lcm_isa.specs.declared.Instr.TheVariants.{Fail}
 use Rattle.lcm_machine.specs.Maps.{State}
 use Rattle.lcm_machine.specs.Row.{faces, cell_faces, fetch, some}
-use Rattle.flow_rules.specs.Holds.{code_at}
-use Rattle.flow_rules.specs.Places.{begins_entry, begins_site}
-use Rattle.flow_rules.proofs.Offers.{Inside, no_row_inside, placed_lists}
+use Rattle.call_sequence.specs.Holds.{code_at}
+use Rattle.call_sequence.specs.Places.{begins_entry, begins_site}
+use Rattle.call_sequence.proofs.Offers.{Inside, no_row_inside, placed_lists}
 use Rattle.linked_starts.specs.Parts.{PartSeen}
 use Rattle.trusted_border.specs.declared.layout.SiteCode.{SiteCode}
 use Rattle.overlay_machine.specs.declared.words.OWord.{OWord}

@@ -14,7 +14,7 @@ use Rattle.lcm_machine.specs.Runs.{run_of, code_cap}
 use Rattle.lcm_machine.specs.Touched.{Touches, Untouched}
 use Rattle.call_sequence.specs.declared.TheConstants.{CALL_WORDS, ENTRY_WORDS}
 use Rattle.call_sequence.specs.SequenceRuns.{IsOutsideRange}
-use Rattle.flow_rules.specs.Holds.{code_at}
+use Rattle.call_sequence.specs.Holds.{code_at}
 use Rattle.trusted_border.specs.declared.layout.Layout.{Layout}
 use Rattle.overlay_machine.specs.declared.cases.Case.{Case}
 use Rattle.overlay_machine.specs.declared.cases.Case.TheVariants.{Call, Entry, Back, Other}

@@ -27,9 +27,9 @@ use Rattle.lcm_machine.specs.Cells.{cell, without}
 use Rattle.lcm_machine.specs.Regions.{memory_of}
 use Rattle.lcm_machine.specs.Row.{word_at, row, went}
 use Rattle.lcm_machine.proofs.Offers.{contains_cases, cell-without_in, cell-without_out}
-use Rattle.flow_rules.specs.Kinds.{kind_of, below_any}
-use Rattle.flow_rules.specs.Holds.{data_cap, HasKind}
-use Rattle.flow_rules.proofs.Offers.{is_safe}
+use Rattle.call_sequence.specs.Kinds.{kind_of, below_any}
+use Rattle.call_sequence.specs.Holds.{data_cap, HasKind}
+use Rattle.call_sequence.proofs.Offers.{is_safe}
 use Rattle.linked_starts.specs.Parts.{PartSeen}
 use Rattle.linked_starts.specs.Regions.{in_regions}
 use Rattle.trusted_border.specs.declared.layout.Layout.{Layout}

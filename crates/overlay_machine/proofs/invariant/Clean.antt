@@ -8,10 +8,10 @@ use Rattle.lcm_isa.specs.declared.Reg.TheVariants.{G0, G1, G2}
 use Rattle.lcm_machine.specs.Maps.{Regs}
 use Rattle.lcm_machine.specs.Places.{reg}
 use Rattle.lcm_machine.specs.Table.{is_pc}
-use Rattle.flow_rules.specs.Kinds.{kind_of, clean_row}
-use Rattle.flow_rules.specs.Local.{LeadsTo}
-use Rattle.flow_rules.specs.Holds.{data_cap, part_stack_cap, Up, PcAt, HasKinds, HasKind}
-use Rattle.flow_rules.proofs.Offers.{row_fits}
+use Rattle.call_sequence.specs.Kinds.{kind_of, clean_row}
+use Rattle.call_sequence.specs.Local.{LeadsTo}
+use Rattle.call_sequence.specs.Holds.{data_cap, part_stack_cap, Up, PcAt, HasKinds, HasKind}
+use Rattle.call_sequence.proofs.Offers.{row_fits}
 use Rattle.linked_starts.specs.Parts.{PartSeen}
 use Rattle.overlay_machine.specs.declared.words.OWord.{OWord}
 use Rattle.overlay_machine.specs.declared.words.OWord.TheVariants.{Plain}

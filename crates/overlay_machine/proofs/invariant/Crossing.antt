@@ -28,9 +28,9 @@ use Rattle.lcm_machine.specs.Table.{is_pc, memory_content, unsealed, runs_in, no
 use Rattle.lcm_machine.specs.Row.{put, clear, perform, opens, plan_in, outcome, row, went}
 use Rattle.lcm_machine.proofs.Offers.{Gives, gives_goes, Gives-effect, Gives-ask, Gives-need, cases_reg}
 use Rattle.lcm_machine.proofs.Offers.{reg-set_same, reg-set_other}
-use Rattle.flow_rules.specs.Kinds.{kind_of, entry_row}
-use Rattle.flow_rules.specs.Holds.{data_cap, code_at, HasKind}
-use Rattle.flow_rules.specs.Places.{begins_entry}
+use Rattle.call_sequence.specs.Kinds.{kind_of, entry_row}
+use Rattle.call_sequence.specs.Holds.{data_cap, code_at, HasKind}
+use Rattle.call_sequence.specs.Places.{begins_entry}
 use Rattle.linked_starts.specs.Parts.{PartSeen}
 use Rattle.linked_starts.specs.Start.{Exported, code_of}
 use Rattle.overlay_machine.specs.declared.words.OWord.{OWord}

@@ -17,10 +17,10 @@ use Rattle.lcm_machine.specs.Maps.{Regs, State}
 use Rattle.lcm_machine.specs.Places.{reg}
 use Rattle.lcm_machine.specs.Table.{is_pc}
 use Rattle.lcm_machine.specs.Row.{faces, Fetched}
-use Rattle.flow_rules.specs.Kinds.{kind_of, entry_row}
-use Rattle.flow_rules.specs.Holds.{part_stack_cap, code_at, Up, HasKind}
-use Rattle.flow_rules.specs.Places.{begins_entry}
-use Rattle.flow_rules.proofs.Offers.{entry_flows}
+use Rattle.call_sequence.specs.Kinds.{kind_of, entry_row}
+use Rattle.call_sequence.specs.Holds.{part_stack_cap, code_at, Up, HasKind}
+use Rattle.call_sequence.specs.Places.{begins_entry}
+use Rattle.call_sequence.proofs.Offers.{entry_flows}
 use Rattle.linked_starts.specs.Parts.{PartSeen}
 use Rattle.overlay_machine.specs.declared.words.OWord.{OWord}
 use Rattle.overlay_machine.specs.declared.words.OWord.TheVariants.{Plain}

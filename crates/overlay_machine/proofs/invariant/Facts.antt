@@ -15,7 +15,7 @@ use Rattle.lcm_machine.specs.Row.{look_face}
 use Rattle.lcm_machine.specs.Runs.{Stands}
 use Rattle.call_sequence.specs.SequenceRuns.{IsOutsideRange}
 use Rattle.call_sequence.specs.Standing.{CodeStands}
-use Rattle.flow_rules.specs.Holds.{part_stack_cap, Up}
+use Rattle.call_sequence.specs.Holds.{part_stack_cap, Up}
 use Rattle.linked_starts.specs.Parts.{PartSeen}
 use Rattle.linked_starts.specs.Regions.{in_regions}
 use Rattle.linked_starts.proofs.Offers.{in_regions_is}

@@ -15,7 +15,7 @@ use Rattle.lcm_machine.specs.Touched.{Untouched}
 use Rattle.lcm_machine.proofs.Offers.{untouched_then}
 use Rattle.call_sequence.specs.declared.TheConstants.{CALL_WORDS, ENTRY_WORDS}
 use Rattle.call_sequence.specs.SequenceRuns.{stack_cap, IsOutsideRange}
-use Rattle.flow_rules.specs.Holds.{code_at}
+use Rattle.call_sequence.specs.Holds.{code_at}
 use Rattle.trusted_border.specs.declared.layout.Layout.{Layout}
 use Rattle.overlay_machine.specs.declared.words.OWord.{OWord}
 use Rattle.overlay_machine.specs.declared.words.OWord.TheVariants.{Plain, RetCode, RetData}

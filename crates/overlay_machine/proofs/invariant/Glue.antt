@@ -11,9 +11,9 @@ use Rattle.lcm_machine.specs.Places.{reg}
 use Rattle.lcm_machine.specs.Cells.{cell}
 use Rattle.lcm_machine.specs.Table.{is_pc, target}
 use Rattle.lcm_machine.specs.Row.{faces, cell_faces, fetch, some, look_face, step_of, went}
-use Rattle.flow_rules.specs.Holds.{SameOthers}
-use Rattle.flow_rules.specs.Places.{begins_entry, begins_site}
-use Rattle.flow_rules.proofs.Offers as steps
+use Rattle.call_sequence.specs.Holds.{SameOthers}
+use Rattle.call_sequence.specs.Places.{begins_entry, begins_site}
+use Rattle.call_sequence.proofs.Offers as steps
 use Rattle.linked_starts.specs.Parts.{PartSeen}
 use Rattle.overlay_machine.specs.declared.words.OWord.{OWord}
 use Rattle.overlay_machine.specs.declared.words.OWord.TheVariants.{Plain}

@@ -18,7 +18,7 @@ use Rattle.lcm_machine.specs.Table.{is_pc, target, unsealed}
 use Rattle.lcm_machine.specs.Row.{faces, cell_faces, fetch, some, row, step_of, step_fetched, Outcome, went}
 use Rattle.lcm_machine.specs.Row.{halted, failed, plan_in}
 use Rattle.lcm_machine.specs.Closed.{AllAre, OpensTo}
-use Rattle.flow_rules.proofs.Offers.{to_row, to_fail, out as goes_out, crosses}
+use Rattle.call_sequence.proofs.Offers.{to_row, to_fail, out as goes_out, crosses}
 use Rattle.linked_starts.specs.Parts.{PartSeen}
 use Rattle.overlay_machine.specs.declared.words.OWord.{OWord}
 use Rattle.overlay_machine.specs.declared.words.OWord.TheVariants.{Plain, RetCode, RetData}

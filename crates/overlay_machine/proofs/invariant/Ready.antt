@@ -28,12 +28,12 @@ use Rattle.call_sequence.specs.declared.TheConstants.{CALL_WORDS}
 use Rattle.call_sequence.specs.Sequences.{call_code, return_code, entry_code}
 use Rattle.call_sequence.specs.Standing.{CodeStands}
 use Rattle.call_sequence.specs.SequenceRuns.{stack_cap, FailsAt}
-use Rattle.flow_rules.specs.Kinds.{Row, kind_of, below_any, entry_row}
-use Rattle.flow_rules.specs.Flow.{is_stk}
-use Rattle.flow_rules.specs.Holds.{data_cap, code_at, PcAt, HasKind, Up}
-use Rattle.flow_rules.specs.Places.{begins_entry}
-use Rattle.flow_rules.specs.Walk.{is_data, passes, site_ready, RowAt}
-use Rattle.flow_rules.proofs.Offers.{is_safe, site_flows}
+use Rattle.call_sequence.specs.Kinds.{Row, kind_of, below_any, entry_row}
+use Rattle.call_sequence.specs.Flow.{is_stk}
+use Rattle.call_sequence.specs.Holds.{data_cap, code_at, PcAt, HasKind, Up}
+use Rattle.call_sequence.specs.Places.{begins_entry}
+use Rattle.call_sequence.specs.Walk.{is_data, passes, site_ready, RowAt}
+use Rattle.call_sequence.proofs.Offers.{is_safe, site_flows}
 use Rattle.linked_starts.specs.Parts.{PartSeen}
 use Rattle.linked_starts.specs.TrustedCode.{all_seals}
 use Rattle.trusted_border.specs.declared.layout.SiteCode.{SiteCode}

@@ -25,8 +25,8 @@ use Rattle.lcm_machine.specs.Table.{is_pc}
 use Rattle.lcm_machine.specs.Row.{put}
 use Rattle.lcm_machine.specs.Runs.{code_cap}
 use Rattle.lcm_machine.proofs.Offers.{cases_reg, reg-set_same, reg-set_other}
-use Rattle.flow_rules.specs.Holds.{data_cap, part_stack_cap, Up}
-use Rattle.flow_rules.proofs.Offers.{site_flows}
+use Rattle.call_sequence.specs.Holds.{data_cap, part_stack_cap, Up}
+use Rattle.call_sequence.proofs.Offers.{site_flows}
 use Rattle.linked_starts.specs.Parts.{PartSeen}
 use Rattle.linked_starts.specs.Regions.{in_regions}
 use Rattle.linked_starts.proofs.Offers.{in_regions_is}

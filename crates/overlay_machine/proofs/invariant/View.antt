@@ -24,8 +24,8 @@ use Rattle.lcm_machine.specs.Row.{faces, cell_faces, fetch, Fetched, some}
 use Rattle.lcm_machine.proofs.Offers.{fetch_some}
 use Rattle.call_sequence.specs.Sequences.{call_code, entry_code}
 use Rattle.call_sequence.specs.Standing.{CodeStands}
-use Rattle.flow_rules.specs.Holds.{code_at, PcAt}
-use Rattle.flow_rules.specs.Places.{begins_entry, begins_site}
+use Rattle.call_sequence.specs.Holds.{code_at, PcAt}
+use Rattle.call_sequence.specs.Places.{begins_entry, begins_site}
 use Rattle.linked_starts.specs.declared.owners.Owner.{Owner}
 use Rattle.linked_starts.specs.Parts.{PartSeen}
 use Rattle.trusted_border.specs.declared.layout.SiteCode.{SiteCode}

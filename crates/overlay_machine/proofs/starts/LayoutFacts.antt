@@ -18,7 +18,7 @@ use Rattle.cap_words.specs.Faces.{perm_number}
 use Rattle.cap_words.specs.Linear.{lin_is}
 use Rattle.component_file.specs.declared.component.ComponentFields.{ComponentFields}
 use Rattle.component_file.specs.declared.component.Export.{Export}
-use Rattle.flow_rules.specs.Places.{begins_entry, begins_site}
+use Rattle.call_sequence.specs.Places.{begins_entry, begins_site}
 use Rattle.linked_starts.specs.declared.owners.Site.{Site}
 use Rattle.linked_starts.specs.declared.owners.Owner.{Owner}
 use Rattle.linked_starts.specs.declared.owners.Entry.{Entry}

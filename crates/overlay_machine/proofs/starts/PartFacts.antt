@@ -11,8 +11,8 @@ use Rattle.lcm_isa.specs.Numbers.{number_of}
 use Rattle.component_file.specs.declared.component.Export.{Export}
 use Rattle.call_sequence.specs.declared.TheConstants.{SITE_WORDS}
 use Rattle.call_sequence.specs.Standing.{CodeStands, SiteStands}
-use Rattle.flow_rules.specs.Places.{begins_entry, begins_site}
-use Rattle.flow_rules.proofs.Offers.{ListsKept, entry_within, placed_lists}
+use Rattle.call_sequence.specs.Places.{begins_entry, begins_site}
+use Rattle.call_sequence.proofs.Offers.{ListsKept, entry_within, placed_lists}
 use Rattle.linked_starts.specs.Parts.{PartSeen, IsPart}
 use Rattle.linked_starts.specs.TrustedCode.{all_seals}
 use Rattle.linked_starts.proofs.Offers.{SitesStand, EntriesStand, fail_of, literal_of, seals_end}

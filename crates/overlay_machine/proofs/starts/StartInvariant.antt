@@ -20,8 +20,8 @@ use Rattle.lcm_machine.specs.Row.{word_at}
 use Rattle.lcm_machine.specs.Regions.{Region}
 use Rattle.lcm_machine.specs.Table.{is_pc}
 use Rattle.lcm_machine.specs.Mapped.{mapped_or}
-use Rattle.flow_rules.specs.Kinds.{kind_of, entry_row}
-use Rattle.flow_rules.specs.Holds.{HasKind, code_at}
+use Rattle.call_sequence.specs.Kinds.{kind_of, entry_row}
+use Rattle.call_sequence.specs.Holds.{HasKind, code_at}
 use Rattle.linked_starts.specs.Parts.{PartSeen, IsPart}
 use Rattle.linked_starts.specs.Regions.{regions_of, region, in_regions, stack_span}
 use Rattle.linked_starts.specs.Start.{code_of, whole_stack_cap, stack_of, stack_base_of, start_cell}

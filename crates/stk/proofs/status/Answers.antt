@@ -1,4 +1,4 @@
-use Rattle.call_answers.specs.Handed.{called}
+use Rattle.command_words.specs.Handed.{called}
 use Rattle.stk.proofs.status.Goals as goal
 
 pub returns-in-Ok : goal.returns-in-Ok

@@ -1,7 +1,7 @@
 use Rattle.std.proofs.Common.{subst}
 use Rattle.run_picture.specs.Picture.{drawn}
-use Rattle.call_answers.specs.Plans.{Meets}
-use Rattle.call_answers.proofs.Offers.{read_meets}
+use Rattle.command_words.specs.Plans.{Meets}
+use Rattle.command_words.proofs.Offers.{read_meets}
 use Rattle.draw_call.specs.Answers.{picture_plan}
 use Rattle.draw_call.proofs.drawing.picture_of.Goals as goal
 

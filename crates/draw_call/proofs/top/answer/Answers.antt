@@ -1,6 +1,6 @@
 use Rattle.std.proofs.Common.{refl}
 use Rattle.std.specs.Prelude.{Ok, Err}
-use Rattle.call_answers.specs.Answers.{answer}
+use Rattle.command_words.specs.Answers.{answer}
 use Rattle.draw_call.proofs.top.answer.Goals as goal
 
 pub returns-in-Ok : goal.returns-in-Ok

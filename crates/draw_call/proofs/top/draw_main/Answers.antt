@@ -1,6 +1,6 @@
 use Rattle.std.proofs.Common.{◌∙◌, [], refl, sym, subst}
 use Rattle.std.specs.Prelude.{Err}
-use Rattle.call_answers.specs.Answers.{answer}
+use Rattle.command_words.specs.Answers.{answer}
 use Rattle.draw_call.specs.declared.refusal.DrawRefusal.TheVariants.{Usage}
 use Rattle.draw_call.specs.Answers.{DrawAnswers, seen_by}
 use Rattle.draw_call.proofs.top.draw_main.Goals as goal

@@ -1,5 +1,5 @@
 use Rattle.std.proofs.Common.{◌≡◌, drop}
-use Rattle.flow_rules.specs.Kinds.{row_below}
+use Rattle.call_sequence.specs.Kinds.{row_below}
 use Rattle.flow_check.proofs.kinds.row_below.Given as goal
 
 abbrev pub invariant-loop-i : goal.invariant-loop-i

@@ -1,6 +1,6 @@
 use Rattle.std.proofs.Common.{Some, None, length, sym, ap, ◌∙◌, arith}
 use Rattle.std.specs.Prelude.{slice_index}
-use Rattle.flow_rules.specs.Lists.{k1, site_of, site_is_bad}
+use Rattle.call_sequence.specs.Lists.{k1, site_of, site_is_bad}
 use Rattle.flow_check.proofs.Found.{found}
 use Rattle.flow_check.proofs.lists.k1.Goals as goal
 

@@ -1,5 +1,5 @@
 use Rattle.std.proofs.Common.{ℕ, ◌≡◌, ◌<◌, false}
-use Rattle.flow_rules.specs.Lists.{site_is_bad}
+use Rattle.call_sequence.specs.Lists.{site_is_bad}
 use Rattle.flow_check.proofs.lists.k1.Given as goal
 
 abbrev pub invariant-loop-i : goal.invariant-loop-i

@@ -1,8 +1,8 @@
 use Rattle.std.proofs.Common.{Some, None, length, sym, ap, ◌∙◌, arith}
 use Rattle.std.specs.Prelude.{is_some, unwrap_or}
 use Rattle.call_sequence.specs.Standing.{site_difference}
-use Rattle.flow_rules.specs.Lists.{k2}
-use Rattle.flow_rules.proofs.Offers.{difference_first, has_room}
+use Rattle.call_sequence.specs.Lists.{k2}
+use Rattle.call_sequence.proofs.Offers.{difference_first, has_room}
 use Rattle.flow_check.proofs.Found.{found, found_at}
 use Rattle.flow_check.proofs.lists.k2.Goals as goal
 

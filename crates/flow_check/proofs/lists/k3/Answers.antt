@@ -1,6 +1,6 @@
 use Rattle.std.proofs.Common.{◌≡◌, ◌∙◌, ◌+◌, sym, ap, length, subst, arith}
 use Rattle.component_file.specs.Limits.{IsComponent}
-use Rattle.flow_rules.proofs.Offers.{LeastOf, k3_is, least_more, least_same}
+use Rattle.call_sequence.proofs.Offers.{LeastOf, k3_is, least_more, least_same}
 use Rattle.flow_check.proofs.lists.k3.Goals as goal
 use Rattle.flow_check.proofs.lists.k3.Goals.{then-entry_is_bad, else-entry_is_bad}
 

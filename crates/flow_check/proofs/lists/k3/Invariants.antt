@@ -1,4 +1,4 @@
-use Rattle.flow_rules.proofs.Offers.{LeastOf}
+use Rattle.call_sequence.proofs.Offers.{LeastOf}
 use Rattle.flow_check.proofs.lists.k3.Given as goal
 
 abbrev pub invariant-loop-e : goal.invariant-loop-e

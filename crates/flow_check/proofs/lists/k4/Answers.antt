@@ -1,5 +1,5 @@
 use Rattle.std.proofs.Common.{Some, None, length, sym, ap, ◌∙◌, arith}
-use Rattle.flow_rules.specs.Lists.{k4, is_misplaced, row_offset}
+use Rattle.call_sequence.specs.Lists.{k4, is_misplaced, row_offset}
 use Rattle.flow_check.proofs.Found.{found}
 use Rattle.flow_check.proofs.lists.k4.Goals as goal
 

@@ -1,5 +1,5 @@
 use Rattle.std.proofs.Common.{ℕ, ◌≡◌, ◌<◌, false}
-use Rattle.flow_rules.specs.Lists.{is_misplaced, row_offset}
+use Rattle.call_sequence.specs.Lists.{is_misplaced, row_offset}
 use Rattle.flow_check.proofs.lists.k4.Given as goal
 
 abbrev pub invariant-loop-i : goal.invariant-loop-i

@@ -1,6 +1,6 @@
 use Rattle.std.proofs.Common.{sym, rules, arith, length, ◌<◌, ◌≤◌}
-use Rattle.flow_rules.specs.Places.{begins_site}
-use Rattle.flow_rules.proofs.Offers.{no_site, site_begins, sites_up}
+use Rattle.call_sequence.specs.Places.{begins_site}
+use Rattle.call_sequence.proofs.Offers.{no_site, site_begins, sites_up}
 use Rattle.flow_check.proofs.places.begins_site.Goals as goal
 
 pub returns-then-sites-before : goal.returns-then-sites-before

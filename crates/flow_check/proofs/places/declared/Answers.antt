@@ -1,8 +1,8 @@
 use Rattle.std.proofs.Common.{◌<◌, ◌≤◌, sym, ap, rules, arith, length, []}
 use Rattle.std.specs.Prelude.{option_map}
 use Rattle.component_file.specs.declared.component.KindRow.{KindRow}
-use Rattle.flow_rules.specs.Places.{declared}
-use Rattle.flow_rules.proofs.Offers.{find_here, find_none, rows_up}
+use Rattle.call_sequence.specs.Places.{declared}
+use Rattle.call_sequence.proofs.Offers.{find_here, find_none, rows_up}
 use Rattle.flow_check.proofs.places.declared.Goals as goal
 
 abbrev no_row : KindRow

@@ -1,8 +1,8 @@
 use Rattle.std.proofs.Common.{◌≡◌, ◌∙◌, ◌-◌, sym, subst, suc, arith}
 use Rattle.call_sequence.specs.declared.TheConstants.{SITE_WORDS}
-use Rattle.flow_rules.specs.Ascending.{IsSplitAt}
-use Rattle.flow_rules.specs.Places.{in_site}
-use Rattle.flow_rules.proofs.Offers.{before_sites, sites_up, within_last}
+use Rattle.call_sequence.specs.Ascending.{IsSplitAt}
+use Rattle.call_sequence.specs.Places.{in_site}
+use Rattle.call_sequence.proofs.Offers.{before_sites, sites_up, within_last}
 use Rattle.flow_check.proofs.places.in_site.Goals as goal
 
 pub returns-then-before-eq0 : goal.returns-then-before-eq0

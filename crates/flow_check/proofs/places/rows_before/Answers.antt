@@ -1,8 +1,8 @@
 use Rattle.std.proofs.Common.{◌≡◌, rules, ltb, sym, subst}
 use Rattle.std.proofs.lemmas.List.Sorted.{IsPartitionPoint-from_clause}
 use Rattle.component_file.specs.declared.component.KindRow.{KindRow}
-use Rattle.flow_rules.specs.Ascending.{IsSplitAt}
-use Rattle.flow_rules.proofs.Offers.{Ascends, parted, rows_up, split_is}
+use Rattle.call_sequence.specs.Ascending.{IsSplitAt}
+use Rattle.call_sequence.proofs.Offers.{Ascends, parted, rows_up, split_is}
 use Rattle.flow_check.proofs.places.rows_before.Goals as goal
 
 pub returns : goal.returns

@@ -1,7 +1,7 @@
 use Rattle.std.proofs.Common.{◌≡◌, rules, ltb, sym, subst}
 use Rattle.std.proofs.lemmas.List.Sorted.{IsPartitionPoint-from_clause}
-use Rattle.flow_rules.specs.Ascending.{IsSplitAt}
-use Rattle.flow_rules.proofs.Offers.{Ascends, parted, sites_up, split_is}
+use Rattle.call_sequence.specs.Ascending.{IsSplitAt}
+use Rattle.call_sequence.proofs.Offers.{Ascends, parted, sites_up, split_is}
 use Rattle.flow_check.proofs.places.sites_before.Goals as goal
 
 pub returns : goal.returns

@@ -1,10 +1,10 @@
 use Rattle.std.proofs.Common.{◌≡◌, ◌∙◌, refl, suc, sym, ap, subst, arith}
-use Rattle.flow_rules.specs.declared.flow.Walk.TheVariants.{Before, Ended, Broken}
+use Rattle.call_sequence.specs.declared.flow.Walk.TheVariants.{Before, Ended, Broken}
 use Rattle.std.specs.Option.{option_or}
-use Rattle.flow_rules.specs.Places.{declared}
-use Rattle.flow_rules.specs.Walk.{Arrives, next, next_from}
-use Rattle.flow_rules.proofs.Offers.{each_outside, entry_outside, no_row, none_behind, passed_over, rises}
-use Rattle.flow_rules.proofs.Offers.{row_is, row_none}
+use Rattle.call_sequence.specs.Places.{declared}
+use Rattle.call_sequence.specs.Walk.{Arrives, next, next_from}
+use Rattle.call_sequence.proofs.Offers.{each_outside, entry_outside, no_row, none_behind, passed_over, rises}
+use Rattle.call_sequence.proofs.Offers.{row_is, row_none}
 use Rattle.flow_check.proofs.rows.row_of.Goals as goal
 
 pub returns-then-begins_entry-clause-outside : goal.returns-then-begins_entry-clause-outside

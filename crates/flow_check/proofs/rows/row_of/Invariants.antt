@@ -1,6 +1,6 @@
 use Rattle.std.proofs.Common.{◌-◌, ◌≤◌}
-use Rattle.flow_rules.specs.declared.flow.Walk.TheVariants.{Before}
-use Rattle.flow_rules.specs.Walk.{Arrives}
+use Rattle.call_sequence.specs.declared.flow.Walk.TheVariants.{Before}
+use Rattle.call_sequence.specs.Walk.{Arrives}
 use Rattle.flow_check.proofs.rows.row_of.Given as goal
 
 abbrev pub invariant-loop-at : goal.invariant-loop-at

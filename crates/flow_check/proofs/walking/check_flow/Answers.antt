@@ -1,6 +1,6 @@
 use Rattle.std.proofs.Common.{◌≡◌, rules, Err, sym, subst}
-use Rattle.flow_rules.specs.Verdict.{IsFirstOfFlow}
-use Rattle.flow_rules.proofs.Offers.{flow_is, lists_broken, lists_kept, walk_decides}
+use Rattle.call_sequence.specs.Verdict.{IsFirstOfFlow}
+use Rattle.call_sequence.proofs.Offers.{flow_is, lists_broken, lists_kept, walk_decides}
 use Rattle.flow_check.proofs.walking.check_flow.Goals as goal
 
 pub returns-in_err-check_lists-clause-first : goal.returns-in_err-check_lists-clause-first

@@ -1,7 +1,7 @@
 use Rattle.std.proofs.Common.{◌≡◌, ◌∙◌, ap, arith, suc, refl}
-use Rattle.flow_rules.specs.declared.flow.Walk.TheVariants.{Before, Ended, Broken}
-use Rattle.flow_rules.specs.Walk.{next_from, next}
-use Rattle.flow_rules.proofs.Offers.{rises}
+use Rattle.call_sequence.specs.declared.flow.Walk.TheVariants.{Before, Ended, Broken}
+use Rattle.call_sequence.specs.Walk.{next_from, next}
+use Rattle.call_sequence.proofs.Offers.{rises}
 use Rattle.flow_check.proofs.walking.check_walk.Goals as goal
 
 pub walk-smaller : goal.walk-smaller

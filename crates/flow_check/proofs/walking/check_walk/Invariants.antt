@@ -1,6 +1,6 @@
 use Rattle.std.proofs.Common.{length, ◌-◌, suc}
-use Rattle.flow_rules.specs.declared.flow.Walk.TheVariants.{Before}
-use Rattle.flow_rules.specs.Walk.{Arrives}
+use Rattle.call_sequence.specs.declared.flow.Walk.TheVariants.{Before}
+use Rattle.call_sequence.specs.Walk.{Arrives}
 use Rattle.flow_check.proofs.walking.check_walk.Given as goal
 
 abbrev pub invariant-walk : goal.invariant-walk

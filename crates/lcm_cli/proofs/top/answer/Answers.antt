@@ -1,6 +1,6 @@
 use Rattle.std.proofs.Common.{refl}
 use Rattle.std.specs.Prelude.{Err}
-use Rattle.call_answers.specs.Answers.{answer}
+use Rattle.command_words.specs.Answers.{answer}
 use Rattle.lcm_cli.proofs.Given.{they_are_ready, answered}
 use Rattle.lcm_cli.proofs.top.answer.Goals as goal
 

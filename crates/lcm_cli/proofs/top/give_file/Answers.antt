@@ -1,5 +1,5 @@
 use Rattle.std.proofs.Common.{refl}
-use Rattle.call_answers.specs.Answers.{unput}
+use Rattle.command_words.specs.Answers.{unput}
 use Rattle.lcm_cli.proofs.top.give_file.Goals as goal
 
 pub returns-in-Err : goal.returns-in-Err

@@ -7,7 +7,7 @@ use Rattle.run_lines.specs.declared.run.RunEnd.{RunEnd}
 use Rattle.run_lines.specs.declared.run.RunEnd.TheVariants.{Halted, Failed, Running, WriteFault}
 use Rattle.run_lines.specs.Traces.{TracesTo, Traces}
 use Rattle.refusal_lines.specs.declared.status.Status.{Status}
-use Rattle.call_answers.specs.Answers.{GivesAnswer, whole, unwritten, outside}
+use Rattle.command_words.specs.Answers.{GivesAnswer, whole, unwritten, outside}
 use Rattle.lcm_cli.specs.Answers.{end_status, ran_overlay, stk}
 use Rattle.lcm_cli.proofs.top.give_trace.Goals as goal
 

@@ -1,6 +1,6 @@
 use Rattle.file_plans.specs.Plans.{file, unless}
 use Rattle.file_plans.proofs.Offers.{follows_meets}
-use Rattle.run_feed.specs.Feed.{fed}
+use Rattle.line_fields.specs.Feed.{fed}
 use Rattle.meaning_tool.specs.Subjects.{unfed, feed_at}
 use Rattle.meaning_tool.proofs.feed.feed.Goals as goal
 

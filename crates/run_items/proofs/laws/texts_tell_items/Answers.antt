@@ -5,7 +5,7 @@ use Rattle.run_lines.specs.Texts.{lines_text}
 use Rattle.run_lines.specs.EndLines.{end_line}
 use Rattle.run_lines.specs.Runs.{run_text, written}
 use Rattle.run_lines.specs.Traces.{trace_of}
-use Rattle.run_feed.specs.Feed.{fed}
+use Rattle.line_fields.specs.Feed.{fed}
 use Rattle.run_items.proofs.EndLinesSeen.{end_is}
 use Rattle.run_items.proofs.TraceEnds.{trace_ends}
 use Rattle.run_items.proofs.Feeding.{fed_is}

@@ -1,4 +1,0 @@
-mod KindLemmas
-mod LineLemmas
-pub mod Again
-pub mod Offers

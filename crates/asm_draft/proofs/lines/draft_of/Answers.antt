@@ -1,6 +1,0 @@
-use Rattle.asm_draft.proofs.LineLemmas.{placed_in_text}
-use Rattle.asm_draft.proofs.lines.draft_of.Goals as goal
-
-pub draft_of_lines-requires-clause-slices : goal.draft_of_lines-requires-clause-slices
-draft_of_lines-requires-clause-slices c =
-    placed_in_text c.args.text.now 0 c.args.tokens.now c.requires.placed

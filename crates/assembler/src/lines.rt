@@ -1,0 +1,96 @@
+//! All lines of a text.
+ghost use Rattle.std.specs.Prelude.{◌≡◌, ◌<◌, ◌^◌, length, map};
+ghost use Rattle.text_scan.specs.Grammar.{Placed};
+ghost use Rattle.readers.specs.Answers.{AnswersUnlessRefused};
+ghost use Rattle.asm_fields.specs.Fault.{is_refusal};
+ghost use Rattle.asm_fields.specs.Fields.{InText, seen};
+ghost use Rattle.assembler.specs.Draft.{nothing};
+ghost use Rattle.assembler.specs.Whole.{is_newline, line_or_none, lines_of, drafted, draft_of_text};
+ghost use Rattle.assembler.specs.Whole.{MakesLine};
+
+use crate::draft::Draft;
+use asm_fields::{AsmFault, Fields};
+use smallvec::SmallVec;
+use std::alloc::Global;
+use text_scan::{Token, TokenKind};
+
+// How many tokens of a line stand where no memory is asked for: only rows have more.
+const SHORT_LINE: usize = 6;
+
+fn is_newline(kind: TokenKind) -> bool
+    ensures { result ≡ is_newline kind }
+{
+    matches!(kind, TokenKind::NewLine)
+}
+
+// Takes a line that ends here.
+#[tactic(auto, unfolding(crate::specs::Whole::line_or_none))]
+fn take_line<'a>(
+    alloc: Global,
+    draft: &mut Draft<'a>,
+    text: &'a [u8],
+    line: &[Token],
+    end: u32,
+) -> Result<(), AsmFault>
+    requires { InText text.now line.now }
+    ensures { MakesLine result draft.new
+        (line_or_none draft.old (record { rest = map (seen text.now) line.now; end = end })) }
+{
+    if line.is_empty() {
+        return Ok(());
+    }
+    let mut fields = Fields::of(text, line, end);
+    draft.line(alloc, &mut fields)
+}
+
+// The draft that all lines make, whether or not the text may end after them.
+fn draft_of_lines<'a>(
+    alloc: Global,
+    text: &'a [u8],
+    tokens: &[Token],
+) -> Result<Draft<'a>, AsmFault>
+    requires slices { InText text.now tokens.now }
+    requires short { length text.now < 2 ^ 32 }
+    ensures { AnswersUnlessRefused is_refusal result
+        (drafted nothing (lines_of (map (seen text.now) tokens.now) (length text.now))) }
+{
+    let mut draft = Draft::new(alloc);
+    let mut line: SmallVec<Token, SHORT_LINE> = SmallVec::new(alloc);
+    for token in tokens {
+        if is_newline(token.kind) {
+            if let Err(fault) = take_line(alloc, &mut draft, text, line.as_slice(), token.at) {
+                draft.give_up();
+                return Err(fault);
+            }
+            line.clear();
+        } else if line.push(*token).is_err() {
+            draft.give_up();
+            return Err(AsmFault::NoMemory);
+        }
+    }
+    if let Err(fault) = take_line(alloc, &mut draft, text, line.as_slice(), text.len() as u32) {
+        draft.give_up();
+        return Err(fault);
+    }
+    Ok(draft)
+}
+
+/// The draft that a text makes, which has these tokens, or the first fault of its lines. Where memory is
+/// refused, `NoMemory` stands for either.
+///
+/// A line is read from left to right, after those before it. Where the text ends too early, `Section`
+/// stands at its length.
+#[tactic(auto, unfolding(crate::specs::Whole::draft_of_text))]
+pub fn draft_of<'a>(alloc: Global, text: &'a [u8], tokens: &[Token]) -> Result<Draft<'a>, AsmFault>
+    requires short { length text.now < 2 ^ 32 }
+    requires placed { Placed 0 (length text.now) tokens.now }
+    ensures { AnswersUnlessRefused is_refusal result (draft_of_text text.now tokens.now) }
+{
+    let draft = draft_of_lines(alloc, text, tokens)?;
+    if draft.may_be_whole() {
+        Ok(draft)
+    } else {
+        draft.give_up();
+        Err(AsmFault::Section(text.len() as u32))
+    }
+}

@@ -1,3 +1,0 @@
-pub mod Plans
-pub mod Answers
-pub mod Handed

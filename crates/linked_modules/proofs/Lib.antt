@@ -1,3 +1,0 @@
-mod Exports
-mod Unmoved
-mod Keeping

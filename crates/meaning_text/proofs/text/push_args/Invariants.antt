@@ -1,6 +1,0 @@
-use Rattle.std.proofs.Common.{◌≡◌, ◌++◌, take}
-use Rattle.meaning_text.specs.Text.{out_args_text}
-use Rattle.meaning_text.proofs.text.push_args.Given as goal
-
-abbrev pub invariant-loop-arg : goal.invariant-loop-arg
-invariant-loop-arg l = l.text.items ≡ l.fn.text.items ++ out_args_text (take l.arg-index l.args)

@@ -1,4 +1,0 @@
-//! What is printed is parsed again.
-#![tactic(auto)]
-
-pub mod laws;

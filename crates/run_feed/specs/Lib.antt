@@ -1,5 +1,0 @@
-pub mod Seen
-pub mod Lines
-pub mod Feed
-pub mod Bad
-pub mod FaultText

@@ -1,4 +1,0 @@
-mod FoundLemmas
-mod TokenLemmas
-pub mod ErasedLemmas
-pub mod Offers
