@@ -45,7 +45,7 @@ pub const LONGEST_STRETCH: u32 = 65_536;
 pub const LONGEST_NAME: usize = 31;
 
 /// What a memory capability allows at the addresses of its range.
-#[derive(Clone, Copy, Debug)]
+#[derive(Clone, Copy)]
 pub enum Perm {
     /// Nothing.
     No,
@@ -125,10 +125,14 @@ impl Perm {
     pub fn of_name(name: &[u8]) -> Option<Perm>
         ensures { result ≡ perm_named name.now }
     {
-        [Perm::No, Perm::R, Perm::Rw, Perm::Rx, Perm::Rwx]
-            .iter()
-            .copied()
-            .find(|perm| perm.name().as_bytes() == name)
+        match name {
+            b"no" => Some(Perm::No),
+            b"r" => Some(Perm::R),
+            b"rw" => Some(Perm::Rw),
+            b"rx" => Some(Perm::Rx),
+            b"rwx" => Some(Perm::Rwx),
+            _ => None,
+        }
     }
 
     /// Whether it allows no more than `other`. A program may lower the permission of a
@@ -147,7 +151,7 @@ impl Perm {
 }
 
 /// Whether a capability may be copied.
-#[derive(Clone, Copy, Debug)]
+#[derive(Clone, Copy)]
 pub enum Lin {
     /// It may be copied.
     Normal,
@@ -180,15 +184,16 @@ impl Lin {
     pub fn of_name(name: &[u8]) -> Option<Lin>
         ensures { result ≡ lin_named name.now }
     {
-        [Lin::Normal, Lin::Linear]
-            .iter()
-            .copied()
-            .find(|lin| lin.name().as_bytes() == name)
+        match name {
+            b"nor" => Some(Lin::Normal),
+            b"lin" => Some(Lin::Linear),
+            _ => None,
+        }
     }
 }
 
 /// What is said of a memory capability. A description may be copied; it gives no authority.
-#[derive(Clone, Copy, Debug)]
+#[derive(Clone, Copy)]
 pub struct CapFields {
     /// What it allows.
     pub perm: Perm,
@@ -216,7 +221,7 @@ impl CapFields {
 ///
 /// The range is not empty, and it ends within the 1,048,576 addresses that there are: base is at
 /// most end, and end at most [`LAST_PLACE`]. Each value keeps this.
-#[derive(Debug, Drop)]
+#[derive(Drop)]
 pub struct Cap {
     fields: CapFields,
 }
@@ -278,7 +283,7 @@ impl Cap {
 }
 
 /// What is said of a seal capability. A description may be copied; it gives no authority.
-#[derive(Clone, Copy, Debug)]
+#[derive(Clone, Copy)]
 pub struct SealFields {
     /// The first seal of its range.
     pub base: u32,
@@ -307,7 +312,7 @@ impl SealFields {
 ///
 /// The range is not empty, and it ends within the 1,048,576 seals that there are: base is at most
 /// end, and end at most [`LAST_PLACE`]. Each value keeps this.
-#[derive(Debug, Drop)]
+#[derive(Drop)]
 pub struct SealCap {
     fields: SealFields,
 }
@@ -355,7 +360,7 @@ impl SealCap {
 }
 
 /// What can be sealed: a capability, and neither an integer nor a word that is sealed already.
-#[derive(Debug, Drop)]
+#[derive(Drop)]
 pub enum Sealable {
     /// A memory capability.
     Mem(Cap),
@@ -363,11 +368,24 @@ pub enum Sealable {
     Seal(SealCap),
 }
 
+impl Sealable {
+    // The same again, made as it is described.
+    #[inline(always)]
+    fn made_anew(&self) -> Sealable
+        ensures { result ≡ self.now }
+    {
+        match self {
+            Sealable::Mem(c) => Sealable::Mem(Cap::of(c.fields())),
+            Sealable::Seal(c) => Sealable::Seal(SealCap::of(c.fields())),
+        }
+    }
+}
+
 /// A word of the machine: what a register or a cell of memory holds.
 ///
 /// It may be dropped, as when a place gets another word, but it cannot be copied freely:
 /// [`Word::copy_of`] refuses a linear word.
-#[derive(Debug, Drop)]
+#[derive(Drop)]
 pub enum Word {
     /// An integer, which gives no right.
     Int(i64),
@@ -423,11 +441,8 @@ impl Word {
         ensures { result ≡ is_linear self.now }
     {
         match self {
-            Word::Int(_) => false,
-            Word::Mem(c) => c.fields().lin.is_linear(),
-            Word::Seal(_) => false,
-            Word::Sealed(_, Sealable::Mem(c)) => c.fields().lin.is_linear(),
-            Word::Sealed(_, Sealable::Seal(_)) => false,
+            Word::Mem(c) | Word::Sealed(_, Sealable::Mem(c)) => c.fields().lin.is_linear(),
+            _ => false,
         }
     }
 
@@ -452,12 +467,7 @@ impl Word {
             Word::Int(n) => Word::Int(*n),
             Word::Mem(c) => Word::Mem(Cap::of(c.fields())),
             Word::Seal(c) => Word::Seal(SealCap::of(c.fields())),
-            Word::Sealed(seal, Sealable::Mem(c)) => {
-                Word::Sealed(*seal, Sealable::Mem(Cap::of(c.fields())))
-            }
-            Word::Sealed(seal, Sealable::Seal(c)) => {
-                Word::Sealed(*seal, Sealable::Seal(SealCap::of(c.fields())))
-            }
+            Word::Sealed(seal, content) => Word::Sealed(*seal, content.made_anew()),
         }
     }
 }

@@ -101,7 +101,12 @@ fn is_written(rt: &impl Abort, alloc: Global, word: &Word, bytes: &[u8]) -> Resu
         assert!(rt; *seal <= 1048575);
     }
     let written = word_bytes(alloc, word)?;
-    assert_eq!(rt; written.as_slice(), bytes, "at {word:?}");
+    assert_eq!(rt;
+        written.as_slice(),
+        bytes,
+        "at {}",
+        word_text(word).as_str()
+    );
     Ok(())
 }
 
@@ -109,9 +114,9 @@ fn is_read(rt: &impl Abort, word: &Word, bytes: &[u8], length: usize) {
     match read(rt, bytes) {
         Some((read, count)) => {
             assert_eq!(rt; word_text(&read).as_str(), word_text(word).as_str());
-            assert_eq!(rt; count, length, "at {word:?}");
+            assert_eq!(rt; count, length, "at {}", word_text(word).as_str());
         }
-        None => assert!(rt; false, "{word:?} is not read"),
+        None => assert!(rt; false, "{} is not read", word_text(word).as_str()),
     }
 }
 
@@ -257,7 +262,12 @@ fn a_sealed_word_is_no_unsealed_one(rt: HostRuntime) {
     for (word, bytes) in &spelled() {
         let fault = cursor(&rt, bytes).unsealed_word().err();
         let is_sealed = matches!(word, Word::Sealed(..));
-        assert_eq!(rt; fault, is_sealed.then_some(BadField(0)), "at {word:?}");
+        assert_eq!(rt;
+            fault,
+            is_sealed.then_some(BadField(0)),
+            "at {}",
+            word_text(word).as_str()
+        );
     }
 }
 

@@ -70,13 +70,13 @@ fn shapes() -> [(Word, bool); 7] {
 }
 
 fn is_copied(rt: &impl Abort, word: &Word, linear: bool) {
-    assert_eq!(rt; word.is_linear(), linear, "at {word:?}");
+    assert_eq!(rt; word.is_linear(), linear, "at {}", word_text(word).as_str());
     match word.copy_of() {
         Some(copy) => {
-            assert!(rt; !linear, "at {word:?}");
+            assert!(rt; !linear, "at {}", word_text(word).as_str());
             assert_eq!(rt; word_text(&copy).as_str(), word_text(word).as_str());
         }
-        None => assert!(rt; linear, "at {word:?}"),
+        None => assert!(rt; linear, "at {}", word_text(word).as_str()),
     }
 }
 
