@@ -5,7 +5,7 @@ use Rattle.std.specs.Str.{bytes_eq}
 use Rattle.std.proofs.lemmas.List.{append_cancel_right}
 use Rattle.std.proofs.lemmas.Slice.Eq.{bytes_eq-Decides}
 use Rattle.line_fields.specs.Fields.{Reader, field, fields}
-use Rattle.run_items.proofs.Offers.{spaced, body, line_text_is}
+use Rattle.audited_runs.proofs.Offers.{spaced, body, line_text_is}
 use Rattle.run_audit.specs.declared.line.Line.{Line as AuditLine}
 use Rattle.run_audit.specs.declared.line.Line.TheVariants.{Call, Ret, Enter, Pass, Leave, End}
 use Rattle.run_audit.specs.Lines.{call, ret, entered, passed, left, halted, failed, running}

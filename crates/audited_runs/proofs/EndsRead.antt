@@ -22,7 +22,7 @@ use Rattle.line_fields.specs.Numbers.{number_in}
 use Rattle.line_fields.specs.Words.{HasText}
 use Rattle.line_fields.specs.Fields.{tested, meant}
 use Rattle.line_fields.proofs.Offers.{number_again, integer_again, fits_has_text}
-use Rattle.run_items.proofs.Offers.{IsHigh, decimal_high, word_high, cause_high, pc_high, end_body}
+use Rattle.audited_runs.proofs.Offers.{IsHigh, decimal_high, word_high, cause_high, pc_high, end_body}
 use Rattle.run_audit.specs.declared.line.Line.TheVariants.{End}
 use Rattle.run_audit.specs.Lines.{is_address, is_cause, line_in, one_line, line_named, halted, failed}
 use Rattle.run_audit.specs.Lines.{running, steps}

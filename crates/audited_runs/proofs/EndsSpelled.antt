@@ -24,7 +24,7 @@ use Rattle.line_fields.specs.Numbers.{number_in, integer_in}
 use Rattle.line_fields.specs.Words.{HasText, is_word}
 use Rattle.line_fields.specs.Fields.{meant, tested}
 use Rattle.line_fields.proofs.Offers.{number_is, integer_is, behind_is, Fields, goes, same_read, tested_is}
-use Rattle.run_items.proofs.Offers.{decimal_high, word_high, spaced, cause_high, pc_high}
+use Rattle.audited_runs.proofs.Offers.{decimal_high, word_high, spaced, cause_high, pc_high}
 use Rattle.run_audit.specs.declared.line.Line.{Line as AuditLine}
 use Rattle.run_audit.specs.declared.line.Line.TheVariants.{End}
 use Rattle.run_audit.specs.Lines.{is_address, is_number_of_cause, is_cause_behind, is_cause, steps, halted}

@@ -5,7 +5,7 @@ use Rattle.run_lines.specs.Lines.{Line, call, ret, enter, pass, leave}
 use Rattle.run_lines.specs.Texts.{lines_text}
 use Rattle.run_lines.specs.Fits.{LinesFit}
 use Rattle.line_fields.specs.Fields.{lines}
-use Rattle.run_items.proofs.Offers.{body, IsPassedOver, lines_are, end_line_is}
+use Rattle.audited_runs.proofs.Offers.{body, IsPassedOver, lines_are, end_line_is}
 use Rattle.run_audit.specs.declared.line.Line.TheVariants.{End}
 use Rattle.run_audit.specs.Lines.{line_in, is_end}
 use Rattle.run_audit.specs.Audit.{OpenSeen, nothing_open, audit_on, judged, stepped, followed, audited}

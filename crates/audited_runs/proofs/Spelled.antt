@@ -15,9 +15,9 @@ use Rattle.run_lines.specs.Fits.{AllOf, ArgsOf, LineFits}
 use Rattle.line_fields.specs.Words.{HasText, is_word}
 use Rattle.line_fields.specs.Fields.{meant, tested, whole}
 use Rattle.line_fields.proofs.Offers.{fits_has_text, text_is_back, text_is_handed, text_is_word}
-use Rattle.run_items.proofs.Offers.{IsHigh, decimal_high, word_high, name_high, name_is, spaced, AllHigh}
-use Rattle.run_items.proofs.Offers.{fields_are, words_spaced, words_high, natural_again}
-use Rattle.run_items.proofs.Offers.{back_high, pair_high, body}
+use Rattle.audited_runs.proofs.Offers.{IsHigh, decimal_high, word_high, name_high, name_is, spaced, AllHigh}
+use Rattle.audited_runs.proofs.Offers.{fields_are, words_spaced, words_high, natural_again}
+use Rattle.audited_runs.proofs.Offers.{back_high, pair_high, body}
 use Rattle.run_audit.specs.declared.line.Line.TheVariants.{Enter, Pass, Leave}
 use Rattle.run_audit.specs.declared.line.Line.{Line as AuditLine}
 use Rattle.run_audit.specs.Lines.{line_in, one_line, line_named, told, words_left, call as call_in}

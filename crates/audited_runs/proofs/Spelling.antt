@@ -14,7 +14,7 @@ use Rattle.line_fields.specs.Words.{is_word, HasText}
 use Rattle.line_fields.specs.Forms.{back_in, handed_in}
 use Rattle.line_fields.specs.Fields.{meant, tested}
 use Rattle.line_fields.proofs.Offers.{chosen, Fields, goes, same_read, unless_is}
-use Rattle.run_items.proofs.Offers.{spaced, body, line_text_is}
+use Rattle.audited_runs.proofs.Offers.{spaced, body, line_text_is}
 use Rattle.run_audit.specs.declared.line.Line.{Line as AuditLine}
 use Rattle.run_audit.specs.declared.line.Line.TheVariants.{Call, Ret, Pass}
 use Rattle.run_audit.specs.Told.{ToldSeen}

@@ -22,7 +22,7 @@ use Rattle.line_fields.specs.Forms.{back_in, handed_in}
 use Rattle.line_fields.specs.Fields.{field, meant, tested, fields}
 use Rattle.line_fields.proofs.Offers.{number_is, chosen, word_is, back_is, handed_is, Fields, goes, same_read}
 use Rattle.line_fields.proofs.Offers.{unless_is, tested_is, meant_is}
-use Rattle.run_items.proofs.Offers.{spaced}
+use Rattle.audited_runs.proofs.Offers.{spaced}
 use Rattle.run_audit.specs.Lines.{is_direction, registers, words_left}
 use Rattle.audited_runs.proofs.Spelled.{dir_text}
 use Rattle.run_lines.specs.Fits.{AllOf, ArgsOf}

@@ -1,9 +1,10 @@
-//! What holds of the lines of runs and of their audit. These functions do nothing; their contracts are the
-//! laws.
+//! What holds of the lines and texts of runs, and of their audit. These functions do nothing; their contracts
+//! are the laws.
 ghost use Rattle.audited_runs.specs.Audited.{LinesAreFollowed, RunsPass};
+ghost use Rattle.audited_runs.specs.Items.{TextsTellItems, TracesTellItems};
 ghost use Rattle.audited_runs.specs.Spelling.{LinesAreRead, FittingHaveTexts};
 
-use headline::laws::{lines_are_bracketed, the_headline};
+use headline::laws::{lines_are_bracketed, start_lines_agree, the_headline};
 use overlay_machine::laws::{a_start_has_one_overlay, linked_starts_agree, starts_begin};
 use run_lines::laws::lines_fit;
 
@@ -36,4 +37,15 @@ pub fn runs_pass()
 {
     lines_fit();
     lines_are_followed();
+}
+
+/// The text of a run or trace from a linked start is a feed with its lines' items.
+///
+/// Where stacks begin may be any address.
+pub fn texts_tell_items()
+    ensures runs { TextsTellItems }
+    ensures traces { TracesTellItems }
+{
+    lines_fit();
+    start_lines_agree();
 }

@@ -12,7 +12,7 @@ use Rattle.run_lines.specs.EndLines.{end_line}
 use Rattle.run_lines.specs.Fits.{LineFits, LinesFit}
 use Rattle.run_lines.specs.Runs.{Watched, watched, begun, line_next, lines_of, run_text}
 use Rattle.line_fields.specs.Fields.{lines}
-use Rattle.run_items.proofs.Offers.{body, line_text_is, IsPassedOver, end_is, end_line_is, lines_are}
+use Rattle.audited_runs.proofs.Offers.{body, line_text_is, IsPassedOver, end_is, end_line_is, lines_are}
 use Rattle.run_audit.specs.Lines.{line_in}
 use Rattle.run_picture.specs.Events.{EventSeen, event_of, events_in, events}
 use Rattle.run_picture.proofs.Offers.{IsSame, line_is}

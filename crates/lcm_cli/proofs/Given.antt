@@ -7,7 +7,7 @@ use Rattle.refusal_lines.specs.declared.status.Status.TheVariants.{Done}
 use Rattle.ready_tasks.specs.declared.ready.ReadyTask.{ReadyTask}
 use Rattle.ready_tasks.specs.declared.ready.ReadyTask.TheVariants as ready
 use Rattle.file_plans.specs.Plans.{Plan}
-use Rattle.generated_load.specs.Loads.{load_steps}
+use Rattle.link_tool.specs.Generated.{load_steps}
 use Rattle.ready_tasks.specs.Commands.{Lines, Totals, Task, Run, Trace, Reach, Debug, Put, Write, Tell}
 use Rattle.debug_tool.specs.Replies.{debug_text}
 use Rattle.ready_tasks.specs.ReadyTasks.{IsTextOf, Does, FollowsTask}

@@ -6,7 +6,7 @@ use Rattle.command_words.specs.declared.command.Command.{Command}
 use Rattle.command_words.specs.declared.command.Command.TheVariants.{Generate}
 use Rattle.linked_starts.specs.Standing.{placed}
 use Rattle.image_loader.specs.Image.{ImageSeen}
-use Rattle.generated_load.specs.Loads.{load_of, load_steps}
+use Rattle.link_tool.specs.Generated.{load_of, load_steps}
 use Rattle.file_plans.specs.declared.refusal.Refusal.{Refusal}
 use Rattle.file_plans.specs.Plans.{Comes}
 use Rattle.refusal_lines.specs.declared.status.Status.{Status}

@@ -17,7 +17,7 @@ use Rattle.run_lines.specs.declared.run.RunEnd.{RunEnd}
 use Rattle.run_lines.specs.declared.run.RunEnd.TheVariants as run_end
 use Rattle.run_lines.specs.Runs.{end_of}
 use Rattle.run_lines.specs.Traces.{trace_of}
-use Rattle.generated_load.specs.Loads.{load_of}
+use Rattle.link_tool.specs.Generated.{load_of}
 use Rattle.lcm_machine.specs.Run.{answer as last_step, plain}
 use Rattle.file_plans.specs.declared.refusal.Refusal.{Refusal}
 use Rattle.file_plans.specs.declared.refusal.Refusal.TheVariants as refusal

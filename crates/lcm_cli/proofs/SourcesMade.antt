@@ -17,7 +17,7 @@ use Rattle.source_starts.specs.Shown.{SourcesShowNothingElse}
 use Rattle.linked_starts.specs.Standing.{placed}
 use Rattle.module_rules.specs.Among.{LinkedModulesKeepRules}
 use Rattle.module_rules.specs.Rules.{stack_base_of}
-use Rattle.run_items.specs.Items.{TextsTellItems}
+use Rattle.audited_runs.specs.Items.{TextsTellItems}
 use Rattle.run_lines.specs.Layout.{layout}
 use Rattle.refusal_lines.specs.declared.status.Status.{Status}
 use Rattle.ready_tasks.specs.Commands.{plan_in}

@@ -12,7 +12,7 @@ use Rattle.command_words.specs.declared.command.Command.TheVariants.{Links, Take
 use Rattle.command_words.specs.declared.part.PartWord.{PartWord}
 use Rattle.command_words.specs.Fits.{Fits}
 use Rattle.linked_starts.specs.declared.fault.RuleAt.{RuleAt}
-use Rattle.generated_load.specs.Loads.{load_of}
+use Rattle.link_tool.specs.Generated.{load_of}
 use Rattle.image_loader.specs.declared.fault.ImageFault.{ImageFault}
 use Rattle.file_plans.specs.declared.refusal.Refusal.{Refusal}
 use Rattle.file_plans.specs.declared.refusal.Refusal.TheVariants as refusal

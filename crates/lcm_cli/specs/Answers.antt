@@ -3,7 +3,7 @@ use Rattle.std.specs.Prelude.{◌≡◌, ℕ, List, [], Option, Some, None, Resu
 use Rattle.authority_report.specs.Text.{IsReachText}
 use Rattle.command_words.specs.Answers.{AnswerWith, OutsideWith, Program, Answers, answer, nothing}
 use Rattle.debug_tool.specs.Replies.{debug_text}
-use Rattle.generated_load.specs.Loads.{load_steps}
+use Rattle.link_tool.specs.Generated.{load_steps}
 use Rattle.lcm_machine.specs.Run.{Run as Machine, answer as last_step, plain}
 use Rattle.linked_starts.specs.Started.{StartSeen}
 use Rattle.linked_starts.specs.LinkedStarts.{IsStartOf}

@@ -41,7 +41,7 @@ use Rattle.debug_tool.specs.Replies.{debug_text, after_commands}
 use Rattle.step_back.specs.declared.debugger.TheConstants.{MOST_DEPTH}
 use Rattle.step_back.specs.Debug.{debugging_from}
 use Rattle.step_back.specs.Calls.{Remembers}
-use Rattle.generated_load.specs.Loads.{load_of, load_steps}
+use Rattle.link_tool.specs.Generated.{load_of, load_steps}
 use Rattle.image_loader.specs.Image.{ImageSeen}
 use Rattle.image_loader.specs.Reading.{image_of}
 use Rattle.linked_starts.specs.Started.{StartSeen}

@@ -9,7 +9,7 @@ use Rattle.lcm_machine.specs.Run.{Run, plain, answer as last_step}
 use Rattle.linked_starts.specs.Started.{StartSeen}
 use Rattle.trace_tool.specs.Counts.{calls_of_run}
 use Rattle.run_lines.specs.EndLines.{end_line}
-use Rattle.generated_load.specs.declared.load.Workload.{Workload}
+use Rattle.link_tool.specs.declared.generated.load.Workload.{Workload}
 
 -- the load's numbers, the word in a0 and how many calls there were
 abbrev pub totals_line : Workload → ℕ → Run → List ℕ

@@ -23,7 +23,7 @@ ghost use Rattle.lcm_cli.specs.SourceRuns.{AllSources, SourcesTold, ModulesTold}
 
 use crate::lines::write_lines;
 use crate::totals::totals;
-use audited_runs::laws::runs_pass;
+use audited_runs::laws::{runs_pass, texts_tell_items};
 use authority_report::laws::{reports_bound_influence, reports_bound_runs};
 use cap_words::Items;
 use command_words::laws::commands_fit;
@@ -33,9 +33,9 @@ use debug_script::Script;
 use debug_tool::laws::commands_remember;
 use debug_tool::{DebugFault, debug};
 use file_plans::{Refusal, Stop};
-use generated_load::{Workload, load_steps};
 use headline::laws::{frames_are_secret, open_calls_are_kept, the_headline};
 use lcm_machine::{LcmState, Step};
+use link_tool::generated::{Workload, load_steps};
 use linked_starts::Start;
 use meaning_tool::Meaning;
 use module_rules::laws::linked_modules_keep_rules;
@@ -45,7 +45,6 @@ use overlay_machine::laws::a_start_has_one_overlay;
 use proc_sources::laws::sources_are_modules;
 use ready_tasks::{ReadyTask, ready_of};
 use refusal_lines::{Status, refusal_line, refusal_status};
-use run_items::laws::texts_tell_items;
 use source_events::End;
 use source_starts::laws::{runs_mean, sources_show_nothing_else, stacks_begin};
 use std::alloc::Global;

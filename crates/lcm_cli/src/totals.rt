@@ -4,10 +4,10 @@ ghost use Rattle.lcm_machine.specs.Run.{answer};
 ghost use Rattle.lcm_cli.specs.Totals.{totals_line, totals_at};
 
 use cap_words::word_text;
-use generated_load::Workload;
 use itoa::Buffer;
 use lcm_isa::Reg;
 use lcm_machine::{LcmState, Step};
+use link_tool::generated::Workload;
 use trace_tool::{Counted, EndLine, end_line};
 
 // The line of a run that halted.

@@ -4,8 +4,8 @@ use Rattle.std.specs.Prelude.{Result, Ok, Err, IfOk}
 use Rattle.linked_starts.specs.Parts.{PartSeen}
 use Rattle.linked_starts.specs.Started.{StartSeen}
 use Rattle.linked_starts.specs.LinkedStarts.{IsStartOf}
-use Rattle.generated_load.specs.declared.TheConstants.{LOAD_STACK}
-use Rattle.generated_load.specs.declared.load.Workload.{Workload}
+use Rattle.link_tool.specs.declared.generated.TheConstants.{LOAD_STACK}
+use Rattle.link_tool.specs.declared.generated.load.Workload.{Workload}
 use Rattle.file_plans.specs.declared.refusal.Refusal.TheVariants as refusal
 use Rattle.file_plans.specs.declared.refusal.Stop.{Stop}
 use Rattle.file_plans.specs.declared.refusal.Stop.TheVariants.{Refused, NoMemory}

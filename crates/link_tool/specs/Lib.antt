@@ -1,3 +1,4 @@
+pub mod Generated
 pub mod Parts
 pub mod Linked
 pub mod Loads

@@ -3,9 +3,9 @@ use Rattle.std.specs.Prelude.{true, false, List, [], ◌∷◌}
 use Rattle.linked_starts.specs.Accepted.{accepted}
 use Rattle.linked_starts.specs.Parts.{PartSeen}
 use Rattle.image_loader.specs.Image.{ImageSeen}
-use Rattle.generated_load.specs.declared.TheConstants.{LOAD_STACK}
-use Rattle.generated_load.specs.declared.load.Workload.{Workload}
-use Rattle.generated_load.specs.Loads.{module_text, adder}
+use Rattle.link_tool.specs.declared.generated.TheConstants.{LOAD_STACK}
+use Rattle.link_tool.specs.declared.generated.load.Workload.{Workload}
+use Rattle.link_tool.specs.Generated.{module_text, adder}
 use Rattle.proc_sources.specs.Sources.{sourced}
 use Rattle.proc_language.specs.declared.dialect.Dialect.TheVariants.{Plain}
 use Rattle.file_plans.specs.declared.refusal.Refusal.TheVariants as refusal

@@ -4,6 +4,7 @@
 //! `docs/COMMANDS.md` has the order in which files are read and refused, `docs/RULES.md` the rules.
 #![tactic(auto)]
 
+pub mod generated;
 mod loads;
 mod parts;
 mod starts;

@@ -4,12 +4,12 @@ ghost use Rattle.file_plans.specs.Plans.{Meets};
 ghost use Rattle.link_tool.specs.Loads.{load_module, load_other, load_parts, load_plan};
 ghost use Rattle.link_tool.specs.Linked.{MeetsStart};
 
+use crate::generated::{LOAD_STACK, Workload, adder, module_text};
 use crate::parts::{accept_at, compile_at};
 use crate::starts::start_of;
 use cap_words::Items;
 use component_linker::{Part, Start};
 use file_plans::Stop;
-use generated_load::{LOAD_STACK, Workload, adder, module_text};
 use proc_language::Dialect;
 use std::alloc::Global;
 

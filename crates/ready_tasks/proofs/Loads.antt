@@ -3,8 +3,8 @@ use Rattle.std.proofs.Common.{◌≡◌, ℕ, refl, sym, ap, subst}
 use Rattle.std.specs.Prelude.{Ok}
 use Rattle.outside_io.specs.FilesSeen.{FilesSeen}
 use Rattle.linked_starts.specs.Started.{StartSeen}
-use Rattle.generated_load.specs.declared.load.Workload.{Workload}
-use Rattle.generated_load.specs.Loads.{load_of, load_steps}
+use Rattle.link_tool.specs.declared.generated.load.Workload.{Workload}
+use Rattle.link_tool.specs.Generated.{load_of, load_steps}
 use Rattle.file_plans.specs.Plans.{Made}
 use Rattle.file_plans.proofs.Offers.{comes_same}
 use Rattle.link_tool.specs.Linked.{MeetsStart}

@@ -13,8 +13,8 @@ use Rattle.component_file.specs.Spelling.{spelling}
 use Rattle.component_file.specs.Reading.{decoded}
 use Rattle.debug_script.specs.declared.command.DebugCommand.{DebugCommand as Line}
 use Rattle.disassembler.specs.Disassembled.{disassembled}
-use Rattle.generated_load.specs.declared.load.Workload.{Workload}
-use Rattle.generated_load.specs.Loads.{load_of, load_steps}
+use Rattle.link_tool.specs.declared.generated.load.Workload.{Workload}
+use Rattle.link_tool.specs.Generated.{load_of, load_steps}
 use Rattle.image_loader.specs.Image.{ImageSeen, image_bytes}
 use Rattle.file_plans.specs.declared.refusal.Refusal.TheVariants as refusal
 use Rattle.file_plans.specs.Plans.{Plan, Ends, Made, ◌>>=◌, file}

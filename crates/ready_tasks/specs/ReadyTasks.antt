@@ -2,7 +2,7 @@
 use Rattle.std.specs.Prelude.{◌≡◌, ℕ, List, Result}
 use Rattle.outside_io.specs.FilesSeen.{FilesSeen}
 use Rattle.authority_report.specs.Text.{IsReachText}
-use Rattle.generated_load.specs.Loads.{load_steps}
+use Rattle.link_tool.specs.Generated.{load_steps}
 use Rattle.linked_starts.specs.Started.{StartSeen}
 use Rattle.linked_starts.specs.LinkedStarts.{IsStartOf}
 use Rattle.overlay_machine.specs.Seen.{IsOverlayOf}

@@ -55,7 +55,7 @@ use Rattle.source_starts.proofs.Targets.{one_proc, imports_apart, BeginsAt, part
 use Rattle.source_starts.proofs.Targets.{shared_found, proc_of}
 use Rattle.source_starts.proofs.Halves.{half_of, trusted_pair, trusted_code, open_pair, open_leaves}
 use Rattle.source_starts.proofs.Stores.{StoreIs, data_size, index_is}
-use Rattle.run_items.proofs.Offers.{signed_fits}
+use Rattle.audited_runs.proofs.Offers.{signed_fits}
 
 module _ (modules : List ModuleFields) (parts : List PartSeen) (size : ℕ) (s : StartSeen)
     (is : IsLinkedStart parts size s) (aligned : Aligned modules (trusted_parts parts))

@@ -1,7 +1,7 @@
 use Rattle.lcm_machine.specs.Run.{plain, answer}
 use Rattle.run_lines.specs.EndLines.{end_line}
 use Rattle.run_lines.specs.Runs.{run_text, written}
-use Rattle.run_items.proofs.Offers.{end_is}
+use Rattle.audited_runs.proofs.Offers.{end_is}
 use Rattle.audited_runs.proofs.EndsRead.{end_fits, end_read}
 use Rattle.audited_runs.proofs.Passing.{passes}
 use Rattle.audited_runs.proofs.laws.runs_pass.Goals as goal

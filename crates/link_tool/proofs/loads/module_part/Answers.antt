@@ -4,7 +4,7 @@ use Rattle.std.proofs.lemmas.Result.{err_from_is_err_and}
 use Rattle.linked_starts.specs.Accepted.{accepted}
 use Rattle.proc_sources.specs.Sources.{sourced}
 use Rattle.proc_language.specs.declared.dialect.Dialect.TheVariants.{Plain}
-use Rattle.generated_load.specs.Loads.{module_text}
+use Rattle.link_tool.specs.Generated.{module_text}
 use Rattle.file_plans.specs.declared.refusal.Refusal.TheVariants as refusal
 use Rattle.file_plans.specs.Plans.{Made, unless, Meets}
 use Rattle.link_tool.specs.Parts.{broken_in}

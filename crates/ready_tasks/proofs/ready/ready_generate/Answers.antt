@@ -1,5 +1,5 @@
 use Rattle.std.proofs.Common.{ap, ◌∙◌}
-use Rattle.generated_load.specs.Loads.{load_of}
+use Rattle.link_tool.specs.Generated.{load_of}
 use Rattle.ready_tasks.proofs.Loads.{load_done}
 use Rattle.ready_tasks.proofs.ready.ready_generate.Goals as goal
 

@@ -6,7 +6,7 @@ use Rattle.overlay_machine.specs.declared.overlay.OStep.TheVariants.{Went, Halte
 use Rattle.overlay_machine.specs.Seen.{OverlaySeen, next_overlay, answer_of}
 use Rattle.run_lines.specs.Views.{overlay_view}
 use Rattle.run_lines.specs.Traces.{Traced, weight_with, stopped, traced_by, traced, trace_of}
-use Rattle.run_items.proofs.EndLinesSeen.{IsPassedOver, halted_is, running_is, failed_is}
+use Rattle.audited_runs.proofs.EndLinesSeen.{IsPassedOver, halted_is, running_is, failed_is}
 
 abbrev Ends : Traced → Type 0
 Ends t = IsPassedOver t.last

@@ -19,10 +19,10 @@ use Rattle.line_fields.specs.Lines.{LineSeen, enter_line as Enter, ret_line as R
 use Rattle.line_fields.specs.Lines.{other_line as Other}
 use Rattle.line_fields.specs.Lines.{begun, entered, answered, passed, enter_in, ret_in, pass_in, seen}
 use Rattle.line_fields.proofs.Offers.{text_is_back, text_is_handed}
-use Rattle.run_items.proofs.High.{IsHigh, decimal_high, word_high, name_high, name_is, IsOneLine, line_join}
-use Rattle.run_items.proofs.High.{high_line}
-use Rattle.run_items.proofs.Spaced.{spaced, AllHigh, fields_are, spaced_line, words_spaced, words_high}
-use Rattle.run_items.proofs.FieldsRead.{natural_again, back_high, pair_high}
+use Rattle.audited_runs.proofs.High.{IsHigh, decimal_high, word_high, name_high, name_is, IsOneLine}
+use Rattle.audited_runs.proofs.High.{line_join, high_line}
+use Rattle.audited_runs.proofs.Spaced.{spaced, AllHigh, fields_are, spaced_line, words_spaced, words_high}
+use Rattle.audited_runs.proofs.FieldsRead.{natural_again, back_high, pair_high}
 
 abbrev enter_told : List ℕ → List ℕ → Word → Args → FeedBack → EnterSeen
 enter_told part export stk a back = record {

@@ -1,6 +1,6 @@
 //! The numbers of a load.
 ghost use Rattle.std.specs.Prelude.{◌≡◌, ◌≤◌, ◌^◌};
-ghost use Rattle.generated_load.specs.Loads.{next_number, load_of, load_steps};
+ghost use Rattle.link_tool.specs.Generated.{next_number, load_of, load_steps};
 
 /// What the parts of a load are made with.
 #[derive(Clone, Copy)]
@@ -31,7 +31,7 @@ pub fn load_of(seed: u32) -> Workload
 }
 
 /// How many instructions a load runs for at most: 10,000,000.
-#[tactic(auto, unfolding(crate::specs::Loads::load_steps))]
+#[tactic(auto, unfolding(crate::specs::Generated::load_steps))]
 pub fn load_steps() -> u64
     ensures is { result ≡ load_steps }
     ensures fits { result ≤ 2 ^ 63 }

@@ -17,10 +17,10 @@ use Rattle.line_fields.proofs.Offers.{parts_at, parts_none, is_free, cut_front}
 use Rattle.line_fields.specs.Lines.{seen, is_enter}
 use Rattle.line_fields.specs.Feed.{pairs_of, pairs_next, line_item as item_seen, with_item, fed_line}
 use Rattle.line_fields.specs.Feed.{fed_from, fed}
-use Rattle.run_items.proofs.Spaced.{cut_free}
-use Rattle.run_items.proofs.FieldsRead.{integer_read, left_read}
-use Rattle.run_items.proofs.LinesSeen.{line_told, body, line_text_is, line_seen}
-use Rattle.run_items.proofs.EndLinesSeen.{IsPassedOver}
+use Rattle.audited_runs.proofs.Spaced.{cut_free}
+use Rattle.audited_runs.proofs.FieldsRead.{integer_read, left_read}
+use Rattle.audited_runs.proofs.LinesSeen.{line_told, body, line_text_is, line_seen}
+use Rattle.audited_runs.proofs.EndLinesSeen.{IsPassedOver}
 
 -- ---- a line's item
 

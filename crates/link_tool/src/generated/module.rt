@@ -1,8 +1,8 @@
 //! The trusted module of a load, as a text.
 ghost use Rattle.std.specs.Prelude.{◌≡◌, ◌<◌, length};
-ghost use Rattle.generated_load.specs.Loads.{module_text};
+ghost use Rattle.link_tool.specs.Generated.{module_text};
 
-use crate::load::Workload;
+use super::load::Workload;
 use arrayvec::ArrayString;
 use itoa::Buffer;
 

@@ -2,7 +2,6 @@
 //!
 //! The first part is a trusted module. It calls itself, again and again, and in each call the other part,
 //! which is untrusted and adds a number to the word that it is called with. `docs/COMMANDS.md` has both.
-#![tactic(auto)]
 
 mod load;
 mod module;

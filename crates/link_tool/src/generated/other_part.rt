@@ -1,8 +1,8 @@
 //! The untrusted part of a load, by its fields.
 ghost use Rattle.std.specs.Prelude.{◌≡◌, IfOk};
-ghost use Rattle.generated_load.specs.Loads.{instr_word, adder};
+ghost use Rattle.link_tool.specs.Generated.{instr_word, adder};
 
-use crate::load::Workload;
+use super::load::Workload;
 use cap_words::{Items, SealRange, Word};
 use component_file::{Area, Component, ComponentFields, Export};
 use lcm_isa::{Instr, Operand, Reg, encode};

@@ -19,7 +19,7 @@ use Rattle.line_fields.specs.Numbers.{natural_in, integer_in}
 use Rattle.line_fields.specs.Words.{word_in}
 use Rattle.line_fields.proofs.Offers.{number_again, integer_again, integer_is, fits_has_text, text_is_word}
 use Rattle.line_fields.specs.Feed.{left_of}
-use Rattle.run_items.proofs.High.{IsHigh, high_join, decimal_high, name_high}
+use Rattle.audited_runs.proofs.High.{IsHigh, high_join, decimal_high, name_high}
 
 -- ---- numbers and words
 

@@ -9,7 +9,7 @@ use Rattle.lcm_isa.specs.declared.Operand.TheVariants.{Imm}
 use Rattle.lcm_isa.specs.declared.Reg.TheVariants.{A0, Rcode, Rdata}
 use Rattle.lcm_isa.specs.Numbers.{number_of}
 use Rattle.component_file.specs.declared.component.ComponentFields.{ComponentFields}
-use Rattle.generated_load.specs.declared.load.Workload.{Workload}
+use Rattle.link_tool.specs.declared.generated.load.Workload.{Workload}
 
 -- the number that follows another one
 abbrev pub next_number : ℕ → ℕ

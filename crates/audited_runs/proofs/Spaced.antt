@@ -11,7 +11,7 @@ use Rattle.run_lines.specs.Texts.{words_text}
 use Rattle.line_fields.specs.Cuts.{is_mark, cut}
 use Rattle.line_fields.specs.Fields.{fields}
 use Rattle.line_fields.proofs.Offers.{parts_at, parts_none, is_free, cut_front}
-use Rattle.run_items.proofs.High.{IsHigh, high_free, word_high, IsOneLine, line_join, high_line}
+use Rattle.audited_runs.proofs.High.{IsHigh, high_free, word_high, IsOneLine, line_join, high_line}
 
 abbrev pub spaced : List (List ℕ) → List ℕ
 spaced [] = []

@@ -16,8 +16,8 @@ use Rattle.run_lines.specs.EndLines.{cause_text, pc_text, halted_text, running_t
 use Rattle.run_lines.specs.EndLines.{failed_by_text, line_at, end_line}
 use Rattle.line_fields.specs.Cuts.{behind}
 use Rattle.line_fields.specs.Lines.{other_line as Other, seen}
-use Rattle.run_items.proofs.High.{IsHigh, decimal_high, signed_high, word_high, IsOneLine, line_join}
-use Rattle.run_items.proofs.High.{high_line}
+use Rattle.audited_runs.proofs.High.{IsHigh, decimal_high, signed_high, word_high, IsOneLine, line_join}
+use Rattle.audited_runs.proofs.High.{high_line}
 
 -- the text is this line with its newline, and the line is passed over
 pub record PassesOver (line text : List ℕ) : Type 0 where

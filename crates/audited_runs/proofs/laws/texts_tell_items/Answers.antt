@@ -6,10 +6,10 @@ use Rattle.run_lines.specs.EndLines.{end_line}
 use Rattle.run_lines.specs.Runs.{run_text, written}
 use Rattle.run_lines.specs.Traces.{trace_of}
 use Rattle.line_fields.specs.Feed.{fed}
-use Rattle.run_items.proofs.EndLinesSeen.{end_is}
-use Rattle.run_items.proofs.TraceEnds.{trace_ends}
-use Rattle.run_items.proofs.Feeding.{fed_is}
-use Rattle.run_items.proofs.laws.texts_tell_items.Goals as goal
+use Rattle.audited_runs.proofs.EndLinesSeen.{end_is}
+use Rattle.audited_runs.proofs.TraceEnds.{trace_ends}
+use Rattle.audited_runs.proofs.Feeding.{fed_is}
+use Rattle.audited_runs.proofs.laws.texts_tell_items.Goals as goal
 
 pub returns-clause-runs : goal.returns-clause-runs
 unfolding run_text
