@@ -78,16 +78,27 @@ pub(crate) fn halted_line<V: Shown>(view: &V, steps: u64) -> EndLine
     line
 }
 
+// `WORD PC steps N`, and a newline.
+fn line_at<V: Shown>(word: &str, view: &V, steps: u64) -> EndLine
+    requires { length word.now ≤ 16 }
+    ensures bytes { let pc = (V.view view.now).reg Pc in
+        result.bytes ≡ word.now ++ (codes " " ++ (pc_text pc ++ steps_text steps)) }
+    ensures some { 0 < length result.bytes }
+{
+    let mut line = EndLine::new();
+    line.push_str(word);
+    line.push_str(" ");
+    push_pc(&mut line, view);
+    push_steps(&mut line, steps);
+    line
+}
+
 /// `running PC steps N`, and a newline.
 pub(crate) fn running_line<V: Shown>(view: &V, steps: u64) -> EndLine
     ensures bytes { result.bytes ≡ running_text (V.view view.now) steps }
     ensures some { 0 < length result.bytes }
 {
-    let mut line = EndLine::new();
-    line.push_str("running ");
-    push_pc(&mut line, view);
-    push_steps(&mut line, steps);
-    line
+    line_at("running", view, steps)
 }
 
 /// `failed PC steps N`, and a newline.
@@ -95,11 +106,7 @@ pub(crate) fn failed_line<V: Shown>(view: &V, steps: u64) -> EndLine
     ensures bytes { result.bytes ≡ failed_text (V.view view.now) steps }
     ensures some { 0 < length result.bytes }
 {
-    let mut line = EndLine::new();
-    line.push_str("failed ");
-    push_pc(&mut line, view);
-    push_steps(&mut line, steps);
-    line
+    line_at("failed", view, steps)
 }
 
 // `failed PC CAUSE steps N`, and a newline.
@@ -138,10 +145,5 @@ pub fn place_line(word: &str, state: &LcmState) -> EndLine
         result.bytes ≡ word.now ++ (codes " " ++ (pc_text pc ++ steps_text state.now.count)) }
     ensures some { 0 < length result.bytes }
 {
-    let mut line = EndLine::new();
-    line.push_str(word);
-    line.push_str(" ");
-    push_pc(&mut line, state);
-    push_steps(&mut line, state.count());
-    line
+    line_at(word, state, state.count())
 }

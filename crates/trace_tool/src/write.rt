@@ -5,7 +5,7 @@ ghost use Rattle.std.specs.Prelude.{decimal};
 ghost use Rattle.arrayvec.specs.ArrayVec.{array_vec_len};
 ghost use Rattle.outside_io.specs.Writes.{Writes};
 ghost use Rattle.cap_words.specs.Text.{word_text_of};
-ghost use Rattle.run_lines.specs.Layout.{layout, part_name, site_of};
+ghost use Rattle.run_lines.specs.Layout.{layout, part_name, entry_name, site_of};
 ghost use Rattle.run_lines.specs.Pairs.{pairs_of};
 ghost use Rattle.run_lines.specs.Lines.{list_of, args_of, words_seen, feed_back, feed_pair, line_of};
 ghost use Rattle.run_lines.specs.Lines.{pass_line, pass_lines, lines_behind, lines_for};
@@ -109,6 +109,19 @@ fn push_place(head: &mut Head, start: &Start, call: Bracket)
     push_number(head, call.end);
 }
 
+// Appends where a hop goes: a part, and an entry of it.
+fn push_hop(head: &mut Head, start: &Start, part: u32, entry: u32)
+    requires { array_vec_len head.old + 67 ≤ ROOM }
+    ensures bytes { let l = layout start.now in head.new.items
+        ≡ head.old.items ++ (codes "hop:" ++ (part_name l part ++ (codes ":" ++ entry_name l part entry))) }
+    ensures len { array_vec_len head.new ≤ array_vec_len head.old + 67 }
+{
+    push(head, b"hop:");
+    push(head, part_name(start, part));
+    push(head, b":");
+    push(head, entry_name(start, part, entry));
+}
+
 // Appends what `xjmp rcode rdata` would do.
 fn push_back(head: &mut Head, start: &Start, back: Back)
     requires { array_vec_len head.old + 80 ≤ ROOM }
@@ -118,12 +131,7 @@ fn push_back(head: &mut Head, start: &Start, back: Back)
     match back {
         Back::Out => push(head, b"out"),
         Back::Bad => push(head, b"bad"),
-        Back::Hop(part, entry) => {
-            push(head, b"hop:");
-            push(head, part_name(start, part));
-            push(head, b":");
-            push(head, entry_name(start, part, entry));
-        }
+        Back::Hop(part, entry) => push_hop(head, start, part, entry),
         Back::Pair(site, base) => {
             let site = site_of(start, site);
             push(head, b"pair:");
@@ -146,12 +154,7 @@ fn push_pair(head: &mut Head, start: &Start, pair: PassedPair)
         PassedPair::Nothing => push(head, b"none"),
         PassedPair::Bad => push(head, b"bad"),
         PassedPair::Out => push(head, b"out"),
-        PassedPair::Hop(part, entry) => {
-            push(head, b"hop:");
-            push(head, part_name(start, part));
-            push(head, b":");
-            push(head, entry_name(start, part, entry));
-        }
+        PassedPair::Hop(part, entry) => push_hop(head, start, part, entry),
     }
 }
 
