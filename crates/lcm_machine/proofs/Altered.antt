@@ -21,7 +21,7 @@ use Rattle.lcm_machine.specs.declared.plan.Moved.{Moved}
 use Rattle.lcm_machine.specs.declared.undo.Changed.{Changed}
 use Rattle.lcm_machine.specs.Maps.{State}
 use Rattle.lcm_machine.specs.Places.{reg}
-use Rattle.lcm_machine.specs.Table.{plan}
+use Rattle.lcm_machine.specs.Table.{plan, makes}
 use Rattle.lcm_machine.specs.Row.{word_in, put, clear, move_on, spend, make, go_on, perform}
 use Rattle.lcm_machine.specs.Back.{changed_by}
 use Rattle.lcm_machine.proofs.RegLemmas.{reg-set_other}
@@ -100,6 +100,11 @@ module _ {W : Type 0} (look : W → Word) (plain : Word → W) (N : Reg → Type
 abbrev pub IsChanged : Changed → Reg → Type 0
 IsChanged c r = (Pc ≡ r) ⊎ ((c.first ≡ Some r) ⊎ ((c.second ≡ Some r) ⊎ ((c.third ≡ Some r) ⊎ ⊥)))
 
+-- where a register is said to change, pc goes on and that register gets a word
+made_names : (c : Changed) (r : Reg) (w next : Word) → c.first ≡ Some r
+    → Gives (Names (IsChanged c)) (makes r w next)
+made_names c r w next e = gives_goes (tt, tt, tt, inr (inl e), tt, inl refl)
+
 module _ (f : Reg → Face) (w : Reg → Option Opened) (there : Option Face) (next : Word) where
   pub plan-Names : (i : Instr) → Gives (Names (IsChanged (changed_by i))) (plan i f w there next)
   unfolding changed_by
@@ -109,15 +114,15 @@ module _ (f : Reg → Face) (w : Reg → Option Opened) (there : Option Face) (n
   plan-Names (Jnz r1 r2) = Gives-need _ _ _ (λ z e. Gives-if _ _ _
       (gives_goes (tt, tt, tt, tt, tt, inl refl))
       (gives_goes ((inr (inl refl), inl refl), tt, tt, tt, tt, tt)))
-  plan-Names (Gettype r1 r2) = Gives-ask _ _ _ (λ _. gives_goes (tt, tt, tt, inr (inl refl), tt, inl refl))
-  plan-Names (Geta r1 r2) = Gives-ask _ _ _ (λ _. gives_goes (tt, tt, tt, inr (inl refl), tt, inl refl))
-  plan-Names (Getb r1 r2) = Gives-ask _ _ _ (λ _. gives_goes (tt, tt, tt, inr (inl refl), tt, inl refl))
-  plan-Names (Gete r1 r2) = Gives-ask _ _ _ (λ _. gives_goes (tt, tt, tt, inr (inl refl), tt, inl refl))
-  plan-Names (Getp r1 r2) = Gives-ask _ _ _ (λ _. gives_goes (tt, tt, tt, inr (inl refl), tt, inl refl))
-  plan-Names (Getlin r1 r2) = Gives-ask _ _ _ (λ _. gives_goes (tt, tt, tt, inr (inl refl), tt, inl refl))
+  plan-Names (Gettype r1 r2) = Gives-ask _ _ _ (λ _. made_names _ _ _ _ refl)
+  plan-Names (Geta r1 r2) = Gives-ask _ _ _ (λ _. made_names _ _ _ _ refl)
+  plan-Names (Getb r1 r2) = Gives-ask _ _ _ (λ _. made_names _ _ _ _ refl)
+  plan-Names (Gete r1 r2) = Gives-ask _ _ _ (λ _. made_names _ _ _ _ refl)
+  plan-Names (Getp r1 r2) = Gives-ask _ _ _ (λ _. made_names _ _ _ _ refl)
+  plan-Names (Getlin r1 r2) = Gives-ask _ _ _ (λ _. made_names _ _ _ _ refl)
   plan-Names (Move r1 (InReg r2)) = Gives-ask _ _ _ (λ _.
       gives_goes ((inr (inr (inl refl)), inr (inl refl)), tt, tt, tt, tt, inl refl))
-  plan-Names (Move r1 (Imm z)) = Gives-ask _ _ _ (λ _. gives_goes (tt, tt, tt, inr (inl refl), tt, inl refl))
+  plan-Names (Move r1 (Imm z)) = Gives-ask _ _ _ (λ _. made_names _ _ _ _ refl)
   plan-Names (Store r1 r2) = Gives-need _ _ _ (λ c m. Gives-ask _ _ _ (λ may. Gives-need _ _ _ (λ x h.
       gives_goes ((inr (inl refl), tt), tt, tt, tt, tt, inl refl))))
   plan-Names (Load r1 r2) = Gives-ask _ _ _ (λ free. Gives-need _ _ _ (λ c m. Gives-ask _ _ _ (λ may.
@@ -125,29 +130,29 @@ module _ (f : Reg → Face) (w : Reg → Option Opened) (there : Option Face) (n
       gives_goes ((tt, inr (inl refl)), tt, tt, tt, tt, inl refl))))))
   plan-Names (Cca r1 n) = Gives-ask _ _ _ (λ _. Gives-by_cap (f r1) _ _
       (λ c e. Gives-need _ _ _ (λ z _. Gives-ask _ _ _ (λ _.
-      gives_goes (tt, tt, tt, inr (inl refl), tt, inl refl))))
+      made_names _ _ _ _ refl)))
       (λ c e. Gives-need _ _ _ (λ z _. Gives-ask _ _ _ (λ _.
-      gives_goes (tt, tt, tt, inr (inl refl), tt, inl refl)))))
+      made_names _ _ _ _ refl))))
   plan-Names (Restrict r1 n) = Gives-ask _ _ _ (λ _. Gives-need _ _ _ (λ c m. Gives-need _ _ _ (λ z _.
       Gives-need _ _ _ (λ q _. Gives-ask _ _ _ (λ _.
-      gives_goes (tt, tt, tt, inr (inl refl), tt, inl refl))))))
+      made_names _ _ _ _ refl)))))
   plan-Names (Lt r1 r2 n) = Gives-ask _ _ _ (λ _. Gives-need _ _ _ (λ x e. Gives-need _ _ _ (λ z _.
-      gives_goes (tt, tt, tt, inr (inl refl), tt, inl refl))))
+      made_names _ _ _ _ refl)))
   plan-Names (Plus r1 r2 n) = Gives-ask _ _ _ (λ _. Gives-need _ _ _ (λ x e. Gives-need _ _ _ (λ z _.
-      Gives-ask _ _ _ (λ _. gives_goes (tt, tt, tt, inr (inl refl), tt, inl refl)))))
+      Gives-ask _ _ _ (λ _. made_names _ _ _ _ refl))))
   plan-Names (Minus r1 r2 n) = Gives-ask _ _ _ (λ _. Gives-need _ _ _ (λ x e. Gives-need _ _ _ (λ z _.
-      Gives-ask _ _ _ (λ _. gives_goes (tt, tt, tt, inr (inl refl), tt, inl refl)))))
+      Gives-ask _ _ _ (λ _. made_names _ _ _ _ refl))))
   plan-Names (Seta2b r1) = Gives-ask _ _ _ (λ _. Gives-by_cap (f r1) _ _
-      (λ c e. gives_goes (tt, tt, tt, inr (inl refl), tt, inl refl))
-      (λ c e. gives_goes (tt, tt, tt, inr (inl refl), tt, inl refl)))
+      (λ c e. made_names _ _ _ _ refl)
+      (λ c e. made_names _ _ _ _ refl))
   plan-Names (Xjmp r1 r2) = Gives-need _ _ _ (λ a e1. Gives-need _ _ _ (λ b e2. Gives-ask _ _ _ (λ _.
       Gives-need _ _ _ (λ c e. Gives-ask _ _ _ (λ _. Gives-ask _ _ _ (λ _. Gives-ask _ _ _ (λ _.
       gives_goes (tt, inr (inl refl), tt, inl refl, inr (inr (inl refl)), tt))))))))
   plan-Names (Cseal r1 r2) = Gives-ask _ _ _ (λ _. Gives-by_cap (f r1) _ _
       (λ c e. Gives-need _ _ _ (λ q _. Gives-ask _ _ _ (λ _.
-      gives_goes (tt, tt, tt, inr (inl refl), tt, inl refl))))
+      made_names _ _ _ _ refl)))
       (λ c e. Gives-need _ _ _ (λ q _. Gives-ask _ _ _ (λ _.
-      gives_goes (tt, tt, tt, inr (inl refl), tt, inl refl)))))
+      made_names _ _ _ _ refl))))
   plan-Names (Split r1 r2 r3 n) = Gives-ask _ _ _ (λ _. Gives-ask _ _ _ (λ _. Gives-need _ _ _ (λ c e.
       Gives-need _ _ _ (λ z _. Gives-ask _ _ _ (λ _.
       gives_goes (tt, inr (inr (inr (inl refl))), tt, inr (inl refl), inr (inr (inl refl)), inl refl))))))

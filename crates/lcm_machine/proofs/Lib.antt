@@ -1,4 +1,5 @@
 pub mod RegLemmas
+mod RegLists
 pub mod CellLemmas
 pub mod Stretches
 pub mod SpanLemmas
@@ -6,7 +7,9 @@ pub mod StateLemmas
 pub mod Plans
 pub mod RowLemmas
 mod Onward
+mod Fetching
 mod RowsMet
+mod TestedRows
 pub mod TouchLemmas
 pub mod JumpLemmas
 pub mod WordsKept

@@ -26,7 +26,7 @@ use Rattle.lcm_machine.specs.declared.plan.Made.{Made}
 use Rattle.lcm_machine.specs.Maps.{State}
 use Rattle.lcm_machine.specs.Places.{reg, set_reg}
 use Rattle.lcm_machine.specs.Cells.{cell, set_cell}
-use Rattle.lcm_machine.specs.Table.{plan}
+use Rattle.lcm_machine.specs.Table.{plan, makes}
 use Rattle.lcm_machine.specs.Touched.{cell_used}
 use Rattle.lcm_machine.specs.Row.{word_in, put, clear, move_on, spend, make, go_on, perform, faces}
 use Rattle.lcm_machine.specs.Row.{cell_faces, opens, plan_in, outcome, row, fetch, Fetched, none, some}
@@ -144,6 +144,10 @@ module _ {W : Type 0} (look : W → Word) (plain : Word → W) (S : W → Type 0
     unfolding faces
     seals_look r c e = look_seals (look (reg s.regs r)) c e
 
+    -- an effect that gives one register a word
+    made_is : (r : Reg) (w : Word) → S (plain w) → Gives (Makes plain S) (makes r w next)
+    made_is r w h = gives_goes (h, tt, next_is)
+
     plan-Makes : (n : Instr) → OpensTo look plain S s n → (t : Option Face)
         → Gives (Makes plain S) (plan n (faces look s) (opens look s) t next)
     plan-Makes Fail x t = gives_fails
@@ -151,14 +155,14 @@ module _ {W : Type 0} (look : W → Word) (plain : Word → W) (S : W → Type 0
     plan-Makes (Jmp r1) x t = gives_goes (tt, tt, tt)
     plan-Makes (Jnz r1 r2) x t =
         Gives-need _ _ _ (λ z e. Gives-if _ _ _ (gives_goes (tt, tt, next_is)) (gives_goes (tt, tt, tt)))
-    plan-Makes (Gettype r1 r2) x t = Gives-ask _ _ _ (λ _. gives_goes (closed.ints _, tt, next_is))
-    plan-Makes (Geta r1 r2) x t = Gives-ask _ _ _ (λ _. gives_goes (closed.ints _, tt, next_is))
-    plan-Makes (Getb r1 r2) x t = Gives-ask _ _ _ (λ _. gives_goes (closed.ints _, tt, next_is))
-    plan-Makes (Gete r1 r2) x t = Gives-ask _ _ _ (λ _. gives_goes (closed.ints _, tt, next_is))
-    plan-Makes (Getp r1 r2) x t = Gives-ask _ _ _ (λ _. gives_goes (closed.ints _, tt, next_is))
-    plan-Makes (Getlin r1 r2) x t = Gives-ask _ _ _ (λ _. gives_goes (closed.ints _, tt, next_is))
+    plan-Makes (Gettype r1 r2) x t = Gives-ask _ _ _ (λ _. made_is _ _ (closed.ints _))
+    plan-Makes (Geta r1 r2) x t = Gives-ask _ _ _ (λ _. made_is _ _ (closed.ints _))
+    plan-Makes (Getb r1 r2) x t = Gives-ask _ _ _ (λ _. made_is _ _ (closed.ints _))
+    plan-Makes (Gete r1 r2) x t = Gives-ask _ _ _ (λ _. made_is _ _ (closed.ints _))
+    plan-Makes (Getp r1 r2) x t = Gives-ask _ _ _ (λ _. made_is _ _ (closed.ints _))
+    plan-Makes (Getlin r1 r2) x t = Gives-ask _ _ _ (λ _. made_is _ _ (closed.ints _))
     plan-Makes (Move r1 (InReg r2)) x t = Gives-ask _ _ _ (λ _. gives_goes (tt, tt, next_is))
-    plan-Makes (Move r1 (Imm z)) x t = Gives-ask _ _ _ (λ _. gives_goes (closed.ints z, tt, next_is))
+    plan-Makes (Move r1 (Imm z)) x t = Gives-ask _ _ _ (λ _. made_is _ _ (closed.ints z))
     plan-Makes (Store r1 r2) x t =
         Gives-need _ _ _
         (λ c m. Gives-ask _ _ _ (λ _. Gives-need _ _ _ (λ y h. gives_goes (tt, tt, next_is))))
@@ -170,32 +174,28 @@ module _ {W : Type 0} (look : W → Word) (plain : Word → W) (S : W → Type 0
     plan-Makes (Cca r1 n) x t = Gives-ask _ _ _ (λ _. Gives-by_cap (faces look s r1) _ _
         (λ c e. Gives-need _ _ _
         (λ z _. Gives-ask _ _ _
-        (λ _. gives_goes
-        (closed.moved (reg s.regs r1) c _ (memory_look r1 c (ap memory_in e)) (there r1), tt, next_is))))
+        (λ _. made_is _ _ (closed.moved (reg s.regs r1) c _ (memory_look r1 c (ap memory_in e)) (there r1)))))
         (λ c e. Gives-need _ _ _
         (λ z _. Gives-ask _ _ _
-        (λ _. gives_goes
-        (closed.turned (reg s.regs r1) c _ (seals_look r1 c (ap seals_in e)) (there r1), tt, next_is)))))
+        (λ _. made_is _ _ (closed.turned (reg s.regs r1) c _ (seals_look r1 c (ap seals_in e)) (there r1))))))
     plan-Makes (Restrict r1 n) x t =
         Gives-ask _ _ _
         (λ _. Gives-need _ _ _ (λ c m. Gives-need _ _ _ (λ z _. Gives-need _ _ _ (λ q _. Gives-ask _ _ _ (λ b.
-        gives_goes (closed.lessened (reg s.regs r1) c q (memory_look r1 c m) b (there r1), tt, next_is))))))
+        made_is _ _ (closed.lessened (reg s.regs r1) c q (memory_look r1 c m) b (there r1)))))))
     plan-Makes (Lt r1 r2 n) x t =
         Gives-ask _ _ _
-        (λ _. Gives-need _ _ _ (λ y e. Gives-need _ _ _ (λ z _. gives_goes (closed.ints _, tt, next_is))))
+        (λ _. Gives-need _ _ _ (λ y e. Gives-need _ _ _ (λ z _. made_is _ _ (closed.ints _))))
     plan-Makes (Plus r1 r2 n) x t =
         Gives-ask _ _ _
         (λ _. Gives-need _ _ _
-        (λ y e. Gives-need _ _ _ (λ z _. Gives-ask _ _ _ (λ _. gives_goes (closed.ints _, tt, next_is)))))
+        (λ y e. Gives-need _ _ _ (λ z _. Gives-ask _ _ _ (λ _. made_is _ _ (closed.ints _)))))
     plan-Makes (Minus r1 r2 n) x t =
         Gives-ask _ _ _
         (λ _. Gives-need _ _ _
-        (λ y e. Gives-need _ _ _ (λ z _. Gives-ask _ _ _ (λ _. gives_goes (closed.ints _, tt, next_is)))))
+        (λ y e. Gives-need _ _ _ (λ z _. Gives-ask _ _ _ (λ _. made_is _ _ (closed.ints _)))))
     plan-Makes (Seta2b r1) x t = Gives-ask _ _ _ (λ _. Gives-by_cap (faces look s r1) _ _
-        (λ c e. gives_goes
-        (closed.moved (reg s.regs r1) c _ (memory_look r1 c (ap memory_in e)) (there r1), tt, next_is))
-        (λ c e. gives_goes
-        (closed.turned (reg s.regs r1) c _ (seals_look r1 c (ap seals_in e)) (there r1), tt, next_is)))
+        (λ c e. made_is _ _ (closed.moved (reg s.regs r1) c _ (memory_look r1 c (ap memory_in e)) (there r1)))
+        (λ c e. made_is _ _ (closed.turned (reg s.regs r1) c _ (seals_look r1 c (ap seals_in e)) (there r1))))
     plan-Makes (Xjmp r1 r2) x t =
         Gives-need _ _ _
         (λ a ea. Gives-need _ _ _
@@ -205,20 +205,12 @@ module _ {W : Type 0} (look : W → Word) (plain : Word → W) (S : W → Type 0
     plan-Makes (Cseal r1 r2) x t = Gives-ask _ _ _ (λ _. Gives-by_cap (faces look s r1) _ _
         (λ c e. Gives-need _ _ _
         (λ q m. Gives-ask _ _ _
-        (λ b. gives_goes (
-          closed.sealed_memory (reg s.regs r1) (reg s.regs r2) c q (memory_look r1 c (ap memory_in e))
-              (seals_look r2 q m) b (there r1) (there r2),
-          tt,
-          next_is,
-        ))))
+        (λ b. made_is _ _ (closed.sealed_memory (reg s.regs r1) (reg s.regs r2) c q
+        (memory_look r1 c (ap memory_in e)) (seals_look r2 q m) b (there r1) (there r2)))))
         (λ c e. Gives-need _ _ _
         (λ q m. Gives-ask _ _ _
-        (λ b. gives_goes (
-          closed.sealed_seals (reg s.regs r1) (reg s.regs r2) c q (seals_look r1 c (ap seals_in e))
-              (seals_look r2 q m) b (there r1) (there r2),
-          tt,
-          next_is,
-        )))))
+        (λ b. made_is _ _ (closed.sealed_seals (reg s.regs r1) (reg s.regs r2) c q
+        (seals_look r1 c (ap seals_in e)) (seals_look r2 q m) b (there r1) (there r2))))))
     plan-Makes (Split r1 r2 r3 n) x t =
         Gives-ask _ _ _
         (λ _. Gives-ask _ _ _ (λ _. Gives-need _ _ _ (λ c m. Gives-need _ _ _ (λ z _. Gives-ask _ _ _ (λ b.

@@ -5,6 +5,7 @@ pub mod Spans
 pub mod Plan
 pub mod Table
 pub mod Row
+pub mod Arith
 pub mod Touched
 pub mod Blind
 pub mod Regions

@@ -2,7 +2,7 @@
 //!
 //! A row makes its tests in the order of the table. It answers what is to be done, as an effect, as the
 //! word that a register gets or as a word that moves, or the cause of the first test that fails.
-ghost use Rattle.std.specs.Prelude.{◌≡◌, ◌+◌, ◌==◌, ◌&&◌, ◌+ℤ◌, ◌-ℤ◌, MatchResult, IfOk, true, false};
+ghost use Rattle.std.specs.Prelude.{◌≡◌, ◌+◌, ◌==◌, ◌&&◌, ◌+ℤ◌, MatchResult, IfOk, true, false};
 ghost use Rattle.std.specs.Option.{ok_or};
 ghost use Rattle.lcm_isa.specs.declared.Instr.{Instr};
 ghost use Rattle.cap_words.specs.declared.Word.{Word};
@@ -10,6 +10,7 @@ ghost use Rattle.cap_words.specs.declared.Word.TheVariants.{Int};
 ghost use Rattle.cap_words.specs.Face.{CapInOrder, ContentInOrder};
 ghost use Rattle.cap_words.specs.Faces.{face_linear, int_in, memory_in, address, can_split, same_kind};
 ghost use Rattle.lcm_machine.specs.Table.{is_pc, into, makes, bit, operand, fits_64, runs_in, unsealed};
+ghost use Rattle.lcm_machine.specs.Arith.{arith_of, arith_row};
 ghost use Rattle.lcm_machine.specs.Ends.{Meets};
 ghost use Rattle.lcm_machine.specs.Row.{plan_in, planned, row_gives, row_moves, row_jumps, row_splits};
 ghost use Rattle.lcm_machine.specs.Row.{row_splices, faces, row, outcome, CanPerform, GoesOnTo};
@@ -86,14 +87,31 @@ fn sum(x: i64, z: i64) -> Result<i64, FailCause>
     x.checked_add(z).ok_or(FailCause::F9)
 }
 
-// The difference of two integers: F9 where it doesn't fit in 64 bits.
-#[inline(always)]
-fn difference(x: i64, z: i64) -> Result<i64, FailCause>
-    ensures { MatchResult result
-        (λ n. (fits_64 (x -ℤ z) ≡ true) × (n ≡ x -ℤ z))
-        (λ f. (fits_64 (x -ℤ z) ≡ false) × (f ≡ F9)) }
-{
-    x.checked_sub(z).ok_or(FailCause::F9)
+/// The instructions that make an integer of two.
+#[derive(Clone, Copy)]
+pub(crate) enum Arith {
+    /// 1 where the first is below the second, and else 0.
+    Lt,
+    /// Their sum.
+    Plus,
+    /// The first less the second.
+    Minus,
+}
+
+impl Arith {
+    // What it makes of them: F9 where that doesn't fit in 64 bits.
+    #[inline(always)]
+    fn of(self, x: i64, z: i64) -> Result<i64, FailCause>
+        ensures { MatchResult result
+            (λ n. (fits_64 (arith_of self x z) ≡ true) × (n ≡ arith_of self x z))
+            (λ f. (fits_64 (arith_of self x z) ≡ false) × (f ≡ F9)) }
+    {
+        match self {
+            Arith::Lt => Ok(bit(x < z)),
+            Arith::Plus => sum(x, z),
+            Arith::Minus => x.checked_sub(z).ok_or(FailCause::F9),
+        }
+    }
 }
 
 // The two parts of a capability, of which the first ends at `z`: F13 where its range has no such
@@ -282,37 +300,16 @@ impl<W: MachineWord> State<W> {
         Ok(Word::Mem(Cap::of(CapFields { perm, ..c })))
     }
 
-    // 1 where `r2` is below `n`, and else 0.
-    fn compared(&self, r1: Reg, r2: Reg, n: Operand) -> Result<Word, FailCause>
+    // The integer that arithmetic makes of `r2` and `n`.
+    #[inline(always)]
+    fn reckoned(&self, op: Arith, r1: Reg, r2: Reg, n: Operand) -> Result<Word, FailCause>
         ensures { (next : Word) → row_gives r1 result next
-            ≡ plan_in W.look self.now (Instr.Lt r1 r2 n) next }
+            ≡ plan_in W.look self.now (arith_row op r1 r2 n) next }
     {
         into(r1)?;
         let x = self.int(r2)?;
         let z = self.operand(n)?;
-        Ok(Word::Int(bit(x < z)))
-    }
-
-    // The sum of `r2` and `n`.
-    fn added(&self, r1: Reg, r2: Reg, n: Operand) -> Result<Word, FailCause>
-        ensures { (next : Word) → row_gives r1 result next
-            ≡ plan_in W.look self.now (Instr.Plus r1 r2 n) next }
-    {
-        into(r1)?;
-        let x = self.int(r2)?;
-        let z = self.operand(n)?;
-        Ok(Word::Int(sum(x, z)?))
-    }
-
-    // `r2` less `n`.
-    fn subtracted(&self, r1: Reg, r2: Reg, n: Operand) -> Result<Word, FailCause>
-        ensures { (next : Word) → row_gives r1 result next
-            ≡ plan_in W.look self.now (Instr.Minus r1 r2 n) next }
-    {
-        into(r1)?;
-        let x = self.int(r2)?;
-        let z = self.operand(n)?;
-        Ok(Word::Int(difference(x, z)?))
+        Ok(Word::Int(op.of(x, z)?))
     }
 
     // `r1`'s word with its base as its address or seal.
@@ -547,9 +544,9 @@ impl<W: MachineWord> State<W> {
             }
             Instr::Cca(r1, n) => self.give(r1, self.raised(r1, n), next),
             Instr::Restrict(r1, n) => self.give(r1, self.restricted(r1, n), next),
-            Instr::Lt(r1, r2, n) => self.give(r1, self.compared(r1, r2, n), next),
-            Instr::Plus(r1, r2, n) => self.give(r1, self.added(r1, r2, n), next),
-            Instr::Minus(r1, r2, n) => self.give(r1, self.subtracted(r1, r2, n), next),
+            Instr::Lt(r1, r2, n) => self.give(r1, self.reckoned(Arith::Lt, r1, r2, n), next),
+            Instr::Plus(r1, r2, n) => self.give(r1, self.reckoned(Arith::Plus, r1, r2, n), next),
+            Instr::Minus(r1, r2, n) => self.give(r1, self.reckoned(Arith::Minus, r1, r2, n), next),
             Instr::Seta2b(r1) => self.give(r1, self.at_base(r1), next),
             Instr::Xjmp(r1, r2) => self.execute_xjmp(r1, r2, next),
             Instr::Cseal(r1, r2) => self.give(r1, self.sealed(r1, r2), next),

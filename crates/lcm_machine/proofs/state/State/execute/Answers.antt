@@ -141,37 +141,37 @@ pub give-requires-in-Lt : goal.give-requires-in-Lt
 give-requires-in-Lt g c = (
   search rules,
   planned_can g.W.MachineWord.look g.W.MachineWord.plain c.args.self.now _ _ _
-      c.requires (c.compared.ensures _),
+      c.requires (c.reckoned.ensures _),
 )
 
 pub returns-in-Lt : goal.returns-in-Lt
 returns-in-Lt g c =
     planned_meets g.W.MachineWord.look g.W.MachineWord.plain c.args.self.now _ _ _ _ _ _ c.in-Lt.is
-    (c.compared.ensures _) c.give-in-Lt.ensures
+    (c.reckoned.ensures _) c.give-in-Lt.ensures
 
 pub give-requires-in-Plus : goal.give-requires-in-Plus
 give-requires-in-Plus g c = (
   search rules,
   planned_can g.W.MachineWord.look g.W.MachineWord.plain c.args.self.now _ _ _
-      c.requires (c.added.ensures _),
+      c.requires (c.reckoned-in-Plus.ensures _),
 )
 
 pub returns-in-Plus : goal.returns-in-Plus
 returns-in-Plus g c =
     planned_meets g.W.MachineWord.look g.W.MachineWord.plain c.args.self.now _ _ _ _ _ _ c.in-Plus.is
-    (c.added.ensures _) c.give-in-Plus.ensures
+    (c.reckoned-in-Plus.ensures _) c.give-in-Plus.ensures
 
 pub give-requires-in-Minus : goal.give-requires-in-Minus
 give-requires-in-Minus g c = (
   search rules,
   planned_can g.W.MachineWord.look g.W.MachineWord.plain c.args.self.now _ _ _
-      c.requires (c.subtracted.ensures _),
+      c.requires (c.reckoned-in-Minus.ensures _),
 )
 
 pub returns-in-Minus : goal.returns-in-Minus
 returns-in-Minus g c =
     planned_meets g.W.MachineWord.look g.W.MachineWord.plain c.args.self.now _ _ _ _ _ _ c.in-Minus.is
-    (c.subtracted.ensures _) c.give-in-Minus.ensures
+    (c.reckoned-in-Minus.ensures _) c.give-in-Minus.ensures
 
 pub give-requires-in-Seta2b : goal.give-requires-in-Seta2b
 give-requires-in-Seta2b g c = (
