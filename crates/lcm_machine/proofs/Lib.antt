@@ -10,6 +10,7 @@ mod Onward
 mod Fetching
 mod RowsMet
 mod TestedRows
+mod DetailRows
 pub mod TouchLemmas
 pub mod JumpLemmas
 pub mod WordsKept

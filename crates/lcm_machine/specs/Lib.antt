@@ -6,6 +6,7 @@ pub mod Plan
 pub mod Table
 pub mod Row
 pub mod Arith
+pub mod Details
 pub mod Touched
 pub mod Blind
 pub mod Regions

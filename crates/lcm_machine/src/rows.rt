@@ -8,9 +8,10 @@ ghost use Rattle.lcm_isa.specs.declared.Instr.{Instr};
 ghost use Rattle.cap_words.specs.declared.Word.{Word};
 ghost use Rattle.cap_words.specs.declared.Word.TheVariants.{Int};
 ghost use Rattle.cap_words.specs.Face.{CapInOrder, ContentInOrder};
-ghost use Rattle.cap_words.specs.Faces.{face_linear, int_in, memory_in, address, can_split, same_kind};
+ghost use Rattle.cap_words.specs.Faces.{int_in, memory_in, address, can_split, same_kind};
 ghost use Rattle.lcm_machine.specs.Table.{is_pc, into, makes, bit, operand, fits_64, runs_in, unsealed};
 ghost use Rattle.lcm_machine.specs.Arith.{arith_of, arith_row};
+ghost use Rattle.lcm_machine.specs.Details.{detail_of, detail_row};
 ghost use Rattle.lcm_machine.specs.Ends.{Meets};
 ghost use Rattle.lcm_machine.specs.Row.{plan_in, planned, row_gives, row_moves, row_jumps, row_splits};
 ghost use Rattle.lcm_machine.specs.Row.{row_splices, faces, row, outcome, CanPerform, GoesOnTo};
@@ -48,6 +49,34 @@ fn bit(holds: bool) -> i64
     ensures { result ≡ bit holds }
 {
     if holds { 1 } else { 0 }
+}
+
+/// What instructions show of a word.
+#[derive(Clone, Copy)]
+pub(crate) enum Detail {
+    Kind,
+    Address,
+    Base,
+    End,
+    Perm,
+    Linearity,
+}
+
+impl Detail {
+    // The integer that shows it.
+    #[inline(always)]
+    fn of(self, face: Face) -> i64
+        ensures { result ≡ detail_of self face }
+    {
+        match self {
+            Detail::Kind => face.number(),
+            Detail::Address => face.address(),
+            Detail::Base => face.base(),
+            Detail::End => face.end(),
+            Detail::Perm => face.perm(),
+            Detail::Linearity => bit(face.is_linear()),
+        }
+    }
 }
 
 // `r1` gets an integer that shows something of a word, and pc goes on.
@@ -198,13 +227,6 @@ impl<W: MachineWord> State<W> {
             Operand::R(r) => self.int(r),
             Operand::Imm(z) => Ok(i64::from(z)),
         }
-    }
-
-    // 1 where a register's word is linear, and else 0.
-    fn linearity(&self, r: Reg) -> i64
-        ensures { result ≡ bit (face_linear (faces W.look self.now r)) }
-    {
-        bit(self.face(r).is_linear())
     }
 
     // As `jmp r1` where `r2` holds an integer other than 0.
@@ -485,13 +507,14 @@ impl<W: MachineWord> State<W> {
         self.carry_out(making(r1, answer, next))
     }
 
-    // Gives a register an integer that shows something of a word, and pc goes on.
+    // Gives `r1` the integer that shows something of `r2`'s word, and pc goes on.
     #[inline(always)]
-    fn show(&mut self, r1: Reg, shown: i64, next: Word) -> Step
+    fn show(&mut self, detail: Detail, r1: Reg, r2: Reg, next: Word) -> Step
         requires { GoesOnTo W.look self.old next }
-        ensures { Meets self.old (outcome W.look W.plain self.old (into r1 (makes r1 (Int shown) next)))
+        ensures { Meets self.old (row W.look W.plain (detail_row detail r1 r2) next self.old)
             result self.new }
     {
+        let shown = detail.of(self.face(r2));
         self.carry_out(shows(r1, shown, next))
     }
 
@@ -527,12 +550,12 @@ impl<W: MachineWord> State<W> {
             Instr::Halt => Step::Halted,
             Instr::Jmp(r1) => self.carry_out(Ok(Effect::jumping(r1))),
             Instr::Jnz(r1, r2) => self.carry_out(self.plan_jnz(r1, r2, next)),
-            Instr::Gettype(r1, r2) => self.show(r1, self.face(r2).number(), next),
-            Instr::Geta(r1, r2) => self.show(r1, self.face(r2).address(), next),
-            Instr::Getb(r1, r2) => self.show(r1, self.face(r2).base(), next),
-            Instr::Gete(r1, r2) => self.show(r1, self.face(r2).end(), next),
-            Instr::Getp(r1, r2) => self.show(r1, self.face(r2).perm(), next),
-            Instr::Getlin(r1, r2) => self.show(r1, self.linearity(r2), next),
+            Instr::Gettype(r1, r2) => self.show(Detail::Kind, r1, r2, next),
+            Instr::Geta(r1, r2) => self.show(Detail::Address, r1, r2, next),
+            Instr::Getb(r1, r2) => self.show(Detail::Base, r1, r2, next),
+            Instr::Gete(r1, r2) => self.show(Detail::End, r1, r2, next),
+            Instr::Getp(r1, r2) => self.show(Detail::Perm, r1, r2, next),
+            Instr::Getlin(r1, r2) => self.show(Detail::Linearity, r1, r2, next),
             Instr::Move(r1, n) => self.carry_out(self.plan_move(r1, n, next)),
             Instr::Store(r1, r2) => {
                 let answer = self.stored(r1, r2);

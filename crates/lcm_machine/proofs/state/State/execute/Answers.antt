@@ -16,28 +16,22 @@ unfolding row plan_in
 returns-in-Jmp g c = search rules
 
 pub returns-in-Gettype : goal.returns-in-Gettype
-unfolding row plan_in
-returns-in-Gettype g c = search rules
+returns-in-Gettype g c = rw c.in-Gettype.is c.show.ensures
 
 pub returns-in-Geta : goal.returns-in-Geta
-unfolding row plan_in
-returns-in-Geta g c = search rules
+returns-in-Geta g c = rw c.in-Geta.is c.show-in-Geta.ensures
 
 pub returns-in-Getb : goal.returns-in-Getb
-unfolding row plan_in
-returns-in-Getb g c = search rules
+returns-in-Getb g c = rw c.in-Getb.is c.show-in-Getb.ensures
 
 pub returns-in-Gete : goal.returns-in-Gete
-unfolding row plan_in
-returns-in-Gete g c = search rules
+returns-in-Gete g c = rw c.in-Gete.is c.show-in-Gete.ensures
 
 pub returns-in-Getp : goal.returns-in-Getp
-unfolding row plan_in
-returns-in-Getp g c = search rules
+returns-in-Getp g c = rw c.in-Getp.is c.show-in-Getp.ensures
 
 pub returns-in-Getlin : goal.returns-in-Getlin
-unfolding row plan_in
-returns-in-Getlin g c = search rules
+returns-in-Getlin g c = rw c.in-Getlin.is c.show-in-Getlin.ensures
 
 pub carry_out-requires-in-Move : goal.carry_out-requires-in-Move
 carry_out-requires-in-Move g c = (
