@@ -24,7 +24,7 @@ use Rattle.cap_words.specs.Names.{is_name}
 use Rattle.component_file.specs.Fault.{in_file}
 use Rattle.component_file.specs.Limits.{KindFits, last_base, StretchFits}
 use Rattle.component_file.specs.Spelling.{u32_bytes, name_bytes, stretch_bytes, flag_byte, optional_bytes}
-use Rattle.component_file.specs.Spelling.{kind_bytes}
+use Rattle.component_file.specs.Spelling.{kind_tag, kind_bytes}
 use Rattle.component_file.proofs.CanWrite.{name_is_short}
 use Rattle.component_file.specs.Reading.{field, short_at, next_text, name_meant, next_name, next_address}
 use Rattle.component_file.specs.Reading.{next_offset, next_stretch, flag_meant, next_flag, next_optional}
@@ -169,14 +169,6 @@ optional_reads = reads_as next_optional
         (λ o k p. subst (λ x. IfSome x (λ n. n ≤ LAST_OFFSET)) (sym (is_none o k)) tt) (λ o k p. tt)
 
 -- ---- kinds
-
-kind_tag : Kind → ℕ
-kind_tag Any = 0
-kind_tag Int = 1
-kind_tag DataCap = 2
-kind_tag Stk = 3
-kind_tag (Pc offset) = 4
-kind_tag Top = 5
 
 kind_tail : Kind → List ℕ
 kind_tail (Pc offset) = u32_bytes offset

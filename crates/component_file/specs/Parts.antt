@@ -55,6 +55,26 @@ next_declared = do
   rows ← next_list 4 0 MOST_ROWS next_row
   done (record { fail_at = fail_at; literal_at = literal_at; rows = rows })
 
+abbrev pub joined : Head → Memory → Calls → Declared → ComponentFields
+joined head memory calls declared = record {
+  name = head.name;
+  stack_base = head.stack_base;
+  closure = head.closure;
+  seals = head.seals;
+  linear = head.linear;
+  code_base = memory.code_base;
+  code = memory.code;
+  data_base = memory.data_base;
+  data_words = memory.data_words;
+  imports = calls.imports;
+  exports = calls.exports;
+  sites = calls.sites;
+  fail_at = declared.fail_at;
+  literal_at = declared.literal_at;
+  rows = declared.rows;
+  movable = head.movable;
+}
+
 -- a component is its parts, one after another
 unfoldable pub next_parts : Reader Input FileFault ComponentFields
 next_parts = do
@@ -62,24 +82,7 @@ next_parts = do
   memory ← next_memory
   calls ← next_calls
   declared ← next_declared
-  done (record {
-    name = head.name;
-    stack_base = head.stack_base;
-    closure = head.closure;
-    seals = head.seals;
-    linear = head.linear;
-    code_base = memory.code_base;
-    code = memory.code;
-    data_base = memory.data_base;
-    data_words = memory.data_words;
-    imports = calls.imports;
-    exports = calls.exports;
-    sites = calls.sites;
-    fail_at = declared.fail_at;
-    literal_at = declared.literal_at;
-    rows = declared.rows;
-    movable = head.movable;
-  })
+  done (joined head memory calls declared)
 
 -- ---- the bytes of each part, in the pieces that are written one after another
 

@@ -44,6 +44,15 @@ abbrev pub optional_bytes : Option ℕ → List ℕ
 optional_bytes None = 0 ∷ []
 optional_bytes (Some n) = 1 ∷ u32_bytes n
 
+-- the byte that tells a kind
+unfoldable pub kind_tag : Kind → ℕ
+kind_tag Any = 0
+kind_tag Int = 1
+kind_tag DataCap = 2
+kind_tag Stk = 3
+kind_tag (Pc offset) = 4
+kind_tag Top = 5
+
 abbrev pub kind_bytes : Kind → List ℕ
 kind_bytes Any = 0 ∷ []
 kind_bytes Int = 1 ∷ []

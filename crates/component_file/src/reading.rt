@@ -7,7 +7,8 @@ ghost use Rattle.component_file.specs.Fault.{is_refusal};
 ghost use Rattle.readers.specs.Answers.{GivesUnlessRefused, AnswersUnlessRefused};
 ghost use Rattle.component_file.specs.Reading.{field, next_header, version_meant, next_words};
 ghost use Rattle.component_file.specs.Reading.{decoded};
-ghost use Rattle.component_file.specs.Parts.{next_head, next_memory, next_calls, next_declared, next_parts};
+ghost use Rattle.component_file.specs.Parts.{next_head, next_memory, next_calls, next_declared};
+ghost use Rattle.component_file.specs.Parts.{joined, next_parts};
 
 use crate::component::{Area, Component, ComponentFields, Export, Import, KindRow};
 use crate::fault::FileFault;
@@ -153,16 +154,11 @@ fn read_declared(alloc: Global, bytes: &mut Cursor<'_>) -> Result<Declared, File
     })
 }
 
-// Each part in its turn.
-#[tactic(auto, unfolding(crate::specs::Parts::next_parts))]
-fn component(alloc: Global, bytes: &mut Cursor<'_>) -> Result<ComponentFields, FileFault>
-    ensures { GivesUnlessRefused is_refusal result bytes.new (next_parts bytes.old) }
+// The parts, put together.
+fn joined(head: Head, memory: Memory, calls: Calls, declared: Declared) -> ComponentFields
+    ensures { result ≡ joined head memory calls declared }
 {
-    let head = read_head(alloc, bytes)?;
-    let memory = read_memory(alloc, bytes)?;
-    let calls = read_calls(alloc, bytes)?;
-    let declared = read_declared(alloc, bytes)?;
-    Ok(ComponentFields {
+    ComponentFields {
         name: head.name,
         stack_base: head.stack_base,
         closure: head.closure,
@@ -179,7 +175,19 @@ fn component(alloc: Global, bytes: &mut Cursor<'_>) -> Result<ComponentFields, F
         literal_at: declared.literal_at,
         rows: declared.rows,
         movable: head.movable,
-    })
+    }
+}
+
+// Each part in its turn.
+#[tactic(auto, unfolding(crate::specs::Parts::next_parts))]
+fn component(alloc: Global, bytes: &mut Cursor<'_>) -> Result<ComponentFields, FileFault>
+    ensures { GivesUnlessRefused is_refusal result bytes.new (next_parts bytes.old) }
+{
+    let head = read_head(alloc, bytes)?;
+    let memory = read_memory(alloc, bytes)?;
+    let calls = read_calls(alloc, bytes)?;
+    let declared = read_declared(alloc, bytes)?;
+    Ok(joined(head, memory, calls, declared))
 }
 
 // The component of all the bytes.

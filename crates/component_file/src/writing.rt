@@ -3,8 +3,8 @@ ghost use Rattle.std.specs.Prelude.{◌≡◌, ◌<◌, ◌^◌, ◌++◌, ℕ, 
 ghost use Rattle.std.specs.List.{concat, flat_map, AllByRecursion};
 ghost use Rattle.cap_words.specs.WordBytes.{SealInSpace, word_bytes_of};
 ghost use Rattle.component_file.specs.Spelling.{u32_bytes, name_bytes, stretch_bytes, list_bytes};
-ghost use Rattle.component_file.specs.Spelling.{import_bytes, export_bytes, optional_bytes, kind_bytes};
-ghost use Rattle.component_file.specs.Spelling.{row_bytes, version_of, SpellsComponent};
+ghost use Rattle.component_file.specs.Spelling.{import_bytes, export_bytes, optional_bytes, kind_tag};
+ghost use Rattle.component_file.specs.Spelling.{kind_bytes, row_bytes, version_of, SpellsComponent};
 ghost use Rattle.component_file.specs.Spelling.{NamesAreShort, NameIsShort};
 ghost use Rattle.component_file.specs.Spelling.{Always, spelling};
 ghost use Rattle.component_file.specs.Parts.{head_pieces, memory_pieces, calls_pieces, declared_pieces};
@@ -108,24 +108,33 @@ impl Spelled for u32 {
     }
 }
 
+// The byte that tells a kind.
+#[tactic(auto, unfolding(crate::specs::Spelling::kind_tag))]
+fn kind_tag(kind: Kind) -> u8
+    ensures { result ≡ kind_tag kind }
+{
+    match kind {
+        Kind::Any => 0,
+        Kind::Int => 1,
+        Kind::DataCap => 2,
+        Kind::Stk => 3,
+        Kind::Pc(_) => 4,
+        Kind::Top => 5,
+    }
+}
+
 impl Spelled for Kind {
     ghost spelled = { kind_bytes };
 
     ghost can_write = { Always };
 
+    #[tactic(auto, unfolding(crate::specs::Spelling::kind_tag))]
     fn write(&self, out: &mut Vec<u8>) -> Result<(), AllocError> {
+        out.push(kind_tag(*self))?;
         match self {
-            Kind::Any => out.push(0)?,
-            Kind::Int => out.push(1)?,
-            Kind::DataCap => out.push(2)?,
-            Kind::Stk => out.push(3)?,
-            Kind::Pc(offset) => {
-                out.push(4)?;
-                push_u32(out, *offset)?;
-            }
-            Kind::Top => out.push(5)?,
+            Kind::Pc(offset) => push_u32(out, *offset),
+            _ => Ok(()),
         }
-        Ok(())
     }
 }
 
