@@ -12,7 +12,7 @@ use Rattle.component_check.specs.Verdict.{rule, IsBefore, IsFirst, IsFirstBroken
 abbrev pub IsFirstIn : (ℕ → Bool) → ℕ → Option ℕ → Type 0
 IsFirstIn broken n o = FoundBy (λ i b. broken i ≡ b) n o
 
-below_suc : (P : ℕ → Type 0) (n : ℕ) → ((i : ℕ) → i < n → P i) → P n → (i : ℕ) → i < suc n → P i
+pub below_suc : (P : ℕ → Type 0) (n : ℕ) → ((i : ℕ) → i < n → P i) → P n → (i : ℕ) → i < suc n → P i
 below_suc P n h here i lt = elim (cases_eq i n) as (λ _. P i) [
   | inl e ↦ subst P (sym e) here
   | inr ne ↦ h i (omega arith)

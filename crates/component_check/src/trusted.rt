@@ -11,12 +11,17 @@ use crate::slots::is_zero_word;
 use cap_words::Word;
 use component_file::ComponentFields;
 
-fn is_no_int(words: &[Word], i: usize) -> bool
+fn is_no_int(word: &Word) -> bool
+    ensures { result ≡ is_no_int word.now }
+{
+    !matches!(word, Word::Int(_))
+}
+
+fn has_no_int(words: &[Word], i: usize) -> bool
     ensures { result ≡ holds_of is_no_int (slice_get words.now i) }
 {
     match words.get(i) {
-        Some(Word::Int(_)) => false,
-        Some(_) => true,
+        Some(word) => is_no_int(word),
         None => false,
     }
 }
@@ -33,7 +38,7 @@ fn is_at(offset: Option<u32>, i: usize) -> bool
 fn is_no_code(c: &ComponentFields, i: usize) -> bool
     ensures { result ≡ (holds_of is_no_int (slice_get c.now.code i) && not (is_at c.now.literal_at i)) }
 {
-    if is_no_int(c.code.as_slice(), i) {
+    if has_no_int(c.code.as_slice(), i) {
         !is_at(c.literal_at, i)
     } else {
         false
@@ -60,7 +65,7 @@ pub(crate) fn c11(c: &ComponentFields) -> Option<u32>
 {
     let words = c.data_words.as_slice();
     for i in 0..words.len() {
-        if is_no_int(words, i) {
+        if has_no_int(words, i) {
             return Some((c.code.as_slice().len() + i) as u32);
         }
     }

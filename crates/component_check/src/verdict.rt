@@ -1,28 +1,26 @@
 //! The rules of a component, in their order.
-ghost use Rattle.std.specs.Prelude.{◌≡◌, ◌∷◌, [], Ok};
+ghost use Rattle.std.specs.Prelude.{◌≡◌, Err};
 ghost use Rattle.component_file.specs.Limits.{IsComponent};
 ghost use Rattle.component_check.specs.declared.rule.Group.TheVariants.{C};
 ghost use Rattle.component_check.specs.RuleText.{broken_at};
-ghost use Rattle.component_check.specs.Verdict.{check_from, kept_or, IsFirstBroken};
-ghost use Rattle.component_check.specs.Rules.{c1, c2, c3, c4, c5, c6, c7, c8, c9, rules_of_trusted, rules_c};
+ghost use Rattle.component_check.specs.Verdict.{check_from, IsFirstBroken};
+ghost use Rattle.component_check.specs.Rules.{rules_of_trusted, rules_c};
 
 use crate::areas::{c1, c2, c3};
 use crate::linear::c8;
-use crate::rule::{Broken, Group, kept};
+use crate::rule::{Broken, Group, Rule, kept};
 use crate::slots::{c4, c5, c6};
 use crate::trusted::{c10, c11, c12};
 use crate::words::{c7, c9};
 use component_file::{Component, ComponentFields};
 
-// C7 and C8. Where C7 holds, linear capabilities lie in the linear area.
-fn check_capabilities(c: &ComponentFields) -> Result<(), Broken>
-    requires { IsComponent c.now }
-    ensures { result ≡ check_from (broken_at C) 7 (c7 c.now ∷ c8 c.now ∷ []) }
+// That a rule is broken at a place.
+fn broken(number: u8, place: u32) -> Result<(), Broken>
+    ensures { result ≡ Err (broken_at C number place) }
 {
-    match c7(c) {
-        Some(place) => kept(Group::C, 7, Some(place)),
-        None => kept(Group::C, 8, c8(c)),
-    }
+    let group = Group::C;
+    let rule = Rule { group, number };
+    Err(Broken { rule, place })
 }
 
 fn check_trusted(c: &ComponentFields, trusted: bool) -> Result<(), Broken>
@@ -32,23 +30,47 @@ fn check_trusted(c: &ComponentFields, trusted: bool) -> Result<(), Broken>
     if !trusted {
         return Ok(());
     }
-    kept(Group::C, 10, c10(c))?;
-    kept(Group::C, 11, c11(c))?;
+    if let Some(place) = c10(c) {
+        return broken(10, place);
+    }
+    if let Some(place) = c11(c) {
+        return broken(11, place);
+    }
     kept(Group::C, 12, c12(c))
 }
 
+// Where C7 holds, linear capabilities lie in the linear area, so C8 is tried after it.
 fn check_rules(c: &ComponentFields, trusted: bool) -> Result<(), Broken>
     requires { IsComponent c.now }
     ensures { result ≡ check_from (broken_at C) 1 (rules_c c.now trusted) }
 {
-    kept(Group::C, 1, c1(c))?;
-    kept(Group::C, 2, c2(c))?;
-    kept(Group::C, 3, c3(c))?;
-    kept(Group::C, 4, c4(c))?;
-    kept(Group::C, 5, c5(c))?;
-    kept(Group::C, 6, c6(c))?;
-    check_capabilities(c)?;
-    kept(Group::C, 9, c9(c))?;
+    if let Some(place) = c1(c) {
+        return broken(1, place);
+    }
+    if let Some(place) = c2(c) {
+        return broken(2, place);
+    }
+    if let Some(place) = c3(c) {
+        return broken(3, place);
+    }
+    if let Some(place) = c4(c) {
+        return broken(4, place);
+    }
+    if let Some(place) = c5(c) {
+        return broken(5, place);
+    }
+    if let Some(place) = c6(c) {
+        return broken(6, place);
+    }
+    if let Some(place) = c7(c) {
+        return broken(7, place);
+    }
+    if let Some(place) = c8(c) {
+        return broken(8, place);
+    }
+    if let Some(place) = c9(c) {
+        return broken(9, place);
+    }
     check_trusted(c, trusted)
 }
 
