@@ -1,6 +1,7 @@
 mod FrontLemmas
 mod FoundLemmas
 mod TokenLemmas
+mod Made
 pub mod ErasedLemmas
 pub mod Blocks
 pub mod Sizes

@@ -1,8 +1,9 @@
 //! What is wrong with the name of a call, or with a token.
-ghost use Rattle.std.specs.Prelude.{◌≡◌, ◌+◌, ◌==◌, List, ◌∷◌};
+ghost use Rattle.std.specs.Prelude.{◌≡◌, ◌+◌, ◌==◌, ◌&&◌, List, ◌∷◌};
 ghost use Rattle.proc_language.specs.Limits.{arg_registers};
 ghost use Rattle.proc_names.specs.Faults.{first, earlier};
 ghost use Rattle.proc_names.specs.NameFaults.{registers_fit};
+ghost use Rattle.token_language.specs.declared.module.TokenParam.{TokenParam};
 ghost use Rattle.token_language.specs.declared.tree.TokenArg.{TokenArg};
 ghost use Rattle.token_language.specs.View.{args_of};
 ghost use Rattle.token_language.specs.Tokens.{param_tokens};
@@ -110,22 +111,27 @@ fn registers_fit(args: &[TokenArg], arity: Option<u32>) -> bool
     }
 }
 
+// Whether an argument fits a parameter.
+fn fits(arg: &TokenArg, param: &TokenParam) -> bool
+    ensures { (args : List TokenArg) (params : List TokenParam) → (result && fit (args_of args) params)
+        ≡ fit (args_of (arg.now ∷ args)) (param.now ∷ params) }
+{
+    match (arg, param) {
+        (TokenArg::Value(_), TokenParam::Plain(q)) => q.arity.is_none(),
+        (TokenArg::Proc(_), TokenParam::Plain(q)) => q.arity.is_some(),
+        (TokenArg::Token(_), TokenParam::Token(_)) => true,
+        _ => false,
+    }
+}
+
 // Whether arguments fit parameters one by one.
 fn fit(args: &[TokenArg], params: &[TokenParam]) -> bool
     ensures { result ≡ fit (args_of args.now) params.now }
 {
     match (args.split_first(), params.split_first()) {
         (None, None) => true,
-        (Some((TokenArg::Value(_), args)), Some((TokenParam::Plain(q), params))) => {
-            q.arity.is_none() && fit(args, params)
-        }
-        (Some((TokenArg::Proc(_), args)), Some((TokenParam::Plain(q), params))) => {
-            q.arity.is_some() && fit(args, params)
-        }
-        (Some((TokenArg::Token(_), args)), Some((TokenParam::Token(_), params))) => {
-            fit(args, params)
-        }
-        _ => false,
+        (Some((arg, args)), Some((param, params))) => fits(arg, param) && fit(args, params),
+        (None, Some(_)) | (Some(_), None) => false,
     }
 }
 

@@ -17,28 +17,38 @@ use std::alloc::{AllocError, Global};
 pub(crate) fn expr(alloc: Global, e: &TokenExpr) -> Result<Expr, AllocError>
     ensures { IfOk result (λ x. x ≡ erased_expr e.now) }
 {
-    let at = e.at;
     let kind = match &e.kind {
         TokenExprKind::Number(n) => ExprKind::Number(*n),
         TokenExprKind::Var(x) => ExprKind::Var(name(alloc, x)?),
         TokenExprKind::Element(x, index) => {
             let x = name(alloc, x)?;
-            let index = expr(alloc, index)?;
-            ExprKind::Element(x, Box::new(alloc, index)?)
+            ExprKind::Element(x, boxed(alloc, index)?)
         }
-        TokenExprKind::Call(c) => {
-            let name = name(alloc, &c.name)?;
-            let args = Items::of(args(alloc, c.args.as_slice())?);
-            ExprKind::Call(Call { name, args })
-        }
+        TokenExprKind::Call(c) => ExprKind::Call(call(alloc, c)?),
         TokenExprKind::Op(o, left, right) => {
-            let left = expr(alloc, left)?;
-            let right = expr(alloc, right)?;
-            let left = Box::new(alloc, left)?;
-            ExprKind::Op(*o, left, Box::new(alloc, right)?)
+            let left = boxed(alloc, left)?;
+            ExprKind::Op(*o, left, boxed(alloc, right)?)
         }
     };
-    Ok(Expr { at, kind })
+    Ok(Expr { at: e.at, kind })
+}
+
+#[cycle(expr)]
+fn boxed(alloc: Global, e: &TokenExpr) -> Result<Box<Expr>, AllocError>
+    ensures { IfOk result (λ x. x.value ≡ erased_expr e.now) }
+{
+    Ok(Box::new(alloc, expr(alloc, e)?)?)
+}
+
+/// A call without tokens.
+#[cycle(expr)]
+pub(crate) fn call(alloc: Global, c: &TokenCall) -> Result<Call, AllocError>
+    ensures { IfOk result (λ d.
+        (d.name ≡ c.now.name) × (args_of d.args ≡ erased_args (token_args_of c.now.args))) }
+{
+    let name = name(alloc, &c.name)?;
+    let args = Items::of(args(alloc, c.args.as_slice())?);
+    Ok(Call { name, args })
 }
 
 #[cycle(expr)]
@@ -64,14 +74,4 @@ fn argument(alloc: Global, arg: &TokenArg) -> Result<Option<Arg>, AllocError>
         TokenArg::Proc(f) => Some(Arg::Proc(name(alloc, f)?)),
         TokenArg::Token(_) => None,
     })
-}
-
-/// A call without tokens.
-pub(crate) fn call(alloc: Global, c: &TokenCall) -> Result<Call, AllocError>
-    ensures { IfOk result (λ d.
-        (d.name ≡ c.now.name) × (args_of d.args ≡ erased_args (token_args_of c.now.args))) }
-{
-    let name = name(alloc, &c.name)?;
-    let args = Items::of(args(alloc, c.args.as_slice())?);
-    Ok(Call { name, args })
 }

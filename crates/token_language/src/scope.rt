@@ -26,7 +26,7 @@ fn param_index(params: &[TokenParam], x: &Name) -> Option<usize>
             if same(&q.name, x) {
                 Some(0)
             } else {
-                param_index(rest, x).map(|i| i + 1)
+                Some(param_index(rest, x)? + 1)
             }
         }
     }
@@ -44,7 +44,7 @@ fn callback_index(params: &[TokenParam], f: &Name) -> Option<usize>
             if q.arity.is_some() && same(&q.name, f) {
                 Some(0)
             } else {
-                callback_index(rest, f).map(|i| i + 1)
+                Some(callback_index(rest, f)? + 1)
             }
         }
     }
@@ -62,7 +62,7 @@ fn local_index(locals: &[TokenLocal], x: &Name) -> Option<usize>
             if same(y, x) {
                 Some(0)
             } else {
-                local_index(rest, x).map(|i| i + 1)
+                Some(local_index(rest, x)? + 1)
             }
         }
     }

@@ -2,67 +2,76 @@
 ghost use Rattle.std.specs.Prelude.{◌≡◌, IfOk};
 ghost use Rattle.proc_language.specs.Tree.{Block};
 ghost use Rattle.proc_language.specs.StmtView.{block_of};
+ghost use Rattle.proc_language.specs.declared.tree.StmtKind.TheVariants as plain;
 ghost use Rattle.token_language.specs.StmtView.{block_of as token_block_of};
-ghost use Rattle.token_language.specs.Erased.{erased_before, erased_block, stmts_in};
+ghost use Rattle.token_language.specs.Erased.{erased_expr, erased_before, erased_block, stmts_in};
 ghost use Rattle.token_language.specs.Fronts.{stmts_before, at_most_one};
 
 use crate::exprs::{call, expr};
 use crate::names::{add, name};
-use crate::{TokenStmt, TokenStmtKind};
+use crate::{TokenExpr, TokenStmt, TokenStmtKind};
 use cap_words::Items;
-use proc_language::{Stmt, StmtKind};
+use proc_language::{Expr, Name, Stmt, StmtKind};
 use std::alloc::{AllocError, Global};
+
+// A variable is set.
+fn set(alloc: Global, x: &Name, e: &TokenExpr) -> Result<StmtKind, AllocError>
+    ensures { IfOk result (λ k. k ≡ plain.Set x.now (erased_expr e.now)) }
+{
+    let x = name(alloc, x)?;
+    Ok(StmtKind::Set(x, expr(alloc, e)?))
+}
+
+// An element of an array is set.
+fn set_at(alloc: Global, x: &Name, index: &TokenExpr, e: &TokenExpr) -> Result<StmtKind, AllocError>
+    ensures { IfOk result (λ k. k ≡ plain.SetAt x.now (erased_expr index.now) (erased_expr e.now)) }
+{
+    let x = name(alloc, x)?;
+    let index = expr(alloc, index)?;
+    Ok(StmtKind::SetAt(x, index, expr(alloc, e)?))
+}
+
+// A condition and what it guards.
+#[cycle(block)]
+fn guarded(
+    alloc: Global,
+    c: &TokenExpr,
+    body: &[TokenStmt],
+) -> Result<(Expr, Items<Stmt>), AllocError>
+    ensures { IfOk result (λ g.
+        (g.0 ≡ erased_expr c.now) × (block_of g.1 ≡ erased_block (token_block_of body.now))) }
+{
+    let c = expr(alloc, c)?;
+    Ok((c, Items::of(block(alloc, body)?)))
+}
 
 // What a statement is without tokens, if it is anything.
 #[cycle(block)]
 fn statement(alloc: Global, s: &TokenStmt) -> Result<Option<Stmt>, AllocError>
     ensures { IfOk result (λ kept. (b : Block) → stmts_before (at_most_one kept) b ≡ erased_before s.now b) }
 {
-    let at = s.at;
     let kind = match &s.kind {
-        TokenStmtKind::Set(x, e) => {
-            let x = name(alloc, x)?;
-            let e = expr(alloc, e)?;
-            StmtKind::Set(x, e)
-        }
-        TokenStmtKind::SetAt(x, index, e) => {
-            let x = name(alloc, x)?;
-            let index = expr(alloc, index)?;
-            let e = expr(alloc, e)?;
-            StmtKind::SetAt(x, index, e)
-        }
-        TokenStmtKind::Call(c) => {
-            let c = call(alloc, c)?;
-            StmtKind::Call(c)
-        }
+        TokenStmtKind::Set(x, e) => set(alloc, x, e)?,
+        TokenStmtKind::SetAt(x, index, e) => set_at(alloc, x, index, e)?,
+        TokenStmtKind::Call(c) => StmtKind::Call(call(alloc, c)?),
         TokenStmtKind::If(c, body, None) => {
-            let c = expr(alloc, c)?;
-            let body = Items::of(block(alloc, body.as_slice())?);
+            let (c, body) = guarded(alloc, c, body.as_slice())?;
             StmtKind::If(c, body, None)
         }
         TokenStmtKind::If(c, body, Some(other)) => {
-            let c = expr(alloc, c)?;
-            let body = Items::of(block(alloc, body.as_slice())?);
+            let (c, body) = guarded(alloc, c, body.as_slice())?;
             let other = Items::of(block(alloc, other.as_slice())?);
             StmtKind::If(c, body, Some(other))
         }
         TokenStmtKind::While(c, body) => {
-            let c = expr(alloc, c)?;
-            let body = Items::of(block(alloc, body.as_slice())?);
+            let (c, body) = guarded(alloc, c, body.as_slice())?;
             StmtKind::While(c, body)
         }
-        TokenStmtKind::Return(e) => {
-            let e = expr(alloc, e)?;
-            StmtKind::Return(e)
-        }
-        TokenStmtKind::Halt(e) => {
-            let e = expr(alloc, e)?;
-            StmtKind::Halt(e)
-        }
-        TokenStmtKind::Make(_) => return Ok(None),
-        TokenStmtKind::Spend(_) => return Ok(None),
+        TokenStmtKind::Return(e) => StmtKind::Return(expr(alloc, e)?),
+        TokenStmtKind::Halt(e) => StmtKind::Halt(expr(alloc, e)?),
+        TokenStmtKind::Make(_) | TokenStmtKind::Spend(_) => return Ok(None),
     };
-    Ok(Some(Stmt { at, kind }))
+    Ok(Some(Stmt { at: s.at, kind }))
 }
 
 /// The statements of a body without tokens.
