@@ -1,4 +1,4 @@
 pub mod FirstOf
 pub mod Linking
-pub mod Generated
+pub mod LoadParts
 pub mod Offers

@@ -1,7 +1,7 @@
 use Rattle.std.proofs.lemmas.Result.{err_from_is_err_and}
 use Rattle.link_tool.specs.Loads.{load_parts, load_plan}
 use Rattle.file_plans.proofs.Offers.{meets_end}
-use Rattle.link_tool.proofs.Generated.{load_starts}
+use Rattle.link_tool.proofs.LoadParts.{load_starts}
 use Rattle.link_tool.proofs.loads.load_start.Goals as goal
 
 pub returns-in_err-parts : goal.returns-in_err-parts
