@@ -8,8 +8,6 @@
 pub mod laws;
 mod lot;
 mod range;
-#[cfg(test)]
-mod tests;
 
 pub use cap_words::SealRange;
 pub use lot::{SealLot, SealToken, SiteSeal};

@@ -1,5 +1,5 @@
-//! Each call once, and what a lot of two seals gives.
-use crate::{SealLot, SealRange, SiteSeal, disjoint};
+//! What a lot of two seals gives, and which ranges of seals are disjoint.
+use seal_space::{SealLot, SealRange, SiteSeal, disjoint};
 use std::process::Abort;
 
 #[test]
