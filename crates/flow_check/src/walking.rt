@@ -4,7 +4,7 @@ ghost use Rattle.component_file.specs.Limits.{IsComponent};
 ghost use Rattle.component_check.specs.Rules.{is_at};
 ghost use Rattle.call_sequence.specs.Kinds.{entry_row, clean_row};
 ghost use Rattle.call_sequence.specs.Flow.{is_stk, flow};
-ghost use Rattle.call_sequence.specs.Walk.{instr_at, keep, comes_in, is_data, passes, site_ready};
+ghost use Rattle.call_sequence.specs.Walk.{instr_in, instr_at, keep, comes_in, is_data, passes, site_ready};
 ghost use Rattle.call_sequence.specs.Walk.{good_target, flow_of, after_flow, at_row, past, at_word, at_entry};
 ghost use Rattle.call_sequence.specs.Walk.{at_end, next_from};
 ghost use Rattle.call_sequence.specs.Verdict.{WalksTo, IsFirstOfFlow, flow_answer};
@@ -19,13 +19,22 @@ use component_check::{Broken, Group, Rule};
 use component_file::{Component, ComponentFields, Kind};
 use lcm_isa::{Instr, Reg, decode};
 
+fn instr_of(word: &Word) -> Option<Instr>
+    ensures { result ≡ instr_in (Some word.now) }
+{
+    match word {
+        Word::Int(z) => decode(*z),
+        _ => None,
+    }
+}
+
 #[tactic(auto, unfolding(call_sequence::specs::Walk::instr_at))]
 fn instr_at(c: &ComponentFields, at: u32) -> Option<Instr>
     ensures { result ≡ instr_at c.now at }
 {
     match c.code.as_slice().get(at as usize) {
-        Some(Word::Int(z)) => decode(*z),
-        _ => None,
+        Some(word) => instr_of(word),
+        None => None,
     }
 }
 
