@@ -2,29 +2,32 @@
 use Rattle.std.proofs.Common.{◌≡◌, Bool, true, false, ℕ, zero, suc, ◌+◌, ◌-◌, ◌≤◌, ◌<◌, ◌^◌, List, []}
 use Rattle.std.proofs.Common.{◌∷◌, ◌++◌, length, Option, Some, None, Result, Ok, Err, refl, sym, ap, subst}
 use Rattle.std.proofs.Common.{◌∙◌, append_assoc, arith, length-append, append-nil}
-use Rattle.std.specs.Prelude.{nat_lt, codes, is_some}
-use Rattle.proc_language.specs.declared.TheConstants.{MOST_TERMS}
+use Rattle.std.proofs.lemmas.Bool.{lt-ltb}
+use Rattle.std.specs.Prelude.{nat_lt, codes, is_some, IfOk, IfErr}
+use Rattle.proc_language.specs.declared.TheConstants.{MOST_TERMS, MOST_REGISTERS}
 use Rattle.proc_language.specs.declared.tree.Name.{Name}
 use Rattle.proc_language.specs.declared.tree.Op.{Op}
-use Rattle.readers.specs.Readers.{◌>>=◌, goes_on, done}
+use Rattle.readers.specs.Readers.{◌>>=◌, goes_on, done, holds}
 use Rattle.phrases.specs.Reading.{next_means, meant_in, behind, is_there, going, case_next}
 use Rattle.phrases.specs.Reading as readers
 use Rattle.phrases.proofs.Offers.{many_stop, many_go, more_behind}
 use Rattle.proc_grammar.specs.declared.fault.ParseFault.{ParseFault}
 use Rattle.proc_grammar.specs.declared.fault.ParseFault.TheVariants.{Scan, Expected, Range, TooMany, NoMemory}
 use Rattle.proc_grammar.specs.Fault.{Fails}
-use Rattle.proc_grammar.specs.Lexemes.{Meaning, adding, sign, square, round, end_round, a_proc}
+use Rattle.proc_grammar.specs.Lexemes.{Meaning, adding, sign, square, round, end_round, end_square, a_proc}
+use Rattle.proc_grammar.specs.Lexemes.{curly, end_curly}
 use Rattle.proc_grammar.specs.Lexemes.{Lexeme, word, token_word, words_of}
 use Rattle.proc_grammar.specs.Makes.{Actions}
 use Rattle.proc_grammar.specs.Grammar.{one_more, operated, sum_of, room_in_body}
 use Rattle.proc_grammar.specs.Reader.{Input, Reader, tells, many, one, expected, case_token}
 use Rattle.proc_grammar.specs.Reading.{full, another_term, next_term, inner_expr, next_expr, expr_with}
 use Rattle.proc_grammar.specs.Reading.{next_index, next_args, behind_name, of_index, of_call, next_stmts}
+use Rattle.proc_grammar.specs.Reading.{next_block, next_sum, next_name, name_term, some_args, arg_value}
 use Rattle.proc_grammar.specs.Reading.{stmts_with, inner_stmts, next_proc, next_module, next_header}
 use Rattle.proc_grammar.specs.Reading.{next_import, next_global}
-use Rattle.proc_parse.specs.Answers.{GivesAs}
-use Rattle.proc_parse.specs.Loops.{with_front, in_all, behind_first, listed}
-use Rattle.proc_parse.specs.Loops.{terms_behind, procs_behind, procs_list, fields_read}
+use Rattle.proc_parse.specs.Answers.{GivesAs, Gives, left_by}
+use Rattle.proc_parse.specs.Loops.{with_front, in_all, item_on, behind_some, listed}
+use Rattle.proc_parse.specs.Loops.{terms_behind, bracketed, fitting_name, procs_list, fields_read}
 
 pub large : 600 ≤ full
 unfolding full
@@ -34,7 +37,7 @@ pub full_is : full ≡ 2 ^ 64
 unfolding full
 full_is = refl
 
-fails_map : {A B : Type 0} (f : ParseFault) (read : Result A ParseFault) (all : Result B ParseFault)
+pub fails_map : {A B : Type 0} (f : ParseFault) (read : Result A ParseFault) (all : Result B ParseFault)
     → (read ≡ Err f → all ≡ Err f) → Fails f read → Fails f all
 fails_map (Scan s) read all h e = h e
 fails_map (Expected at) read all h e = h e
@@ -88,25 +91,25 @@ pub token_word_nowhere : {K : Type 0} (tokens : Option K) (w : List ℕ) (i : In
 token_word_nowhere {K} None w i e = no_word_is K w i.rest
 token_word_nowhere (Some k) w i e = absurd cc
 
+module _ {A B : Type 0} (m : Meaning A) (f : A → Reader B) (r : Reader B) (i k : Input) where
+  -- how it goes on after a token that is there
+  pub case_there : (x : A) → next_means m i ≡ Some x → k ≡ behind i → case_next m f r i ≡ f x k
+  unfolding case_next
+  case_there x there left = ap (λ q. going q f r i) there ∙ ap (f x) (sym left)
+
+  -- and where it isn't there
+  pub case_none : next_means m i ≡ None → k ≡ i → case_next m f r i ≡ r k
+  unfolding case_next
+  case_none none same = ap (λ q. going q f r i) none ∙ ap r (sym same)
+
+-- what was made, unless memory was refused
+pub unless_refused : {A : Type 0} (made : Result A ParseFault) (x : A) (left : Input)
+    (read : Result (A × Input) ParseFault) → IfOk made (λ y. y ≡ x) → IfErr made (λ e. e ≡ NoMemory)
+    → read ≡ Ok (x, left) → Gives made left read
+unless_refused (Ok y) x left read is fails reads = reads ∙ ap (λ z. Ok (z, left)) (sym is)
+unless_refused (Err e) x left read is fails reads = subst (λ f. Fails f read) (sym fails) tt
+
 -- ---- lists
-
--- what was read after a front
-front_ok : {A B : Type 0} (front : List A) (read : Result (List A × Input) ParseFault) (v : List A)
-    (j : Input) (g : List A → Reader B) → with_front front read ≡ Ok (v, j)
-    → goes_on read (λ xs. g (front ++ xs)) ≡ g v j
-unfolding with_front
-front_ok front (Ok y) v j g e =
-    let both : (front ++ y.0, y.1) ≡ (v, j) = cc in
-    ap (λ (p : List _ × Input). g p.0 p.1) both
-front_ok front (Err f) v j g e = absurd cc
-
-front_err : {A B : Type 0} (front : List A) (read : Result (List A × Input) ParseFault) (f : ParseFault)
-    (g : List A → Reader B) → Fails f (with_front front read) → Fails f (goes_on read (λ xs. g (front ++ xs)))
-unfolding with_front
-front_err front (Ok y) f g e = fails_map f (let r : Result (List _ × Input) ParseFault =
-    Ok (front ++ y.0, y.1) in r) (g (front ++ y.0) y.1) (λ h. absurd cc) e
-front_err front (Err d) f g e = fails_map f (let r : Result (List _ × Input) ParseFault = Err d in r)
-    (let r : Result (_ × Input) ParseFault = Err d in r) (λ h. cc) e
 
 module _ {Q A B : Type 0} (begins : Meaning B) (next : Q → A → Q) (r : Q → Reader A) where
   front_of : (front : List A) (x : A) (read : Result (List A × Input) ParseFault)
@@ -185,49 +188,128 @@ module _ {Q A B : Type 0} (begins : Meaning B) (next : Q → A → Q) (r : Q →
       ∙ ap (λ m. with_front [] (many m begins next r q i)) more
       ∙ front_none (many n begins next r q i)
 
-  -- one was read before
-  pub all_first : (q w : Q) (first : A) (i : Input) (v : List A) → v ≡ first ∷ [] → w ≡ next q first
-      → in_all begins next r (full + 1) v w i ≡ behind_first begins next r q first i
-  unfolding in_all behind_first
-  all_first q w first i v whole takes =
-      let more : full + 1 - 1 ≡ full = omega arith in
-      ap (λ l. with_front l (many (full + 1 - length l) begins next r w i)) whole
-      ∙ ap (λ m. with_front (first ∷ []) (many m begins next r w i)) more
-      ∙ ap (λ u. with_front (first ∷ []) (many full begins next r u i)) takes
+  -- ---- from the first one on
 
-  -- ---- up to the closing bracket
+  module _ (item : Q → Reader A) where
+    -- none yet
+    some_none : (q : Q) (i : Input) → behind_some begins next r item [] q i ≡ item_on begins next r item full
+        q i
+    unfolding behind_some
+    some_none q i =
+        let more : full - 0 ≡ full = omega arith in
+        ap (λ m. with_front [] (item_on begins next r item m q i)) more
+        ∙ front_none (item_on begins next r item full q i)
 
-  close : List A → Reader (List A)
-  close w = one (sign end_round) >>= λ z. done w
+    -- the beginning of a loop
+    pub some_begin : (v : List A) (w q : Q) (i : Input) → v ≡ [] → w ≡ q
+        → behind_some begins next r item v w i ≡ item_on begins next r item full q i
+    some_begin v w q i none same =
+        ap (λ l. behind_some begins next r item l w i) none
+        ∙ ap (λ u. behind_some begins next r item [] u i) same ∙ some_none q i
 
-  rest_of : Q → A → Reader (List A)
-  rest_of q x = many full begins next r (next q x) >>= λ xs. close (x ∷ xs)
+    -- one item more, and another stands next
+    pub some_step : (front : List A) (q : Q) (i : Input) (x : A) (j k : Input)
+        (all : Result (List A × Input) ParseFault) (v : List A) (w : Q)
+        → behind_some begins next r item front q i ≡ all → length front < full → item q i ≡ Ok (x, j)
+        → is_there (next_means begins j) ≡ true → ((u : Q) → r u j ≡ item u k)
+        → v ≡ front ++ x ∷ [] → w ≡ next q x → behind_some begins next r item v w k ≡ all
+    unfolding behind_some item_on more_behind
+    some_step front q i x j k all v w told few reads there same whole takes =
+        let len : length v ≡ length front + 1 = ap length whole ∙ length-append front (x ∷ []) in
+        let more : full - length front ≡ suc (full - length v) = omega (arith, few, len) in
+        let m = full - length v in
+        ap (λ l. with_front l (item_on begins next r item m w k)) whole
+        ∙ ap (λ u. with_front (front ++ x ∷ []) (item_on begins next r item m u k)) takes
+        ∙ ap (λ p. with_front (front ++ x ∷ []) (goes_on p (more_behind tells begins next r m (next q x))))
+        (sym (same (next q x)))
+        ∙ ap (with_front (front ++ x ∷ [])) (sym (many_go tells begins next r m (next q x) j there))
+        ∙ sym (front_of front x (many (suc m) begins next r (next q x) j))
+        ∙ ap (λ p. with_front front (goes_on p (more_behind tells begins next r (suc m) q))) (sym reads)
+        ∙ ap (λ n. with_front front (item_on begins next r item n q i)) (sym more) ∙ told
 
-  pub listed_go : (q : Q) (item : Q → Reader A) (i i1 i2 j : Input) (a : A) (v : List A) (u : ℕ)
-      → item q i ≡ Ok (a, i1) → behind_first begins next r q a i1 ≡ Ok (v, i2)
-      → one (sign end_round) i2 ≡ Ok (u, j) → listed begins next r q item i ≡ Ok (v, j)
-  unfolding close rest_of behind_first
-  listed_go q item i i1 i2 j a v u first rest closes =
-      ap (λ p. goes_on p (rest_of q)) first
-      ∙ front_ok (a ∷ []) (many full begins next r (next q a) i1) v i2 close rest
-      ∙ ap (λ p. goes_on p (λ z. done v)) closes
+    -- an item that isn't one
+    pub some_fault : (front : List A) (q : Q) (i : Input) (f : ParseFault)
+        (all : Result (List A × Input) ParseFault) → behind_some begins next r item front q i ≡ all
+        → Fails f (item q i) → Fails f all
+    unfolding behind_some item_on with_front more_behind
+    some_fault front q i f all told fails = fails_map f (item q i) all (λ e. sym told
+        ∙ ap (λ p. with_front front (goes_on p (more_behind tells begins next r (full - length front) q))) e)
+        fails
 
-  pub listed_bad : (q : Q) (item : Q → Reader A) (i i1 : Input) (a : A) (f : ParseFault)
-      → item q i ≡ Ok (a, i1) → Fails f (behind_first begins next r q a i1)
-      → Fails f (listed begins next r q item i)
-  unfolding close rest_of behind_first
-  listed_bad q item i i1 a f first fails =
-      subst (Fails f) (sym (ap (λ p. goes_on p (rest_of q)) first))
-      (front_err (a ∷ []) (many full begins next r (next q a) i1) f close fails)
+    -- the last item
+    pub some_end : (front : List A) (q : Q) (i : Input) (x : A) (j : Input)
+        (all : Result (List A × Input) ParseFault) (v : List A)
+        → behind_some begins next r item front q i ≡ all → item q i ≡ Ok (x, j)
+        → is_there (next_means begins j) ≡ false → v ≡ front ++ x ∷ [] → all ≡ Ok (v, j)
+    unfolding behind_some item_on more_behind
+    some_end front q i x j all v told reads none whole =
+        let m = full - length front in
+        sym told ∙ ap (λ p. with_front front (goes_on p (more_behind tells begins next r m q))) reads
+        ∙ front_of front x (many m begins next r (next q x) j)
+        ∙ front_end m (next q x) (front ++ x ∷ []) j none ∙ ap (λ l. Ok (l, j)) (sym whole)
 
-  pub listed_open : (q : Q) (item : Q → Reader A) (i i1 i2 : Input) (a : A) (v : List A) (f : ParseFault)
-      → item q i ≡ Ok (a, i1) → behind_first begins next r q a i1 ≡ Ok (v, i2)
-      → Fails f (one (sign end_round) i2) → Fails f (listed begins next r q item i)
-  unfolding close rest_of behind_first
-  listed_open q item i i1 i2 a v f first rest fails =
-      fails_map f (one (sign end_round) i2) _ (λ e. ap (λ p. goes_on p (rest_of q)) first
-      ∙ front_ok (a ∷ []) (many full begins next r (next q a) i1) v i2 close rest
-      ∙ ap (λ p. goes_on p (λ z. done v)) e) fails
+    -- ---- up to the closing bracket
+
+    close : List A → Reader (List A)
+    close w = one (sign end_round) >>= λ z. done w
+
+    closed_by : (x : A) (read : Result (List A × Input) ParseFault) → goes_on read (λ xs. close (x ∷ xs))
+        ≡ goes_on (goes_on read (λ xs. done (x ∷ xs))) close
+    closed_by x (Ok y) = refl
+    closed_by x (Err e) = refl
+
+    listed_by : (q : Q) (read : Result (A × Input) ParseFault)
+        → goes_on read (λ x. many full begins next r (next q x) >>= λ xs. close (x ∷ xs))
+        ≡ goes_on (goes_on read (λ x. many full begins next r (next q x) >>= λ xs. done (x ∷ xs))) close
+    listed_by q (Ok y) = closed_by y.0 (many full begins next r (next q y.0) y.1)
+    listed_by q (Err e) = refl
+
+    listed_is : (q : Q) (i : Input) → listed begins next r item q i
+        ≡ goes_on (item_on begins next r item full q i) close
+    unfolding item_on close
+    listed_is q i = listed_by q (item q i)
+
+    pub listed_fault : (q : Q) (i : Input) (f : ParseFault)
+        → Fails f (item_on begins next r item full q i) → Fails f (listed begins next r item q i)
+    listed_fault q i f fails = fails_map f (item_on begins next r item full q i) (listed begins next r item q
+        i)
+        (λ e. listed_is q i ∙ ap (λ p. goes_on p close) e) fails
+
+    pub listed_open : (q : Q) (i j k : Input) (v : List A) (f : ParseFault)
+        → item_on begins next r item full q i ≡ Ok (v, j) → k ≡ j → Fails f (one (sign end_round) k)
+        → Fails f (listed begins next r item q i)
+    unfolding close
+    listed_open q i j k v f reads same fails =
+        fails_map f (one (sign end_round) k) (listed begins next r item q i) (λ e. listed_is q i
+        ∙ ap (λ p. goes_on p close) reads
+        ∙ ap (λ p. goes_on p (λ z. done v)) (ap (one (sign end_round)) (sym same) ∙ e)) fails
+
+    pub listed_shut : (q : Q) (i j k l : Input) (v : List A) (u : ℕ)
+        → item_on begins next r item full q i ≡ Ok (v, j) → k ≡ j → one (sign end_round) k ≡ Ok (u, l)
+        → listed begins next r item q i ≡ Ok (v, l)
+    unfolding close
+    listed_shut q i j k l v u reads same closes = listed_is q i ∙ ap (λ p. goes_on p close) reads
+        ∙ ap (λ p. goes_on p (λ z. done v)) (ap (one (sign end_round)) (sym same) ∙ closes)
+
+-- what goes on after a token, where it was taken, and where it wasn't
+module _ {A B : Type 0} (m : Meaning A) (i k : Input) where
+  pub was_taken : (o : Option A) → o ≡ next_means m i → is_some o ≡ true → k ≡ left_by o i
+      → (is_there (next_means m i) ≡ true) × ((g : Reader B) → (one m >>= λ z. g) i ≡ g k)
+  unfolding readers.one case_next
+  was_taken None means is left = absurd cc
+  was_taken (Some x) means is left = (
+    ap is_there (sym means),
+    λ g. ap (λ q. goes_on (going q done expected i) (λ z. g)) (sym means) ∙ ap g (sym left),
+  )
+
+pub was_left : {A : Type 0} (m : Meaning A) (i k : Input) (o : Option A) → o ≡ next_means m i
+    → is_some o ≡ false → k ≡ left_by o i → (is_there (next_means m i) ≡ false) × (k ≡ i)
+was_left m i k None means is left = (ap is_there (sym means), left)
+was_left m i k (Some x) means is left = absurd cc
+
+-- a bracket may be opened
+opens : (room : ℕ) → 0 < room → nat_lt 0 room ≡ true
+opens room lt = lt-ltb 0 room lt
 
 module _ {E A S P V R M : Type 0} (T : Actions E A S P V R M) where
   -- ---- brackets
@@ -259,6 +341,40 @@ module _ {E A S P V R M : Type 0} (T : Actions E A S P V R M) where
       let same : suc n - 1 ≡ n = omega arith in
       subst (λ m. next_stmts T true full n i ≡ stmts_with T true full m
       (inner_stmts T true full m) i) (sym same) (of_block n i)
+
+  module _ (room : ℕ) (i j : Input) (at : ℕ) (opened : one (sign curly) i ≡ Ok (at, j)) (lt : 0 < room) where
+    in_block : next_block T true full room (inner_stmts T true full room) i ≡ goes_on (stmts_with T true full
+        (room - 1) (inner_stmts T true full (room - 1)) j)
+        (λ body. one (sign end_curly) >>= λ end. done (body, end))
+    unfolding next_block
+    in_block =
+        let rest = λ (body : List S). one (sign end_curly) >>= λ end. done (body, end) in
+        ap (λ q. goes_on q (λ at. holds (nat_lt 0 room) (TooMany at) >>= λ u. inner_stmts T true full room
+        >>= rest)) opened
+        ∙ ap (λ b. goes_on (holds b (TooMany at) j) (λ u. inner_stmts T true full room >>= rest)) (opens room
+        lt)
+        ∙ ap (λ q. goes_on q rest) (inner_stmts_is room j lt)
+
+    pub block_bad : (f : ParseFault) → Fails f (stmts_with T true full (room - 1)
+        (inner_stmts T true full (room - 1)) j)
+        → Fails f (next_block T true full room (inner_stmts T true full room) i)
+    block_bad f fails = fails_map f (stmts_with T true full (room - 1)
+        (inner_stmts T true full (room - 1)) j) _ (λ h. in_block
+        ∙ ap (λ q. goes_on q (λ body. one (sign end_curly) >>= λ end. done (body, end))) h) fails
+
+    pub block_open : (body : List S) (k : Input) (f : ParseFault) → stmts_with T true full (room - 1)
+        (inner_stmts T true full (room - 1)) j ≡ Ok (body, k) → Fails f (one (sign end_curly) k)
+        → Fails f (next_block T true full room (inner_stmts T true full room) i)
+    block_open body k f reads fails = fails_map f (one (sign end_curly) k) _ (λ h. in_block
+        ∙ ap (λ q. goes_on q (λ body. one (sign end_curly) >>= λ end. done (body, end))) reads
+        ∙ ap (λ q. goes_on q (λ end. done (body, end))) h) fails
+
+    pub block_shut : (body : List S) (k l : Input) (end : ℕ) → stmts_with T true full (room - 1)
+        (inner_stmts T true full (room - 1)) j ≡ Ok (body, k) → one (sign end_curly) k ≡ Ok (end, l)
+        → next_block T true full room (inner_stmts T true full room) i ≡ Ok ((body, end), l)
+    block_shut body k l end reads closes = in_block
+        ∙ ap (λ q. goes_on q (λ body. one (sign end_curly) >>= λ end. done (body, end))) reads
+        ∙ ap (λ q. goes_on q (λ end. done (body, end))) closes
 
   -- ---- sums
 
@@ -349,53 +465,182 @@ module _ {E A S P V R M : Type 0} (T : Actions E A S P V R M) where
       (ap (next_term T true full room (inner_expr T true full room)
       (nat_lt count MOST_TERMS)) (sym left) ∙ e)) fails
 
+  pub sum_begin : (room : ℕ) (fits : Bool) (i j : Input) (e : E)
+      → next_term T true full room (inner_expr T true full room) fits i ≡ Ok (e, j)
+      → next_sum T true full room (inner_expr T true full room) fits i ≡ terms_behind T room full 1 e j
+  unfolding next_sum terms_behind
+  sum_begin room fits i j e reads =
+      let more = many full adding one_more (another_term T true full room (inner_expr T true full room)) 1 in
+      ap (λ q. goes_on q (λ first. more >>= λ others. done (sum_of T first others))) reads
+
+  -- ---- in brackets
+
+  in_brackets : (room : ℕ) (fits : Bool) (end at : ℕ) (i : Input) → fits ≡ true → 0 < room
+      → bracketed T room fits end at i ≡ goes_on (expr_with T true full (room - 1)
+      (inner_expr T true full (room - 1)) true i) (λ e. one (sign end) >>= λ z. done e)
+  unfolding bracketed
+  in_brackets zero fits end at i fit lt = absurd (omega (arith, lt))
+  in_brackets (suc n) false end at i fit lt = absurd cc
+  in_brackets (suc n) true end at i fit lt =
+      ap (λ b. goes_on (holds b (TooMany at) i) (λ u. inner_expr T true full (suc n) true >>= λ e.
+      one (sign end) >>= λ z. done e)) (opens (suc n) lt)
+      ∙ ap (λ q. goes_on q (λ e. one (sign end) >>= λ z. done e)) (inner_is (suc n) true i lt)
+
+  module _ (room : ℕ) (fits : Bool) (end at : ℕ) (i : Input) (fit : fits ≡ true) (lt : 0 < room) where
+    pub bracketed_bad : (f : ParseFault) → Fails f (expr_with T true full (room - 1)
+        (inner_expr T true full (room - 1)) true i) → Fails f (bracketed T room fits end at i)
+    bracketed_bad f fails = fails_map f (expr_with T true full (room - 1)
+        (inner_expr T true full (room - 1)) true i) _ (λ h. in_brackets room fits end at i fit lt
+        ∙ ap (λ q. goes_on q (λ e. one (sign end) >>= λ z. done e)) h) fails
+
+    pub bracketed_open : (e : E) (j : Input) (f : ParseFault) → expr_with T true full (room - 1)
+        (inner_expr T true full (room - 1)) true i ≡ Ok (e, j) → Fails f (one (sign end) j)
+        → Fails f (bracketed T room fits end at i)
+    bracketed_open e j f reads fails = fails_map f (one (sign end) j) _ (λ h. in_brackets room fits end at i
+        fit lt
+        ∙ ap (λ q. goes_on q (λ y. one (sign end) >>= λ z. done y)) reads
+        ∙ ap (λ q. goes_on q (λ z. done e)) h) fails
+
+    pub bracketed_shut : (e : E) (j k : Input) (u : ℕ) → expr_with T true full (room - 1)
+        (inner_expr T true full (room - 1)) true i ≡ Ok (e, j) → one (sign end) j ≡ Ok (u, k)
+        → bracketed T room fits end at i ≡ Ok (e, k)
+    bracketed_shut e j k u reads closes = in_brackets room fits end at i fit lt
+        ∙ ap (λ q. goes_on q (λ y. one (sign end) >>= λ z. done y)) reads
+        ∙ ap (λ q. goes_on q (λ z. done e)) closes
+
   -- ---- after a name
 
+  fitted_by : (fits : Bool) (q : Result (Name × Input) ParseFault) (f : Name → Reader E) (x : Name) (j :
+      Input)
+      → goes_on q (λ y. holds fits (TooMany y.at) >>= λ u. done y) ≡ Ok (x, j)
+      → goes_on q (λ y. holds fits (TooMany y.at) >>= λ u. f y) ≡ f x j
+  fitted_by true (Ok y) f x j e =
+      let both : (y.0, y.1) ≡ (x, j) = cc in
+      ap (λ (p : Name × Input). f p.0 p.1) both
+  fitted_by false (Ok y) f x j e = absurd cc
+  fitted_by true (Err d) f x j e = absurd cc
+  fitted_by false (Err d) f x j e = absurd cc
+
+  unfit_by : (fits : Bool) (q : Result (Name × Input) ParseFault) (f : Name → Reader E) (d : ParseFault)
+      → Fails d (goes_on q (λ y. holds fits (TooMany y.at) >>= λ u. done y))
+      → Fails d (goes_on q (λ y. holds fits (TooMany y.at) >>= λ u. f y))
+  unfit_by true (Ok y) f d h = fails_map d (let r : Result (Name × Input) ParseFault = Ok (y.0, y.1) in r)
+      (f y.0 y.1) (λ k. absurd cc) h
+  unfit_by false (Ok y) f d h =
+      fails_map d (let r : Result (Name × Input) ParseFault = Err (TooMany y.0.at) in r)
+      (let r : Result (E × Input) ParseFault = Err (TooMany y.0.at) in r) (λ k. cc) h
+  unfit_by true (Err g) f d h = fails_map d (let r : Result (Name × Input) ParseFault = Err g in r)
+      (let r : Result (E × Input) ParseFault = Err g in r) (λ k. cc) h
+  unfit_by false (Err g) f d h = fails_map d (let r : Result (Name × Input) ParseFault = Err g in r)
+      (let r : Result (E × Input) ParseFault = Err g in r) (λ k. cc) h
+
   module _ (room : ℕ) where
-    pub name_index : (x : Name) (i k j : Input) (at : ℕ) (e b : E) → next_means (sign square) i ≡ Some at
-        → k ≡ behind i → next_index T true full room (inner_expr T true full room) at k ≡ Ok (e, j)
-        → b ≡ T.element x.at x e
-        → behind_name T true full room (inner_expr T true full room) x i ≡ Ok (b, j)
-    unfolding behind_name case_next
-    name_index x i k j at e b there left reads made =
-        ap (λ q. going q (of_index T true full room (inner_expr T true full room) x)
-        (case_next (sign round) (of_call T true full room (inner_expr T true full room) x)
-        (done (T.var x.at x))) i) there ∙ ap (λ q. goes_on q (λ y. done (T.element x.at x y)))
-        (ap (next_index T true full room (inner_expr T true full room) at) (sym left) ∙ reads)
-        ∙ ap (λ y. Ok (y, j)) (sym made)
+    pub unfit : (fits : Bool) (i : Input) (d : ParseFault) → Fails d (fitting_name T fits i)
+        → Fails d (name_term T true full room (inner_expr T true full room) fits i)
+    unfolding fitting_name name_term
+    unfit fits i d h = unfit_by fits (next_name (words_of T.tokens) true i)
+        (behind_name T true full room (inner_expr T true full room)) d h
 
-    pub name_call : (x : Name) (i i1 k j : Input) (at : ℕ) (v w : List A) (b : E)
-        → next_means (sign square) i ≡ None → i1 ≡ i → next_means (sign round) i1 ≡ Some at → k ≡ behind i1
-        → next_args T true full room (inner_expr T true full room) at k ≡ Ok (v, j) → w ≡ v
-        → b ≡ T.call x.at x w
-        → behind_name T true full room (inner_expr T true full room) x i ≡ Ok (b, j)
-    unfolding behind_name case_next
-    name_call x i i1 k j at v w b none same there left reads whole made =
-        ap (λ q. going q (of_index T true full room (inner_expr T true full room) x)
-        (case_next (sign round) (of_call T true full room (inner_expr T true full room) x)
-        (done (T.var x.at x))) i) none
-        ∙ ap (λ q. going q (of_call T true full room (inner_expr T true full room) x)
-        (done (T.var x.at x)) i) (ap (next_means (sign round)) (sym same) ∙ there)
-        ∙ ap (λ q. goes_on q (λ y. done (T.call x.at x y)))
-        (ap (next_args T true full room (inner_expr T true full room) at)
-        (ap behind (sym same) ∙ sym left) ∙ reads) ∙ ap (λ y. Ok (T.call x.at x y, j))
-        (sym whole) ∙ ap (λ y. Ok (y, j)) (sym made)
+    module _ (fits : Bool) (x : Name) (h i : Input) (named : fitting_name T fits h ≡ Ok (x, i)) where
+      fitted : name_term T true full room (inner_expr T true full room) fits h
+          ≡ behind_name T true full room (inner_expr T true full room) x i
+      unfolding fitting_name name_term
+      fitted = fitted_by fits (next_name (words_of T.tokens) true h)
+          (behind_name T true full room (inner_expr T true full room)) x i named
 
-    pub name_call_bad : (x : Name) (i i1 k : Input) (at : ℕ) (f : ParseFault)
-        → next_means (sign square) i ≡ None → i1 ≡ i → next_means (sign round) i1 ≡ Some at → k ≡ behind i1
-        → Fails f (next_args T true full room (inner_expr T true full room) at k)
-        → Fails f (behind_name T true full room (inner_expr T true full room) x i)
-    unfolding behind_name case_next
-    name_call_bad x i i1 k at f none same there left fails =
-        fails_map f (next_args T true full room (inner_expr T true full room) at k) _ (λ e.
-        ap (λ q. going q (of_index T true full room (inner_expr T true full room) x)
-        (case_next (sign round) (of_call T true full room (inner_expr T true full room) x)
-        (done (T.var x.at x))) i) none
-        ∙ ap (λ q. going q (of_call T true full room (inner_expr T true full room) x)
-        (done (T.var x.at x)) i) (ap (next_means (sign round)) (sym same) ∙ there)
-        ∙ ap (λ q. goes_on q (λ y. done (T.call x.at x y)))
-        (ap (next_args T true full room (inner_expr T true full room) at)
-        (ap behind (sym same) ∙ sym left) ∙ e)) fails
+      module _ (k : Input) (at : ℕ) (there : next_means (sign square) i ≡ Some at) (left : k ≡ behind i) where
+        at_index : name_term T true full room (inner_expr T true full room) fits h
+            ≡ goes_on (bracketed T room true end_square at k) (λ e. done (T.element x.at x e))
+        unfolding behind_name case_next bracketed next_index
+        at_index = fitted ∙ ap (λ q. going q (of_index T true full room (inner_expr T true full room) x)
+            (case_next (sign round) (of_call T true full room (inner_expr T true full room) x)
+            (done (T.var x.at x))) i) there
+            ∙ ap (of_index T true full room (inner_expr T true full room) x at) (sym left)
+
+        pub name_index : (j : Input) (e : E) → bracketed T room true end_square at k ≡ Ok (e, j)
+            → name_term T true full room (inner_expr T true full room) fits h ≡ Ok (T.element x.at x e, j)
+        name_index j e reads = at_index ∙ ap (λ q. goes_on q (λ y. done (T.element x.at x y))) reads
+
+        pub name_index_bad : (f : ParseFault) → Fails f (bracketed T room true end_square at k)
+            → Fails f (name_term T true full room (inner_expr T true full room) fits h)
+        name_index_bad f fails = fails_map f (bracketed T room true end_square at k) _ (λ e. at_index
+            ∙ ap (λ q. goes_on q (λ y. done (T.element x.at x y))) e) fails
+
+      module _ (i1 : Input) (none : next_means (sign square) i ≡ None) (same : i1 ≡ i) where
+        no_index : name_term T true full room (inner_expr T true full room) fits h
+            ≡ case_next (sign round) (of_call T true full room (inner_expr T true full room) x)
+            (done (T.var x.at x)) i1
+        unfolding behind_name case_next
+        no_index = fitted ∙ ap (λ q. going q (of_index T true full room (inner_expr T true full room) x)
+            (case_next (sign round) (of_call T true full room (inner_expr T true full room) x)
+            (done (T.var x.at x))) i) none
+            ∙ ap (case_next (sign round) (of_call T true full room (inner_expr T true full room) x)
+            (done (T.var x.at x))) (sym same)
+
+        pub name_var : (i2 : Input) (b : E) → next_means (sign round) i1 ≡ None → i2 ≡ i1 → b ≡ T.var x.at x
+            → name_term T true full room (inner_expr T true full room) fits h ≡ Ok (b, i2)
+        unfolding case_next
+        name_var i2 b nowhere stays made = no_index
+            ∙ ap (λ q. going q (of_call T true full room (inner_expr T true full room) x)
+            (done (T.var x.at x)) i1) nowhere ∙ ap (λ y. Ok (T.var x.at x, y)) (sym stays)
+            ∙ ap (λ y. Ok (y, i2)) (sym made)
+
+        module _ (k : Input) (at : ℕ) (there : next_means (sign round) i1 ≡ Some at) (left : k ≡ behind i1)
+          where
+            at_call : name_term T true full room (inner_expr T true full room) fits h
+                ≡ goes_on (next_args T true full room (inner_expr T true full room) at k)
+                (λ v. done (T.call x.at x v))
+            unfolding case_next
+            at_call = no_index ∙ ap (λ q. going q (of_call T true full room (inner_expr T true full room) x)
+                (done (T.var x.at x)) i1) there
+                ∙ ap (of_call T true full room (inner_expr T true full room) x at) (sym left)
+
+            pub name_call : (j : Input) (v w : List A) (b : E)
+                → next_args T true full room (inner_expr T true full room) at k ≡ Ok (v, j) → w ≡ v
+                → b ≡ T.call x.at x w
+                → name_term T true full room (inner_expr T true full room) fits h ≡ Ok (b, j)
+            name_call j v w b reads whole made = at_call
+                ∙ ap (λ q. goes_on q (λ y. done (T.call x.at x y))) reads
+                ∙ ap (λ y. Ok (T.call x.at x y, j)) (sym whole) ∙ ap (λ y. Ok (y, j)) (sym made)
+
+            pub name_call_bad : (f : ParseFault)
+                → Fails f (next_args T true full room (inner_expr T true full room) at k)
+                → Fails f (name_term T true full room (inner_expr T true full room) fits h)
+            name_call_bad f fails =
+                fails_map f (next_args T true full room (inner_expr T true full room) at k) _ (λ e. at_call
+                ∙ ap (λ q. goes_on q (λ y. done (T.call x.at x y))) e) fails
+
+  -- ---- arguments
+
+  pub args_some : (room at : ℕ) (i j : Input) (o : Option ℕ) → 0 < room → o ≡ next_means (sign end_round) i
+      → is_some o ≡ false → j ≡ left_by o i → next_args T true full room (inner_expr T true full room) at i
+      ≡ some_args T true full room (inner_expr T true full room) j
+  unfolding next_args case_next
+  args_some room at i j None lt means is left =
+      let some = some_args T true full room (inner_expr T true full room) in
+      ap (λ b. goes_on (holds b (TooMany at) i) (λ u. case_next (sign end_round) (λ end. done []) some))
+      (opens room lt)
+      ∙ ap (λ q. going q (λ end. done []) some i) (sym means) ∙ ap some (sym left)
+  args_some room at i j (Some x) lt means is left = absurd cc
+
+  module _ (room used : ℕ) (i : Input) (lt : 0 < room) where
+    value_is : arg_value T true full room (inner_expr T true full room) used i ≡ goes_on (expr_with T true
+        full
+        (room - 1) (inner_expr T true full (room - 1)) (nat_lt used MOST_REGISTERS) i) (λ e. done (T.value e))
+    unfolding arg_value
+    value_is = ap (λ q. goes_on q (λ e. done (T.value e))) (inner_is room (nat_lt used MOST_REGISTERS) i lt)
+
+    pub value_read : (e : E) (j : Input) → expr_with T true full (room - 1)
+        (inner_expr T true full (room - 1)) (nat_lt used MOST_REGISTERS) i ≡ Ok (e, j)
+        → arg_value T true full room (inner_expr T true full room) used i ≡ Ok (T.value e, j)
+    value_read e j reads = value_is ∙ ap (λ q. goes_on q (λ y. done (T.value y))) reads
+
+    pub value_bad : (f : ParseFault) → Fails f (expr_with T true full (room - 1)
+        (inner_expr T true full (room - 1)) (nat_lt used MOST_REGISTERS) i)
+        → Fails f (arg_value T true full room (inner_expr T true full room) used i)
+    value_bad f fails = fails_map f (expr_with T true full (room - 1)
+        (inner_expr T true full (room - 1)) (nat_lt used MOST_REGISTERS) i) _
+        (λ h. value_is ∙ ap (λ q. goes_on q (λ y. done (T.value y))) h) fails
 
   -- ---- modules
 
@@ -405,21 +650,22 @@ module _ {E A S P V R M : Type 0} (T : Actions E A S P V R M) where
   goes_on_same (Err e) f g h = refl
 
   front_same : {X Y : Type 0} (x : X) (read : Result (List X × Input) ParseFault) (g : List X → Y)
-      → goes_on read (λ xs. done (g (x ∷ xs))) ≡ goes_on (with_front (x ∷ []) read) (λ v. done (g v))
-  unfolding with_front
+      → goes_on read (λ xs. done (g (x ∷ xs))) ≡ goes_on (goes_on read (λ xs. done (x ∷ xs))) (λ v. done (g
+      v))
   front_same x (Ok y) g = refl
   front_same x (Err e) g = refl
 
   procs_same : {Y : Type 0} (q : Result (R × Input) ParseFault) (g : List R → Y)
-      → goes_on q (λ first. many full a_proc one_more (next_proc T true full room_in_body) 1
-      >>= λ procs. done (g (first ∷ procs))) ≡ goes_on (goes_on q (procs_behind T)) (λ v. done (g v))
-  unfolding behind_first
+      → let next = next_proc T true full room_in_body in
+      goes_on q (λ first. many full a_proc one_more next 1 >>= λ procs. done (g (first ∷ procs)))
+      ≡ goes_on (goes_on q (λ first. many full a_proc one_more next 1 >>= λ procs. done (first ∷ procs)))
+      (λ v. done (g v))
   procs_same (Ok x) g =
       front_same x.0 (many full a_proc one_more (next_proc T true full room_in_body) 1 x.1) g
   procs_same (Err e) g = refl
 
   pub module_is : (i : Input) → next_module T true full room_in_body i ≡ fields_read T i
-  unfolding next_module fields_read procs_list
+  unfolding next_module fields_read procs_list item_on
   module_is i =
       let more_imports = many full (word (codes "import")) one_more (next_import
       (words_of T.tokens) true) 0 in

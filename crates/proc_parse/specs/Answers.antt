@@ -1,11 +1,13 @@
 -- What the calls of reading answer.
 use Rattle.std.specs.Prelude.{◌≡◌, ℕ, ◌+◌, ◌≤◌, List, [], ◌∷◌, length, Option, Some, None, Result, Ok, Err}
+use Rattle.std.specs.Prelude.{option_map}
 use Rattle.text_scan.specs.declared.token.Token.{Token}
 use Rattle.phrases.specs.Reading.{behind}
 use Rattle.proc_grammar.specs.declared.fault.ParseFault.{ParseFault}
 use Rattle.proc_grammar.specs.Fault.{Fails}
 use Rattle.proc_language.specs.declared.TheConstants.{MOST_TOKENS}
 use Rattle.proc_grammar.specs.Grammar.{Taken}
+use Rattle.proc_grammar.specs.Lexemes.{Meaning, name_text}
 use Rattle.proc_grammar.specs.Reader.{Input}
 
 -- the tokens lie within the text
@@ -22,6 +24,10 @@ GivesAs view (Err e) left read = Fails e read
 
 abbrev pub Gives : {A : Type 0} → Result A ParseFault → Input → Result (A × Input) ParseFault → Type 0
 Gives answer left read = GivesAs (λ x. x) answer left read
+
+-- the bytes and the place of a name or a word
+abbrev pub text_at : Meaning (List ℕ × ℕ)
+text_at t = option_map (λ text. (text, t.at)) (name_text t.kind t.text)
 
 -- what is left where the next token was taken, if it meant something
 abbrev pub left_by : {A : Type 0} → Option A → Input → Input

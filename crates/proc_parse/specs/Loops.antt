@@ -1,12 +1,14 @@
 -- What is read after what was read before.
-use Rattle.std.specs.Prelude.{ℕ, ◌-◌, true, codes, length, List, [], ◌∷◌, ◌++◌, Result}
-use Rattle.readers.specs.Readers.{◌>>=◌, goes_on, done}
+use Rattle.std.specs.Prelude.{ℕ, ◌-◌, nat_lt, Bool, true, codes, length, List, [], ◌∷◌, ◌++◌, Result}
+use Rattle.readers.specs.Readers.{◌>>=◌, goes_on, done, holds}
+use Rattle.proc_language.specs.declared.tree.Name.{Name}
+use Rattle.proc_grammar.specs.declared.fault.ParseFault.TheVariants.{TooMany}
 use Rattle.proc_grammar.specs.declared.fault.ParseFault.{ParseFault}
-use Rattle.proc_grammar.specs.Lexemes.{Meaning, adding, sign, comma, end_round, a_proc, word, words_of}
+use Rattle.proc_grammar.specs.Lexemes.{Meaning, adding, sign, end_round, a_proc, word, words_of}
 use Rattle.proc_grammar.specs.Makes.{Actions}
-use Rattle.proc_grammar.specs.Grammar.{one_more, sum_of, room_in_body, none_taken, behind_arg, behind_param}
+use Rattle.proc_grammar.specs.Grammar.{one_more, sum_of, room_in_body}
 use Rattle.proc_grammar.specs.Reader.{Input, Reader, one, many}
-use Rattle.proc_grammar.specs.Reading.{full, another_term, another_arg, inner_expr, another_param}
+use Rattle.proc_grammar.specs.Reading.{full, another_term, inner_expr, next_name}
 use Rattle.proc_grammar.specs.Reading.{next_proc, next_header, next_import, next_global}
 
 -- items after others
@@ -20,17 +22,25 @@ module _ {Q A B : Type 0} (begins : Meaning B) (next : Q → A → Q) (another :
   unfoldable pub in_all : ℕ → List A → Q → Reader (List A)
   in_all n front q i = with_front front (many (n - length front) begins next another q i)
 
-  -- after the first one, which was read in this state, and that
-  unfoldable pub behind_first : Q → A → Reader (List A)
-  behind_first q first i = with_front (first ∷ []) (many full begins next another (next q first) i)
+  module _ (item : Q → Reader A) where
+    -- an item in this state, and those behind it; n of these at most
+    unfoldable pub item_on : ℕ → Q → Reader (List A)
+    item_on n q = do
+      first ← item q
+      others ← many n begins next another (next q first)
+      done (first ∷ others)
 
-  -- from the first one up to the closing bracket
-  abbrev pub listed : Q → (Q → Reader A) → Reader (List A)
-  listed q one_item = do
-    first ← one_item q
-    others ← many full begins next another (next q first)
-    _ ← one (sign end_round)
-    done (first ∷ others)
+    -- after some, where an item stands next
+    unfoldable pub behind_some : List A → Q → Reader (List A)
+    behind_some front q i = with_front front (item_on (full - length front) q i)
+
+    -- from the first one up to the closing bracket
+    abbrev pub listed : Q → Reader (List A)
+    listed q = do
+      first ← item q
+      others ← many full begins next another (next q first)
+      _ ← one (sign end_round)
+      done (first ∷ others)
 
 module _ {E A S P V R M : Type 0} (T : Actions E A S P V R M) where
   -- the terms after the sum so far, which has so many
@@ -39,21 +49,25 @@ module _ {E A S P V R M : Type 0} (T : Actions E A S P V R M) where
       many n adding one_more (another_term T true full room (inner_expr T true full room)) count
       >>= λ others. done (sum_of T sum others)
 
-  -- the arguments after the first one, and that
-  abbrev pub args_behind : ℕ → A → Reader (List A)
-  args_behind room =
-      behind_first (sign comma) (behind_arg T) (another_arg T true full room (inner_expr T true full room)) 0
+  -- an expression and the closing bracket, after the opening one at this place, where that fits
+  unfoldable pub bracketed : ℕ → Bool → ℕ → ℕ → Reader E
+  bracketed room fits end at = do
+    _ ← holds fits (TooMany at)
+    _ ← holds (nat_lt 0 room) (TooMany at)
+    e ← inner_expr T true full room true
+    _ ← one (sign end)
+    done e
 
-  -- the parameters after the first one, and that
-  abbrev pub params_behind : P → Reader (List P)
-  params_behind = behind_first (sign comma) (behind_param T) (another_param T true full) none_taken
-
-  -- the procedures after the first one, and that
-  abbrev pub procs_behind : R → Reader (List R)
-  procs_behind = behind_first a_proc one_more (next_proc T true full room_in_body) 0
+  -- a name, where it fits
+  unfoldable pub fitting_name : Bool → Reader Name
+  fitting_name fits = do
+    x ← next_name (words_of T.tokens) true
+    _ ← holds fits (TooMany x.at)
+    done x
 
   unfoldable pub procs_list : Reader (List R)
-  procs_list = next_proc T true full room_in_body 0 >>= procs_behind
+  procs_list =
+      item_on a_proc one_more (next_proc T true full room_in_body) (next_proc T true full room_in_body) full 0
 
   -- a module, its procedures read as one list
   unfoldable pub fields_read : Reader M

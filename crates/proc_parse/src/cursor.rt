@@ -1,7 +1,7 @@
 //! What is left of the tokens.
 ghost use Rattle.std.specs.Prelude.{◌≡◌, ◌==◌, ◌<◌, ◌≤◌, nat_le, true, map, length, option_map, IfOk};
 ghost use Rattle.std.specs.Prelude.{Some, IfSome, is_some};
-ghost use Rattle.proc_parse.specs.Answers.{InText, GivesAs, Gives, left_by};
+ghost use Rattle.proc_parse.specs.Answers.{InText, GivesAs, Gives, left_by, text_at};
 ghost use Rattle.phrases.specs.Reading.{next_means, behind, is_there};
 ghost use Rattle.proc_grammar.specs.Lexemes.{seen, word, a_name, a_number, sign, adding, comparing};
 ghost use Rattle.proc_grammar.specs.Lexemes.{a_start, start_in, a_proc, a_local, words_of, token_word};
@@ -63,13 +63,31 @@ impl<'a, 'b> TokenCursor<'a, 'b> {
         }
     }
 
-    // The next token, and what is after it.
-    fn skip(&mut self)
-        requires { 0 < length self.old.rest }
-        ensures { self.new ≡ behind self.old }
+    // What the next token means, which is taken where it means something.
+    fn taken<T>(&mut self, meant: Option<T>) -> Option<T>
+        ensures value { result ≡ meant }
+        ensures left { self.new ≡ left_by meant self.old }
     {
-        let (_, rest) = self.rest.split_at(1);
-        self.rest = rest;
+        if meant.is_some()
+            && let Some((_, rest)) = self.rest.split_first()
+        {
+            self.rest = rest;
+        }
+        meant
+    }
+
+    // The bytes and the place of the next token where it is a name or a word.
+    fn at_text(&self) -> Option<(&'a [u8], u32)>
+        ensures { option_map (λ t. (t.0.now, t.1)) result ≡ next_means text_at self.now }
+    {
+        let token = self.rest.first()?;
+        match token.kind {
+            TokenKind::Name => {
+                let (at, len) = (token.at as usize, token.len as usize);
+                Some((&self.text[at..at + len], token.at))
+            }
+            _ => None,
+        }
     }
 
     // The place of the next token where it is this word.
@@ -77,10 +95,8 @@ impl<'a, 'b> TokenCursor<'a, 'b> {
     fn at_word(&self, wanted: &[u8]) -> Option<u32>
         ensures { result ≡ next_means (word wanted.now) self.now }
     {
-        let token = self.rest.first()?;
-        let (at, len) = (token.at as usize, token.len as usize);
-        match token.kind {
-            TokenKind::Name if &self.text[at..at + len] == wanted => Some(token.at),
+        match self.at_text() {
+            Some((text, at)) if text == wanted => Some(at),
             _ => None,
         }
     }
@@ -90,9 +106,14 @@ impl<'a, 'b> TokenCursor<'a, 'b> {
     fn at_sign(&self, wanted: u8) -> Option<u32>
         ensures { result ≡ next_means (sign wanted) self.now }
     {
-        let token = self.rest.first()?;
-        match token.kind {
-            TokenKind::Sign(byte) if byte == wanted => Some(token.at),
+        match self.rest.first() {
+            Some(
+                Token {
+                    kind: TokenKind::Sign(byte),
+                    at,
+                    ..
+                },
+            ) if *byte == wanted => Some(*at),
             _ => None,
         }
     }
@@ -139,13 +160,9 @@ impl<'a, 'b> TokenCursor<'a, 'b> {
     pub fn starts_stmt<L: Language>(&self) -> bool
         ensures { result ≡ is_there (next_means (a_start L.made.tokens) self.now) }
     {
-        let Some(token) = self.rest.first() else {
-            return false;
-        };
-        let (at, len) = (token.at as usize, token.len as usize);
-        match token.kind {
-            TokenKind::Name => starts_stmt::<L>(&self.text[at..at + len]),
-            _ => false,
+        match self.at_text() {
+            Some((text, _)) => starts_stmt::<L>(text),
+            None => false,
         }
     }
 
@@ -154,9 +171,8 @@ impl<'a, 'b> TokenCursor<'a, 'b> {
         ensures value { result ≡ next_means (word wanted.now) self.old }
         ensures left { self.new ≡ left_by result self.old }
     {
-        let at = self.at_word(wanted)?;
-        self.skip();
-        Some(at)
+        let meant = self.at_word(wanted);
+        self.taken(meant)
     }
 
     /// Takes the next token where it is this word and the language has tokens, and tells its place.
@@ -177,9 +193,8 @@ impl<'a, 'b> TokenCursor<'a, 'b> {
         ensures value { result ≡ next_means (sign wanted) self.old }
         ensures left { self.new ≡ left_by result self.old }
     {
-        let at = self.at_sign(wanted)?;
-        self.skip();
-        Some(at)
+        let meant = self.at_sign(wanted);
+        self.taken(meant)
     }
 
     /// The word, and its place.
@@ -187,10 +202,8 @@ impl<'a, 'b> TokenCursor<'a, 'b> {
     pub fn word(&mut self, wanted: &[u8]) -> Result<u32, ParseFault>
         ensures { Gives result self.new (one (word wanted.now) self.old) }
     {
-        match self.take_word(wanted) {
-            Some(at) => Ok(at),
-            None => Err(ParseFault::Expected(self.place())),
-        }
+        let taken = self.take_word(wanted);
+        taken.ok_or(ParseFault::Expected(self.place()))
     }
 
     /// The sign, and its place.
@@ -198,10 +211,8 @@ impl<'a, 'b> TokenCursor<'a, 'b> {
     pub fn sign(&mut self, wanted: u8) -> Result<u32, ParseFault>
         ensures { Gives result self.new (one (sign wanted) self.old) }
     {
-        match self.take_sign(wanted) {
-            Some(at) => Ok(at),
-            None => Err(ParseFault::Expected(self.place())),
-        }
+        let taken = self.take_sign(wanted);
+        taken.ok_or(ParseFault::Expected(self.place()))
     }
 
     // The name that stands next, and its place.
@@ -210,12 +221,9 @@ impl<'a, 'b> TokenCursor<'a, 'b> {
         ensures { option_map (λ n. record { text = n.0.now; at = n.1 })
             result ≡ next_means (a_name (words_of L.made.tokens)) self.now }
     {
-        let token = self.rest.first()?;
-        let (at, len) = (token.at as usize, token.len as usize);
-        let text = &self.text[at..at + len];
-        match token.kind {
-            TokenKind::Name if !L::is_reserved(text) => Some((text, token.at)),
-            _ => None,
+        match self.at_text() {
+            Some((text, _)) if L::is_reserved(text) => None,
+            named => named,
         }
     }
 
@@ -224,9 +232,14 @@ impl<'a, 'b> TokenCursor<'a, 'b> {
     fn at_number(&self) -> Option<(u64, u32)>
         ensures { option_map (λ n. record { value = n.0; at = n.1 }) result ≡ next_means a_number self.now }
     {
-        let token = self.rest.first()?;
-        match token.kind {
-            TokenKind::Number(value) => Some((value, token.at)),
+        match self.rest.first() {
+            Some(
+                Token {
+                    kind: TokenKind::Number(value),
+                    at,
+                    ..
+                },
+            ) => Some((*value, *at)),
             _ => None,
         }
     }
@@ -236,10 +249,10 @@ impl<'a, 'b> TokenCursor<'a, 'b> {
     pub fn name<L: Language>(&mut self, alloc: Global) -> Result<Name, ParseFault>
         ensures { Gives result self.new (next_name (words_of L.made.tokens) true self.old) }
     {
-        let Some((text, at)) = self.at_name::<L>() else {
+        let named = self.at_name::<L>();
+        let Some((text, at)) = self.taken(named) else {
             return Err(ParseFault::Expected(self.place()));
         };
-        self.skip();
         if text.len() > LONGEST_NAME as usize {
             return Err(ParseFault::Range(at));
         }
@@ -252,8 +265,7 @@ impl<'a, 'b> TokenCursor<'a, 'b> {
     fn at_adding(&self) -> Option<Op>
         ensures { result ≡ next_means adding self.now }
     {
-        let token = self.rest.first()?;
-        match token.kind {
+        match self.rest.first()?.kind {
             TokenKind::Sign(b'+') => Some(Op::Plus),
             TokenKind::Sign(b'-') => Some(Op::Minus),
             _ => None,
@@ -265,8 +277,7 @@ impl<'a, 'b> TokenCursor<'a, 'b> {
     fn at_comparing(&self) -> Option<Op>
         ensures { result ≡ next_means comparing self.now }
     {
-        let token = self.rest.first()?;
-        match token.kind {
+        match self.rest.first()?.kind {
             TokenKind::Sign(b'<') => Some(Op::Less),
             TokenKind::Equal => Some(Op::Equal),
             _ => None,
@@ -278,9 +289,8 @@ impl<'a, 'b> TokenCursor<'a, 'b> {
         ensures value { result ≡ next_means adding self.old }
         ensures left { self.new ≡ left_by result self.old }
     {
-        let op = self.at_adding()?;
-        self.skip();
-        Some(op)
+        let meant = self.at_adding();
+        self.taken(meant)
     }
 
     /// Takes the next token where it is `<` or `==`.
@@ -288,9 +298,8 @@ impl<'a, 'b> TokenCursor<'a, 'b> {
         ensures value { result ≡ next_means comparing self.old }
         ensures left { self.new ≡ left_by result self.old }
     {
-        let op = self.at_comparing()?;
-        self.skip();
-        Some(op)
+        let meant = self.at_comparing();
+        self.taken(meant)
     }
 
     /// Takes the next token where it is a number, and tells its value and place.
@@ -299,9 +308,8 @@ impl<'a, 'b> TokenCursor<'a, 'b> {
             result ≡ next_means a_number self.old }
         ensures left { self.new ≡ left_by result self.old }
     {
-        let number = self.at_number()?;
-        self.skip();
-        Some(number)
+        let meant = self.at_number();
+        self.taken(meant)
     }
 
     /// A number of at most this.

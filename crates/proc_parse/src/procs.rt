@@ -1,14 +1,14 @@
 //! Procedures.
 ghost use Rattle.std.specs.Prelude.{◌≡◌, true, codes, ◌<◌, ◌≤◌, ◌+◌, IfOk, OnOk, Ok, sum_by, is_some};
 ghost use Rattle.proc_parse.specs.Answers.{GivesAs, Gives};
-ghost use Rattle.proc_parse.specs.Loops.{params_behind, procs_list, procs_behind};
+ghost use Rattle.proc_parse.specs.Loops.{procs_list};
 ghost use Rattle.proc_language.specs.declared.TheConstants.{MOST_ITEMS, MOST_REGISTERS, MOST_LOCALS};
 ghost use Rattle.proc_language.specs.declared.TheConstants.{MOST_TOKENS};
 ghost use Rattle.proc_grammar.specs.Lexemes.{a_local};
 ghost use Rattle.proc_grammar.specs.Reader.{many};
 ghost use Rattle.proc_grammar.specs.Grammar.{behind_param, behind_local, none_taken, room_in_body};
 ghost use Rattle.proc_parse.specs.Answers.{AreFew, GivesBy};
-ghost use Rattle.proc_grammar.specs.Reading.{full, arity_behind, next_param, another_param, some_params};
+ghost use Rattle.proc_grammar.specs.Reading.{full, arity_behind, next_param, some_params};
 ghost use Rattle.proc_grammar.specs.Reading.{next_params, next_local, plain_param, token_param};
 ghost use Rattle.proc_grammar.specs.Reading.{plain_local, token_local};
 ghost use Rattle.proc_grammar.specs.Reading.{next_stmts, proc_behind, next_proc};
@@ -103,20 +103,6 @@ fn param<L: Language>(
     }
 }
 
-#[tactic(auto, unfolding(proc_grammar::specs::Reading::another_param))]
-fn another<L: Language>(
-    alloc: Global,
-    tokens: &mut TokenCursor<'_, '_>,
-    used: Taken,
-) -> Result<L::Param, ParseFault>
-    requires { AreFew MOST_REGISTERS used }
-    ensures exact { Gives result tokens.new (another_param L.made true full used tokens.old) }
-    ensures few { IfOk result (λ p. AreFew MOST_REGISTERS (behind_param L.made used p)) }
-{
-    tokens.sign(b',')?;
-    param::<L>(alloc, tokens, used)
-}
-
 // What is taken after a parameter.
 fn behind_param<L: Language>(used: Taken, param: &L::Param) -> Taken
     requires { AreFew MOST_REGISTERS (behind_param L.made used param.now) }
@@ -135,31 +121,7 @@ struct ParamList<P: Drop> {
     tokens: u32,
 }
 
-// The parameters after the first one, and that.
-fn more_params<L: Language>(
-    alloc: Global,
-    tokens: &mut TokenCursor<'_, '_>,
-    first: L::Param,
-) -> Result<ParamList<L::Param>, ParseFault>
-    requires { AreFew MOST_REGISTERS (behind_param L.made none_taken first) }
-    ensures exact { GivesAs (λ p. p.params.items) result tokens.new
-        (params_behind L.made first tokens.old) }
-    ensures count { IfOk result (λ p. p.tokens ≡ sum_by L.made.param_tokens p.params.items) }
-    ensures few { IfOk result (λ p. p.tokens ≤ MOST_TOKENS) }
-{
-    let mut used = behind_param::<L>(NONE_TAKEN, &first);
-    let mut params = Vec::new(alloc);
-    params.push(first)?;
-    while tokens.is_sign(b',') {
-        let next = another::<L>(alloc, tokens, used)?;
-        used = behind_param::<L>(used, &next);
-        params.push(next)?;
-    }
-    let tokens = used.tokens;
-    Ok(ParamList { params, tokens })
-}
-
-#[tactic(auto, unfolding(proc_grammar::specs::Reading::some_params))]
+// The parameters up to the closing bracket; there is one at least.
 fn some_params<L: Language>(
     alloc: Global,
     tokens: &mut TokenCursor<'_, '_>,
@@ -169,10 +131,18 @@ fn some_params<L: Language>(
     ensures count { IfOk result (λ p. p.tokens ≡ sum_by L.made.param_tokens p.params.items) }
     ensures few { IfOk result (λ p. p.tokens ≤ MOST_TOKENS) }
 {
-    let first = param::<L>(alloc, tokens, NONE_TAKEN)?;
-    let params = more_params::<L>(alloc, tokens, first)?;
-    tokens.sign(b')')?;
-    Ok(params)
+    let mut params = Vec::new(alloc);
+    let mut used = NONE_TAKEN;
+    loop {
+        let next = param::<L>(alloc, tokens, used)?;
+        used = behind_param::<L>(used, &next);
+        params.push(next)?;
+        if tokens.take_sign(b',').is_none() {
+            tokens.sign(b')')?;
+            let tokens = used.tokens;
+            return Ok(ParamList { params, tokens });
+        }
+    }
 }
 
 // The list of parameters in its brackets.
@@ -339,29 +309,18 @@ fn proc<L: Language>(
 }
 
 /// The procedures.
-#[tactic(auto, unfolding(crate::specs::Loops::procs_list))]
 pub fn procs<L: Language>(
     alloc: Global,
     tokens: &mut TokenCursor<'_, '_>,
 ) -> Result<Vec<L::Proc>, ParseFault>
     ensures { GivesAs (λ v. v.items) result tokens.new (procs_list L.made tokens.old) }
 {
-    let first = proc::<L>(alloc, tokens, 0)?;
-    more_procs::<L>(alloc, tokens, first)
-}
-
-fn more_procs<L: Language>(
-    alloc: Global,
-    tokens: &mut TokenCursor<'_, '_>,
-    first: L::Proc,
-) -> Result<Vec<L::Proc>, ParseFault>
-    ensures { GivesAs (λ v. v.items) result tokens.new (procs_behind L.made first tokens.old) }
-{
     let mut procs = Vec::new(alloc);
-    procs.push(first)?;
-    while tokens.starts_proc() {
+    loop {
         let next = proc::<L>(alloc, tokens, procs.len() as u32)?;
         procs.push(next)?;
+        if !tokens.starts_proc() {
+            return Ok(procs);
+        }
     }
-    Ok(procs)
 }

@@ -3,13 +3,13 @@ ghost use Rattle.std.specs.Prelude.{◌≡◌, true, ◌<◌, Ok, is_some};
 ghost use Rattle.proc_parse.specs.Answers.{GivesAs, Gives, GivesBy};
 ghost use Rattle.proc_grammar.specs.Reading.{full, next_stmts, inner_stmts, stmts_with, next_stmt};
 ghost use Rattle.proc_grammar.specs.Reading.{plain_stmt};
-ghost use Rattle.proc_grammar.specs.Reading.{next_block, next_else, if_behind, while_behind};
+ghost use Rattle.proc_grammar.specs.Reading.{next_block, if_behind, while_behind};
 ghost use Rattle.proc_grammar.specs.Reading.{return_behind, halt_behind, behind_target, set_behind};
 ghost use Rattle.proc_grammar.specs.Reading.{token_behind};
 ghost use Rattle.proc_grammar.specs.Reading.{set_at_behind, calls_behind, name_stmt};
 
 use crate::cursor::TokenCursor;
-use crate::exprs::{args, index, whole};
+use crate::exprs::{args, bracketed, whole};
 use cap_words::Items;
 use proc_grammar::{Language, ParseFault};
 use proc_language::Name;
@@ -143,26 +143,13 @@ fn block<L: Language>(
     if room == 0 {
         return Err(ParseFault::TooMany(at));
     }
-    let stmts = Items::of(inner::<L>(alloc, tokens, room)?);
+    let stmts = Items::of(stmts::<L>(alloc, tokens, room - 1)?);
     let end = tokens.sign(b'}')?;
     Ok(Braced { stmts, end })
 }
 
-// The statements inside one more bracket.
 #[cycle(stmt)]
-fn inner<L: Language>(
-    alloc: Global,
-    tokens: &mut TokenCursor<'_, '_>,
-    room: u32,
-) -> Result<Vec<L::Stmt>, ParseFault>
-    requires { 0 < room }
-    ensures { GivesAs (λ v. v.items) result tokens.new (inner_stmts L.made true full room tokens.old) }
-{
-    stmts::<L>(alloc, tokens, room - 1)
-}
-
-#[cycle(stmt)]
-#[tactic(auto, unfolding(proc_grammar::specs::Reading::if_behind))]
+#[tactic(auto, unfolding(proc_grammar::specs::Reading::if_behind, proc_grammar::specs::Reading::next_else, phrases::specs::Reading::case_next))]
 fn if_stmt<L: Language>(
     alloc: Global,
     tokens: &mut TokenCursor<'_, '_>,
@@ -174,23 +161,6 @@ fn if_stmt<L: Language>(
 {
     let condition = whole::<L>(alloc, tokens, room)?;
     let body = block::<L>(alloc, tokens, room)?;
-    if_else::<L>(alloc, tokens, room, at, condition, body)
-}
-
-#[cycle(stmt)]
-#[tactic(auto, unfolding(proc_grammar::specs::Reading::next_else, phrases::specs::Reading::case_next))]
-fn if_else<L: Language>(
-    alloc: Global,
-    tokens: &mut TokenCursor<'_, '_>,
-    room: u32,
-    at: u32,
-    condition: L::Expr,
-    body: Braced<L::Stmt>,
-) -> Result<L::Stmt, ParseFault>
-    ensures { Gives result tokens.new
-        (next_else L.made true full room
-        (inner_stmts L.made true full room) at condition body.stmts body.end tokens.old) }
-{
     if tokens.take_word(b"else").is_none() {
         return Ok(L::if_then_of(at, body.end, condition, body.stmts));
     }
@@ -293,7 +263,7 @@ fn set<L: Language>(
     Ok(L::set_of(at, end, name, value))
 }
 
-#[tactic(auto, unfolding(proc_grammar::specs::Reading::set_at_behind))]
+#[tactic(auto, unfolding(proc_grammar::specs::Reading::set_at_behind, proc_grammar::specs::Reading::next_index, crate::specs::Loops::bracketed))]
 fn set_at<L: Language>(
     alloc: Global,
     tokens: &mut TokenCursor<'_, '_>,
@@ -306,7 +276,7 @@ fn set_at<L: Language>(
         (inner_stmts L.made true full room) name bracket tokens.old) }
 {
     let at = name.at;
-    let index = index::<L>(alloc, tokens, room, bracket)?;
+    let index = bracketed::<L>(alloc, tokens, room, true, bracket, b']')?;
     tokens.sign(b'=')?;
     let value = whole::<L>(alloc, tokens, room)?;
     let end = tokens.sign(b';')?;

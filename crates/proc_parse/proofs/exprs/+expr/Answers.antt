@@ -1,178 +1,310 @@
-use Rattle.std.proofs.Common.{◌≡◌, ◌∙◌, ◌<◌, sym, ap, subst, arith, true, Ok, length, ◌+◌, ◌-◌}
-use Rattle.std.proofs.Common.{[], ◌∷◌, ◌++◌, length-append}
-use Rattle.std.specs.Prelude.{codes}
+use Rattle.std.proofs.Common.{◌≡◌, ◌∙◌, ◌<◌, refl, sym, ap, subst, arith, true, Ok, Err, length, ◌+◌, ◌-◌}
+use Rattle.std.proofs.Common.{[], ◌∷◌, length-append}
+use Rattle.std.specs.Prelude.{ℕ, codes, not}
+use Rattle.proc_grammar.specs.Makes.{TokenActions}
 use Rattle.std.proofs.lemmas.Result.{err_from_is_err_and}
+use Rattle.proc_grammar.specs.Fault.{Fails}
 use Rattle.proc_grammar.specs.Grammar.{behind_arg}
-use Rattle.proc_grammar.specs.Lexemes.{sign, comma}
-use Rattle.proc_grammar.specs.Reading.{full, inner_expr, another_arg, next_arg, token_arg, plain_arg}
-use Rattle.proc_grammar.specs.Reading.{some_args}
-use Rattle.proc_parse.specs.Answers.{Gives}
+use Rattle.proc_grammar.specs.Lexemes.{sign, comma, word}
+use Rattle.proc_grammar.specs.Reading.{full, inner_expr, another_arg, next_arg}
+use Rattle.proc_grammar.specs.Reading.{token_arg, plain_arg, arg_proc}
+use Rattle.proc_grammar.specs.Reading.{arg_value, some_args}
+use Rattle.proc_parse.specs.Answers.{GivesAs}
 use Rattle.proc_parse.specs.Loops.{terms_behind}
-use Rattle.proc_parse.proofs.Steps.{full_is, inner_is, terms_end, terms_step, terms_fault}
-use Rattle.proc_parse.proofs.Steps.{all_first, all_step, all_fault, all_end, listed_go, listed_bad}
-use Rattle.proc_parse.proofs.Steps.{listed_open, name_index, name_call, name_call_bad, of_token, of_none}
+use Rattle.proc_parse.proofs.Steps.{full_is, sum_begin, terms_end, terms_step}
+use Rattle.proc_parse.proofs.Steps.{terms_fault, value_bad, value_read}
+use Rattle.proc_parse.proofs.Steps.{bracketed_bad, bracketed_open, bracketed_shut, unfit}
+use Rattle.proc_parse.proofs.Steps.{name_index, name_call}
+use Rattle.proc_parse.proofs.Steps.{name_index_bad, name_call_bad, name_var, unless_refused}
+use Rattle.proc_parse.proofs.Steps.{of_token, of_none}
+use Rattle.proc_parse.proofs.Steps.{case_there, case_none, args_some, some_begin}
+use Rattle.proc_parse.proofs.Steps.{some_step, some_fault, some_end}
+use Rattle.proc_parse.proofs.Steps.{listed_fault, listed_open, listed_shut, was_taken, was_left}
 use Rattle.proc_parse.proofs.exprs.+expr.Goals as goal
 
-pub inner-returns-clause-exact : goal.inner-returns-clause-exact
-inner-returns-clause-exact g n c = subst (λ r. Gives c.expr.result c.expr.new.tokens r)
-    (sym (inner_is g.L.Language.made c.args.room c.args.fits c.args.tokens.now c.requires))
-    c.expr.ensures.exact
-
-pub more_terms-returns-in-None : goal.more_terms-returns-in-None
-more_terms-returns-in-None g n c =
+pub sum-returns-in-None-clause-exact : goal.sum-returns-in-None-clause-exact
+sum-returns-in-None-clause-exact g n c =
     let start : full ≡ full + 1 - 1 = omega arith in
-    ap (λ m. terms_behind g.L.Language.made c.args.room m 1 c.args.first c.args.tokens.now) start
+    sum_begin g.L.Language.made c.args.room c.args.fits c.args.tokens.now c.term.new.tokens c.in_ok-sum.sum
+    c.in_ok-sum.ensures.exact
+    ∙ ap (λ m. terms_behind g.L.Language.made c.args.room m 1 c.in_ok-sum.sum c.term.new.tokens) start
     ∙ sym c.loop-sum.invariant.told
     ∙ terms_end g.L.Language.made c.args.room _ c.loop-sum.count c.loop-sum.sum c.loop-sum.tokens
     (sym c.in-None.ensures.value)
     ∙ ap (λ i. Ok (c.loop-sum.sum, i)) (sym c.in-None.ensures.left)
 
-pub more_terms-returns-in_err-right-in-Some : goal.more_terms-returns-in_err-right-in-Some
-more_terms-returns-in_err-right-in-Some g n c =
-    let p = err_from_is_err_and c.from_residual.result c.from_residual.ensures.1 in
+pub sum-returns-in_err-right-in-Some-clause-exact : goal.sum-returns-in_err-right-in-Some-clause-exact
+sum-returns-in_err-right-in-Some-clause-exact g n c =
+    let p = err_from_is_err_and c.from_residual-in_err-right-in-Some.result
+    c.from_residual-in_err-right-in-Some.ensures.1 in
     let start : full ≡ full + 1 - 1 = omega arith in
-    rw (p.1, p.2) (terms_fault g.L.Language.made c.args.room c.loop-sum.count c.loop-sum.sum c.loop-sum.tokens
-    c.take_adding.new.self c.in-Some.op c.in_err-right-in-Some.field-0.0 _
-    (c.loop-sum.invariant.told ∙ ap (λ m. terms_behind g.L.Language.made c.args.room m 1 c.args.first
-    c.args.tokens.now)
-    (sym start))
+    rw (p.1, p.2) (subst (Fails c.in_err-right-in-Some.field-0.0) (sym (sum_begin g.L.Language.made
+    c.args.room
+    c.args.fits c.args.tokens.now c.term.new.tokens c.in_ok-sum.sum c.in_ok-sum.ensures.exact))
+    (terms_fault g.L.Language.made c.args.room c.loop-sum.count c.loop-sum.sum c.loop-sum.tokens
+    c.take_adding.new.self c.in-Some.op c.in_err-right-in-Some.field-0.0
+    (terms_behind g.L.Language.made c.args.room full 1 c.in_ok-sum.sum c.term.new.tokens)
+    (c.loop-sum.invariant.told ∙ ap (λ m. terms_behind g.L.Language.made c.args.room m 1 c.in_ok-sum.sum
+    c.term.new.tokens) (sym start))
     c.loop-sum.invariant.some c.loop-sum.invariant.few (sym c.in-Some.ensures.value) c.in-Some.ensures.left
-    c.in_err-right-in-Some.ensures.exact)
+    c.in_err-right-in-Some.ensures.exact))
 
-pub more_terms-loop-sum-preserved : goal.more_terms-loop-sum-preserved
-more_terms-loop-sum-preserved g n c = record {
+pub sum-loop-sum-preserved : goal.sum-loop-sum-preserved
+sum-loop-sum-preserved g n c = record {
   told = ap (λ e. terms_behind g.L.Language.made c.args.room (full + 1 - (c.loop-sum.count + 1))
-      (c.loop-sum.count + 1) e c.term.new.tokens) c.in_ok-sum-in-Some.ensures.ok
+      (c.loop-sum.count + 1) e c.term-in-Some.new.tokens) c.in_ok-sum-in-Some.ensures.ok
       ∙ terms_step g.L.Language.made c.args.room c.loop-sum.count c.loop-sum.sum c.loop-sum.tokens
       c.take_adding.new.self
-      c.in-Some.op c.in_ok-right-in-Some.right c.term.new.tokens _
+      c.in-Some.op c.in_ok-right-in-Some.right c.term-in-Some.new.tokens _
       c.loop-sum.invariant.told c.loop-sum.invariant.some c.loop-sum.invariant.few
       (sym c.in-Some.ensures.value) c.in-Some.ensures.left c.in_ok-right-in-Some.ensures.exact;
   some = omega arith;
   few = grind (arith, c.in_ok-right-in-Some.ensures.within);
 }
 
-pub behind_name-returns-in-Some : goal.behind_name-returns-in-Some
-behind_name-returns-in-Some g n c = name_index g.L.Language.made c.args.room c.args.name
-    c.args.tokens.now c.take_sign.new.self c.index.new.tokens c.in-Some.bracket c.in_ok-e.e
-    c.in_ok-element_of.field-0 (sym c.in-Some.ensures.value) c.in-Some.ensures.left c.in_ok-e.ensures
-    c.in_ok-element_of.ensures
+pub bracketed-returns-in_err-e-clause-exact : goal.bracketed-returns-in_err-e-clause-exact
+bracketed-returns-in_err-e-clause-exact g n c =
+    let p = err_from_is_err_and c.from_residual.result c.from_residual.ensures.1 in
+    let fit : c.args.fits ≡ true = grind (arith, c.if-not-fits.false) in
+    let lt : 0 < c.args.room = grind (arith, c.if-room-eq0.false) in
+    rw (p.1, p.2) (bracketed_bad g.L.Language.made c.args.room c.args.fits c.args.end c.args.at
+    c.args.tokens.now fit lt
+    c.in_err-e.field-0.0 c.in_err-e.ensures.exact)
 
-pub behind_name-returns-in_err-args : goal.behind_name-returns-in_err-args
-behind_name-returns-in_err-args g n c =
+pub bracketed-returns-in_err-sign-clause-exact : goal.bracketed-returns-in_err-sign-clause-exact
+bracketed-returns-in_err-sign-clause-exact g n c =
+    let p = err_from_is_err_and c.from_residual-in_err-sign.result c.from_residual-in_err-sign.ensures.1 in
+    let fit : c.args.fits ≡ true = grind (arith, c.if-not-fits.false) in
+    let lt : 0 < c.args.room = grind (arith, c.if-room-eq0.false) in
+    rw (p.1, p.2) (bracketed_open g.L.Language.made c.args.room c.args.fits c.args.end c.args.at
+    c.args.tokens.now fit lt
+    c.in_ok-e.e c.expr.new.tokens c.in_err-sign.field-0.0 c.in_ok-e.ensures.exact c.in_err-sign.ensures)
+
+pub bracketed-returns-clause-exact : goal.bracketed-returns-clause-exact
+bracketed-returns-clause-exact g n c =
+    let fit : c.args.fits ≡ true = grind (arith, c.if-not-fits.false) in
+    let lt : 0 < c.args.room = grind (arith, c.if-room-eq0.false) in
+    bracketed_shut g.L.Language.made c.args.room c.args.fits c.args.end c.args.at c.args.tokens.now fit lt
+    c.in_ok-e.e c.expr.new.tokens c.sign.new.self _ c.in_ok-e.ensures.exact c.in_ok-sign.ensures
+
+pub name_term-returns-in_err-name-clause-exact : goal.name_term-returns-in_err-name-clause-exact
+name_term-returns-in_err-name-clause-exact g n c =
+    let p = err_from_is_err_and c.from_residual.result c.from_residual.ensures.1 in
+    rw (p.1, p.2) (unfit g.L.Language.made c.args.room c.args.fits c.args.tokens.now c.in_err-name.field-0.0
+    c.in_err-name.ensures.exact)
+
+pub name_term-returns-in_err-index-clause-exact : goal.name_term-returns-in_err-index-clause-exact
+name_term-returns-in_err-index-clause-exact g n c =
+    let p = err_from_is_err_and c.from_residual-in_err-index.result c.from_residual-in_err-index.ensures.1 in
+    rw (p.1, p.2) (name_index_bad g.L.Language.made c.args.room c.args.fits c.in_ok-name.name
+    c.args.tokens.now
+    c.fitting_name.new.tokens c.in_ok-name.ensures.exact c.take_sign.new.self c.in-Some.at (sym
+    c.in-Some.ensures.value) c.in-Some.ensures.left
+    c.in_err-index.field-0.0 c.in_err-index.ensures.exact)
+
+pub name_term-returns-in-Some-clause-exact : goal.name_term-returns-in-Some-clause-exact
+name_term-returns-in-Some-clause-exact g n c =
+    unless_refused c.element.result (g.L.Language.made.element c.in_ok-name.name.at c.in_ok-name.name
+    c.in_ok-index.index)
+    c.bracketed.new.tokens _ c.element.ensures.ok c.element.ensures.fails
+    (name_index g.L.Language.made c.args.room c.args.fits c.in_ok-name.name c.args.tokens.now
+    c.fitting_name.new.tokens c.in_ok-name.ensures.exact
+    c.take_sign.new.self c.in-Some.at (sym c.in-Some.ensures.value) c.in-Some.ensures.left
+    c.bracketed.new.tokens c.in_ok-index.index c.in_ok-index.ensures.exact)
+
+pub name_term-returns-in_err-args-clause-exact : goal.name_term-returns-in_err-args-clause-exact
+name_term-returns-in_err-args-clause-exact g n c =
     let p = err_from_is_err_and c.from_residual-in_err-args.result c.from_residual-in_err-args.ensures.1 in
-    rw (p.1, p.2) (name_call_bad g.L.Language.made c.args.room c.args.name c.args.tokens.now
-    c.take_sign.new.self c.take_sign-2.new.self c.in-Some-take_sign.bracket c.in_err-args.field-0.0
-    (sym c.in_default.ensures.value) c.in_default.ensures.left
-    (sym c.in-Some-take_sign.ensures.value) c.in-Some-take_sign.ensures.left
-    c.in_err-args.ensures)
+    rw (p.1, p.2) (name_call_bad g.L.Language.made c.args.room c.args.fits c.in_ok-name.name c.args.tokens.now
+    c.fitting_name.new.tokens c.in_ok-name.ensures.exact c.take_sign.new.self (sym
+    c.in_default.ensures.value) c.in_default.ensures.left c.take_sign-2.new.self
+    c.in-Some-take_sign.at (sym c.in-Some-take_sign.ensures.value) c.in-Some-take_sign.ensures.left
+    c.in_err-args.field-0.0 c.in_err-args.ensures)
 
-pub behind_name-returns : goal.behind_name-returns
-behind_name-returns g n c = name_call g.L.Language.made c.args.room c.args.name c.args.tokens.now
-    c.take_sign.new.self c.take_sign-2.new.self c.args-2.new.tokens c.in-Some-take_sign.bracket
-    c.in_ok-args.field-0.items c.of-args.result c.call_of.result (sym c.in_default.ensures.value)
-    c.in_default.ensures.left (sym c.in-Some-take_sign.ensures.value)
-    c.in-Some-take_sign.ensures.left c.in_ok-args.ensures c.of-args.ensures c.call_of.ensures
+pub name_term-returns-in-Some-take_sign-clause-exact : goal.name_term-returns-in-Some-take_sign-clause-exact
+name_term-returns-in-Some-take_sign-clause-exact g n c =
+    name_call g.L.Language.made c.args.room c.args.fits c.in_ok-name.name c.args.tokens.now
+    c.fitting_name.new.tokens c.in_ok-name.ensures.exact
+    c.take_sign.new.self (sym c.in_default.ensures.value) c.in_default.ensures.left c.take_sign-2.new.self
+    c.in-Some-take_sign.at (sym c.in-Some-take_sign.ensures.value) c.in-Some-take_sign.ensures.left
+    c.args-in-Some-take_sign.new.tokens c.in_ok-args.field-0.items c.of-args.result c.call_of.result
+    c.in_ok-args.ensures c.of-args.ensures c.call_of.ensures
 
-pub more_args-returns-in_err-next : goal.more_args-returns-in_err-next
-more_args-returns-in_err-next g n c =
-    let p = err_from_is_err_and c.from_residual-in_err-next.result c.from_residual-in_err-next.ensures.1 in
-    let whole = c.in_ok-push.ensures.items ∙ ap (λ l. l ++ c.args.first ∷ []) c.new-args.ensures.items in
-    let another = another_arg g.L.Language.made true full c.args.room
-    (inner_expr g.L.Language.made true full c.args.room) in
-    let begun = all_first (sign comma) (behind_arg g.L.Language.made) another 0 c.registers_of-used.result
-    c.args.first c.args.tokens.now c.push.new.self.items whole (omega (arith, c.registers_of-used.ensures)) in
-    rw (p.1, p.2) (all_fault (sign comma) (behind_arg g.L.Language.made) another (full + 1)
-    c.loop-alloc.args.items c.loop-alloc.used c.loop-alloc.tokens c.in_err-next.field-0.0 _
-    (c.loop-alloc.invariant.told ∙ begun)
-    (grind (arith, full_is, c.loop-alloc.args.ok, c.loop-alloc.args.small))
-    (sym c.is_sign.ensures ∙ c.loop-alloc-test.true) c.in_err-next.ensures.exact)
+pub name_term-returns-clause-exact : goal.name_term-returns-clause-exact
+name_term-returns-clause-exact g n c =
+    name_var g.L.Language.made c.args.room c.args.fits c.in_ok-name.name c.args.tokens.now
+    c.fitting_name.new.tokens c.in_ok-name.ensures.exact
+    c.take_sign.new.self (sym c.in_default.ensures.value) c.in_default.ensures.left c.take_sign-2.new.self
+    c.var_of.result (sym c.in_default-take_sign.ensures.value) c.in_default-take_sign.ensures.left
+    c.var_of.ensures
 
-pub more_args-loop-alloc-smaller : goal.more_args-loop-alloc-smaller
-more_args-loop-alloc-smaller g n c =
-    let len = ap length c.in_ok-push-2.ensures.items ∙ length-append c.loop-alloc.args.items
+pub args-loop-args-init : goal.args-loop-args-init
+args-loop-args-init g n c =
+    let inner = inner_expr g.L.Language.made true full c.args.room in
+    let another = another_arg g.L.Language.made true full c.args.room inner in
+    let item = next_arg g.L.Language.made true full c.args.room inner in
+    record {
+      told = some_begin (sign comma) (behind_arg g.L.Language.made) another item c.new-args.result.items 0 0
+          c.take_sign.new.self c.new-args.ensures.items refl;
+      few = omega arith;
+    }
+
+pub args-returns-in_err-next : goal.args-returns-in_err-next
+unfolding some_args
+args-returns-in_err-next g n c =
+    let p = err_from_is_err_and c.from_residual.result c.from_residual.ensures.1 in
+    let inner = inner_expr g.L.Language.made true full c.args.room in
+    let another = another_arg g.L.Language.made true full c.args.room inner in
+    let item = next_arg g.L.Language.made true full c.args.room inner in
+    let lt : 0 < c.args.room = grind (arith, c.if-room-eq0.false) in
+    let begun = args_some g.L.Language.made c.args.room c.args.at c.args.tokens.now c.take_sign.new.self
+    c.take_sign.result lt c.take_sign.ensures.value (sym c.is_some.ensures ∙ c.if-is_some.false)
+    c.take_sign.ensures.left in
+    rw (p.1, p.2) (subst (Fails c.in_err-next.field-0.0) (sym begun) (listed_fault (sign comma) (behind_arg
+    g.L.Language.made) another item 0
+    c.take_sign.new.self c.in_err-next.field-0.0 (some_fault (sign comma) (behind_arg g.L.Language.made)
+    another item
+    c.loop-args.args.items c.loop-args.used c.loop-args.tokens c.in_err-next.field-0.0 _
+    c.loop-args.invariant.told c.in_err-next.ensures.exact)))
+
+pub args-loop-args-smaller : goal.args-loop-args-smaller
+args-loop-args-smaller g n c =
+    let len = ap length c.in_ok-push.ensures.items ∙ length-append c.loop-args.args.items
     (c.in_ok-next.next ∷ []) in
-    let few : length c.loop-alloc.args.items < full = grind (
+    let few : length c.loop-args.args.items < full = grind (
       arith,
       full_is,
-      c.loop-alloc.args.ok,
-      c.loop-alloc.args.small,
+      c.loop-args.args.ok,
+      c.loop-args.args.small,
     ) in
     omega (arith, len, few)
 
-pub more_args-loop-alloc-preserved : goal.more_args-loop-alloc-preserved
-more_args-loop-alloc-preserved g n c =
-    let takes = c.registers_of-used-in-loop-alloc.ensures in
-    let another = another_arg g.L.Language.made true full c.args.room
-    (inner_expr g.L.Language.made true full c.args.room) in
+pub args-loop-args-preserved : goal.args-loop-args-preserved
+unfolding another_arg
+args-loop-args-preserved g n c =
+    let inner = inner_expr g.L.Language.made true full c.args.room in
+    let another = another_arg g.L.Language.made true full c.args.room inner in
+    let item = next_arg g.L.Language.made true full c.args.room inner in
+    let few : length c.loop-args.args.items < full = grind (
+      arith,
+      full_is,
+      c.loop-args.args.ok,
+      c.loop-args.args.small,
+    ) in
+    let takes = c.registers_of-used.ensures in
+    let there = was_taken (sign comma) c.arg.new.tokens c.take_sign-in-loop-args.new.self
+    c.take_sign-in-loop-args.result c.take_sign-in-loop-args.ensures.value
+    (c.is_none.ensures ∙ ap not c.if-is_none.false) c.take_sign-in-loop-args.ensures.left in
     record {
-      told = all_step (sign comma) (behind_arg g.L.Language.made) another (full + 1) c.loop-alloc.args.items
-          c.loop-alloc.used c.loop-alloc.tokens c.in_ok-next.next c.another.new.tokens _
-          c.push-in-loop-alloc.new.self.items _ c.loop-alloc.invariant.told
-          (grind (arith, full_is, c.loop-alloc.args.ok, c.loop-alloc.args.small))
-          (sym c.is_sign.ensures ∙ c.loop-alloc-test.true) c.in_ok-next.ensures.exact
-          c.in_ok-push-2.ensures.items (omega (arith, takes));
+      told = some_step (sign comma) (behind_arg g.L.Language.made) another item c.loop-args.args.items
+          c.loop-args.used c.loop-args.tokens c.in_ok-next.next c.arg.new.tokens
+          c.take_sign-in-loop-args.new.self _ c.push.new.self.items
+          (c.loop-args.used + c.registers_of-used.result) c.loop-args.invariant.told few
+          c.in_ok-next.ensures.exact there.0 (λ u. there.1 (item u)) c.in_ok-push.ensures.items
+          (omega (arith, takes));
       few = omega (arith, takes, c.in_ok-next.ensures.few);
     }
 
-pub more_args-returns : goal.more_args-returns
-more_args-returns g n c =
-    let whole = c.in_ok-push.ensures.items ∙ ap (λ l. l ++ c.args.first ∷ []) c.new-args.ensures.items in
-    let another = another_arg g.L.Language.made true full c.args.room
-    (inner_expr g.L.Language.made true full c.args.room) in
-    let begun = all_first (sign comma) (behind_arg g.L.Language.made) another 0 c.registers_of-used.result
-    c.args.first c.args.tokens.now c.push.new.self.items whole (omega (arith, c.registers_of-used.ensures)) in
-    all_end (sign comma) (behind_arg g.L.Language.made) another (full + 1) c.loop-alloc.args.items
-    c.loop-alloc.used c.loop-alloc.tokens _ (c.loop-alloc.invariant.told ∙ begun)
-    (sym c.is_sign.ensures ∙ c.loop-alloc-test.false)
-
-pub some_args-returns-in_err-args : goal.some_args-returns-in_err-args
+pub args-returns-in_err-sign : goal.args-returns-in_err-sign
 unfolding some_args
-some_args-returns-in_err-args g n c =
-    let p = err_from_is_err_and c.from_residual-in_err-args.result c.from_residual-in_err-args.ensures.1 in
-    rw (p.1, p.2) (listed_bad (sign comma) (behind_arg g.L.Language.made)
-    (another_arg g.L.Language.made true full c.args.room (inner_expr g.L.Language.made true full
-    c.args.room)) 0
-    (next_arg g.L.Language.made true full c.args.room (inner_expr g.L.Language.made true full c.args.room))
-    c.args.tokens.now c.arg.new.tokens c.in_ok-first.first c.in_err-args.field-0.0
-    c.in_ok-first.ensures.exact c.in_err-args.ensures)
-
-pub some_args-returns-in_err-sign : goal.some_args-returns-in_err-sign
-unfolding some_args
-some_args-returns-in_err-sign g n c =
+args-returns-in_err-sign g n c =
     let p = err_from_is_err_and c.from_residual-in_err-sign.result c.from_residual-in_err-sign.ensures.1 in
-    rw (p.1, p.2) (listed_open (sign comma) (behind_arg g.L.Language.made)
-    (another_arg g.L.Language.made true full c.args.room (inner_expr g.L.Language.made true full
-    c.args.room)) 0
-    (next_arg g.L.Language.made true full c.args.room (inner_expr g.L.Language.made true full c.args.room))
-    c.args.tokens.now c.arg.new.tokens c.more_args.new.tokens c.in_ok-first.first
-    c.in_ok-args.args.items c.in_err-sign.field-0.0 c.in_ok-first.ensures.exact
-    c.in_ok-args.ensures c.in_err-sign.ensures)
+    let inner = inner_expr g.L.Language.made true full c.args.room in
+    let another = another_arg g.L.Language.made true full c.args.room inner in
+    let item = next_arg g.L.Language.made true full c.args.room inner in
+    let lt : 0 < c.args.room = grind (arith, c.if-room-eq0.false) in
+    let begun = args_some g.L.Language.made c.args.room c.args.at c.args.tokens.now c.take_sign.new.self
+    c.take_sign.result lt c.take_sign.ensures.value (sym c.is_some.ensures ∙ c.if-is_some.false)
+    c.take_sign.ensures.left in
+    let left = was_left (sign comma) c.arg.new.tokens c.take_sign-in-loop-args.new.self
+    c.take_sign-in-loop-args.result c.take_sign-in-loop-args.ensures.value
+    (c.is_none.ensures ∙ ap not c.if-is_none.true) c.take_sign-in-loop-args.ensures.left in
+    let ended = some_end (sign comma) (behind_arg g.L.Language.made) another item c.loop-args.args.items
+    c.loop-args.used c.loop-args.tokens c.in_ok-next.next c.arg.new.tokens _ c.push.new.self.items
+    c.loop-args.invariant.told c.in_ok-next.ensures.exact left.0 c.in_ok-push.ensures.items in
+    rw (p.1, p.2) (subst (Fails c.in_err-sign.field-0.0) (sym begun) (listed_open
+    (sign comma) (behind_arg g.L.Language.made) another item 0 c.take_sign.new.self c.arg.new.tokens
+    c.take_sign-in-loop-args.new.self c.push.new.self.items c.in_err-sign.field-0.0 ended left.1
+    c.in_err-sign.ensures))
 
-pub some_args-returns : goal.some_args-returns
+pub args-returns-then-is_none : goal.args-returns-then-is_none
 unfolding some_args
-some_args-returns g n c =
-    listed_go (sign comma) (behind_arg g.L.Language.made) (another_arg g.L.Language.made true full
-    c.args.room (inner_expr g.L.Language.made true full c.args.room)) 0
-    (next_arg g.L.Language.made true full c.args.room (inner_expr g.L.Language.made true full c.args.room))
-    c.args.tokens.now c.arg.new.tokens c.more_args.new.tokens c.sign.new.self c.in_ok-first.first
-    c.in_ok-args.args.items _ c.in_ok-first.ensures.exact c.in_ok-args.ensures
+args-returns-then-is_none g n c =
+    let inner = inner_expr g.L.Language.made true full c.args.room in
+    let another = another_arg g.L.Language.made true full c.args.room inner in
+    let item = next_arg g.L.Language.made true full c.args.room inner in
+    let lt : 0 < c.args.room = grind (arith, c.if-room-eq0.false) in
+    let begun = args_some g.L.Language.made c.args.room c.args.at c.args.tokens.now c.take_sign.new.self
+    c.take_sign.result lt c.take_sign.ensures.value (sym c.is_some.ensures ∙ c.if-is_some.false)
+    c.take_sign.ensures.left in
+    let left = was_left (sign comma) c.arg.new.tokens c.take_sign-in-loop-args.new.self
+    c.take_sign-in-loop-args.result c.take_sign-in-loop-args.ensures.value
+    (c.is_none.ensures ∙ ap not c.if-is_none.true) c.take_sign-in-loop-args.ensures.left in
+    let ended = some_end (sign comma) (behind_arg g.L.Language.made) another item c.loop-args.args.items
+    c.loop-args.used c.loop-args.tokens c.in_ok-next.next c.arg.new.tokens _ c.push.new.self.items
+    c.loop-args.invariant.told c.in_ok-next.ensures.exact left.0 c.in_ok-push.ensures.items in
+    begun ∙ listed_shut (sign comma) (behind_arg g.L.Language.made) another item 0 c.take_sign.new.self
+    c.arg.new.tokens c.take_sign-in-loop-args.new.self c.sign.new.self c.push.new.self.items _ ended left.1
     c.in_ok-sign.ensures
 
 pub arg-returns-in-Some-clause-exact : goal.arg-returns-in-Some-clause-exact
 unfolding next_arg
-arg-returns-in-Some-clause-exact g n c = of_token (codes "token")
-    (λ makes at. token_arg g.L.Language.made true full makes)
-    (plain_arg g.L.Language.made true full c.args.room (inner_expr g.L.Language.made true full c.args.room)
-    c.args.used) c.args.tokens.now (λ x. x) c.token_arg.result c.token_arg.new.tokens
-    g.L.Language.made.tokens _ c.take_token_word.new.self (sym c.in-Some.ensures.value)
-    c.in-Some.ensures.left c.token_arg.ensures.exact
+arg-returns-in-Some-clause-exact g n c =
+    let inner = inner_expr g.L.Language.made true full c.args.room in
+    let plain = plain_arg g.L.Language.made true full c.args.room inner c.args.used in
+    let token = λ (k : TokenActions _ _ _ _) (at : ℕ). token_arg g.L.Language.made true full k in
+    of_token (codes "token") token plain c.args.tokens.now (λ x. x) c.token_arg.result c.token_arg.new.tokens
+    g.L.Language.made.tokens _ c.take_token_word.new.self (sym c.in-Some.ensures.value) c.in-Some.ensures.left
+    c.token_arg.ensures.exact
 
-pub arg-returns-in-None-clause-exact : goal.arg-returns-in-None-clause-exact
-unfolding next_arg
-arg-returns-in-None-clause-exact g n c = of_none (codes "token")
-    (λ makes at. token_arg g.L.Language.made true full makes)
-    (plain_arg g.L.Language.made true full c.args.room (inner_expr g.L.Language.made true full c.args.room)
-    c.args.used) c.args.tokens.now (λ x. x) c.plain_arg.result c.plain_arg.new.tokens
-    g.L.Language.made.tokens c.take_token_word.new.self (sym c.in-None.ensures.value)
-    c.in-None.ensures.left c.plain_arg.ensures.exact
+pub arg-returns-in-Some-take_word-clause-exact : goal.arg-returns-in-Some-take_word-clause-exact
+unfolding next_arg plain_arg arg_proc
+arg-returns-in-Some-take_word-clause-exact g n c =
+    let inner = inner_expr g.L.Language.made true full c.args.room in
+    let values = arg_value g.L.Language.made true full c.args.room inner c.args.used in
+    let procs = arg_proc g.L.Language.made true full c.args.room inner c.args.used in
+    let plain = plain_arg g.L.Language.made true full c.args.room inner c.args.used in
+    let token = λ (k : TokenActions _ _ _ _) (at : ℕ). token_arg g.L.Language.made true full k in
+    of_none (codes "token") token plain c.args.tokens.now (λ x. x) c.proc_arg.result c.proc_arg.new.tokens
+    g.L.Language.made.tokens c.take_token_word.new.self (sym c.in_default.ensures.value)
+    c.in_default.ensures.left
+    (subst (GivesAs (λ x. x) c.proc_arg.result c.proc_arg.new.tokens)
+    (sym (case_there (word (codes "proc")) procs values c.take_token_word.new.self c.take_word.new.self
+    c.in-Some-take_word.at (sym c.in-Some-take_word.ensures.value) c.in-Some-take_word.ensures.left))
+    c.proc_arg.ensures.exact)
+
+pub arg-returns-in_err-e-clause-exact : goal.arg-returns-in_err-e-clause-exact
+unfolding next_arg plain_arg
+arg-returns-in_err-e-clause-exact g n c =
+    let p = err_from_is_err_and c.from_residual.result c.from_residual.ensures.1 in
+    let inner = inner_expr g.L.Language.made true full c.args.room in
+    let values = arg_value g.L.Language.made true full c.args.room inner c.args.used in
+    let procs = arg_proc g.L.Language.made true full c.args.room inner c.args.used in
+    let plain = plain_arg g.L.Language.made true full c.args.room inner c.args.used in
+    let token = λ (k : TokenActions _ _ _ _) (at : ℕ). token_arg g.L.Language.made true full k in
+    rw (p.1, p.2) (of_none (codes "token") token plain c.args.tokens.now (λ x. x) (Err c.in_err-e.field-0.0)
+    c.expr.new.tokens
+    g.L.Language.made.tokens c.take_token_word.new.self (sym c.in_default.ensures.value)
+    c.in_default.ensures.left
+    (subst (Fails c.in_err-e.field-0.0) (sym (case_none (word (codes "proc")) procs values
+    c.take_token_word.new.self c.take_word.new.self
+    (sym c.in_default-take_word.ensures.value) c.in_default-take_word.ensures.left))
+    (value_bad g.L.Language.made c.args.room c.args.used c.take_word.new.self c.requires.room
+    c.in_err-e.field-0.0 c.in_err-e.ensures.exact)))
+
+pub arg-returns-clause-exact : goal.arg-returns-clause-exact
+unfolding next_arg plain_arg
+arg-returns-clause-exact g n c =
+    let inner = inner_expr g.L.Language.made true full c.args.room in
+    let values = arg_value g.L.Language.made true full c.args.room inner c.args.used in
+    let procs = arg_proc g.L.Language.made true full c.args.room inner c.args.used in
+    let plain = plain_arg g.L.Language.made true full c.args.room inner c.args.used in
+    let token = λ (k : TokenActions _ _ _ _) (at : ℕ). token_arg g.L.Language.made true full k in
+    of_none (codes "token") token plain c.args.tokens.now (λ x. x) (Ok c.value_of.result) c.expr.new.tokens
+    g.L.Language.made.tokens c.take_token_word.new.self (sym c.in_default.ensures.value)
+    c.in_default.ensures.left
+    ((case_none (word (codes "proc")) procs values c.take_token_word.new.self c.take_word.new.self
+    (sym c.in_default-take_word.ensures.value) c.in_default-take_word.ensures.left)
+    ∙ value_read g.L.Language.made c.args.room c.args.used c.take_word.new.self c.requires.room c.in_ok-e.e
+    c.expr.new.tokens c.in_ok-e.ensures.exact ∙ ap (λ a. Ok (a, c.expr.new.tokens))
+    (sym c.value_of.ensures.is))

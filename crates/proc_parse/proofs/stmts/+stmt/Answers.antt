@@ -1,18 +1,43 @@
-use Rattle.std.proofs.Common.{◌∙◌, ◌<◌, refl, sym, ap, subst, arith, true, length, ◌∷◌, [], length-append}
+use Rattle.std.proofs.Common.{◌≡◌, ◌∙◌, ◌<◌, ℕ, List, Result, Ok, refl, sym, ap, arith, true, length, ◌∷◌, []}
+use Rattle.std.proofs.Common.{length-append}
 use Rattle.std.specs.Prelude.{codes}
 use Rattle.std.proofs.lemmas.Result.{err_from_is_err_and}
 use Rattle.proc_grammar.specs.Reading.{full, next_stmt, inner_stmts, stmts_with, token_behind, plain_stmt}
 use Rattle.proc_grammar.specs.Lexemes.{a_start}
 use Rattle.proc_grammar.specs.Makes.{TokenActions}
-use Rattle.proc_grammar.specs.Reader.{case_token}
-use Rattle.proc_parse.specs.Answers.{GivesAs}
-use Rattle.proc_parse.proofs.Steps.{full_is, all_begin, all_step, all_fault, all_end, inner_stmts_is}
+use Rattle.proc_grammar.specs.Reader.{case_token, Input}
+use Rattle.proc_grammar.specs.declared.fault.ParseFault.{ParseFault}
+use Rattle.proc_parse.proofs.Steps.{full_is, all_begin, all_step, all_fault, all_end, block_bad}
+use Rattle.proc_parse.proofs.Steps.{block_open, block_shut}
 use Rattle.proc_parse.proofs.Steps.{of_token, of_none}
 use Rattle.proc_parse.proofs.stmts.+stmt.Goals as goal
 
-pub inner-returns : goal.inner-returns
-inner-returns g n c = subst (λ r. GivesAs (λ v. v.items) c.stmts.result c.stmts.new.tokens r)
-    (sym (inner_stmts_is g.L.Language.made c.args.room c.args.tokens.now c.requires)) c.stmts.ensures
+-- a block whose statements were put into a list
+block_as : {S : Type 0} (read : Result ((List S × ℕ) × Input) ParseFault) (body stmts : List S) (end : ℕ)
+    (l : Input) → read ≡ Ok ((body, end), l) → stmts ≡ body → read ≡ Ok ((stmts, end), l)
+block_as read body stmts end l reads same = reads ∙ ap (λ w. Ok ((w, end), l)) (sym same)
+
+pub block-returns-in_err-stmts : goal.block-returns-in_err-stmts
+block-returns-in_err-stmts g n c =
+    let p = err_from_is_err_and c.from_residual-in_err-stmts.result c.from_residual-in_err-stmts.ensures.1 in
+    let lt : 0 < c.args.room = grind (arith, c.if-room-eq0.false) in
+    rw (p.1, p.2) (block_bad g.L.Language.made c.args.room c.args.tokens.now c.sign.new.self c.in_ok-at.at
+    c.in_ok-at.ensures lt c.in_err-stmts.field-0.0 c.in_err-stmts.ensures)
+
+pub block-returns-in_err-end : goal.block-returns-in_err-end
+block-returns-in_err-end g n c =
+    let p = err_from_is_err_and c.from_residual-in_err-end.result c.from_residual-in_err-end.ensures.1 in
+    let lt : 0 < c.args.room = grind (arith, c.if-room-eq0.false) in
+    rw (p.1, p.2) (block_open g.L.Language.made c.args.room c.args.tokens.now c.sign.new.self c.in_ok-at.at
+    c.in_ok-at.ensures lt c.in_ok-stmts.field-0.items c.stmts.new.tokens c.in_err-end.field-0.0
+    c.in_ok-stmts.ensures c.in_err-end.ensures)
+
+pub block-returns : goal.block-returns
+block-returns g n c =
+    let lt : 0 < c.args.room = grind (arith, c.if-room-eq0.false) in
+    block_as _ _ c.of-stmts.result c.in_ok-end.end _ (block_shut g.L.Language.made c.args.room
+    c.args.tokens.now c.sign.new.self c.in_ok-at.at c.in_ok-at.ensures lt c.in_ok-stmts.field-0.items
+    c.stmts.new.tokens _ c.in_ok-end.end c.in_ok-stmts.ensures c.in_ok-end.ensures) c.of-stmts.ensures
 
 pub stmts-loop-alloc-init : goal.stmts-loop-alloc-init
 stmts-loop-alloc-init g n c = all_begin (a_start g.L.Language.made.tokens) (λ u s. u)

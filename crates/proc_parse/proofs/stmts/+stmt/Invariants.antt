@@ -17,14 +17,8 @@ decreases-if_stmt g l = l.room * 8 + 4
 abbrev pub decreases-while_stmt : goal.decreases-while_stmt
 decreases-while_stmt g l = l.room * 8 + 4
 
-abbrev pub decreases-if_else : goal.decreases-if_else
-decreases-if_else g l = l.room * 8 + 3
-
 abbrev pub decreases-block : goal.decreases-block
-decreases-block g l = l.room * 8 + 2
-
-abbrev pub decreases-inner : goal.decreases-inner
-decreases-inner g l = l.room * 8 + 0
+decreases-block g l = l.room * 8
 
 abbrev pub invariant-stmts-loop-alloc : goal.invariant-stmts-loop-alloc
 invariant-stmts-loop-alloc g l =
