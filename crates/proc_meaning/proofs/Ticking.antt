@@ -8,10 +8,7 @@ use Rattle.source_events.specs.declared.End.{End}
 use Rattle.source_events.specs.declared.End.TheVariants.{OutOfFuel, Waiting}
 use Rattle.source_events.specs.declared.Told.{Told}
 use Rattle.proc_semantics.specs.Told.{Comp, ends, ticks, counted, emit, take_item}
-
--- these events, and so many ticks, before
-abbrev pub more : List OutEvent → ℕ → Told → Told
-more xs n t = record { events = xs ++ t.events; end = t.end; ticks = t.ticks + n }
+use Rattle.proc_meaning.specs.Rest.{more}
 
 no_more : (xs : List OutEvent) → xs ≡ xs ++ []
 no_more [] = refl
@@ -110,7 +107,10 @@ module _ (fuel : ℕ) (total : Told) where
       ∙ ap (λ l. more xs (fuel - left) (take_item k left l)) (sym is)
       ∙ ap (λ (y : Comp). more xs (fuel - left) (y left feed)) (sym e) ∙ h
 
-pub more_none : (xs : List OutEvent) (fuel : ℕ) (t : Told) → xs ≡ [] → more xs (fuel - fuel) t ≡ t
-more_none xs fuel t e =
-    let n : t.ticks + (fuel - fuel) ≡ t.ticks = omega arith in
+pub at_first : (xs : List OutEvent) (fuel : ℕ) (t : Told) → more xs (fuel - fuel) t ≡ more xs 0 t
+at_first xs fuel t = let n : fuel - fuel ≡ 0 = omega arith in ap (λ n. more xs n t) n
+
+pub none_more : (xs : List OutEvent) (t : Told) → xs ≡ [] → more xs 0 t ≡ t
+none_more xs t e =
+    let n : t.ticks + 0 ≡ t.ticks = omega arith in
     ap₂ (λ l n. let u : Told = record { events = l ++ t.events; end = t.end; ticks = n } in u) e n

@@ -1,13 +1,17 @@
 -- Work lists that grow and shrink at their end.
-use Rattle.std.proofs.Common.{replicate, ◌≡◌, ℕ, zero, suc, ◌+◌, ℤ, pos, negsuc, List, [], ◌∷◌, ◌++◌, reverse}
-use Rattle.std.proofs.Common.{refl, sym, ap, ◌∙◌, arith, if◌then◌else◌}
-use Rattle.std.proofs.lemmas.List.{reverse-append, append_assoc, replicate-append-replicate}
+use Rattle.std.proofs.Common.{◌≡◌, ℕ, zero, suc, ◌+◌, ℤ, pos, negsuc, List, [], ◌∷◌, ◌++◌, reverse}
+use Rattle.std.proofs.Common.{Option, Some, None, option_map, length, length-append, ◌≤◌, refl, sym, ap}
+use Rattle.std.proofs.Common.{◌∙◌, arith, if◌then◌else◌}
+use Rattle.std.proofs.lemmas.List.{reverse-append}
 use Rattle.proc_meaning.specs.declared.places.Run.{Run}
 use Rattle.proc_meaning.specs.declared.work.Work.{Work}
 use Rattle.proc_meaning.specs.declared.work.Now.{Now}
+use Rattle.proc_meaning.specs.declared.work.Ahead.{Ahead}
+use Rattle.proc_meaning.specs.declared.work.Ahead.TheVariants.{Free, Ticked, Said, Asks, Stop}
 use Rattle.proc_semantics.specs.Told.{Comp, ticks}
-use Rattle.proc_semantics.specs.Values.{World, Store, is_zero}
-use Rattle.proc_meaning.specs.Rest.{now_of, rest_now}
+use Rattle.proc_semantics.specs.Values.{World, Store, is_zero, global_word}
+use Rattle.proc_semantics.specs.Meaning.{Then, with_place, with_number}
+use Rattle.proc_meaning.specs.Rest.{now_of, rest_now, IsLess}
 
 module _ (world : World) where
   pub pushed : (n : Now) (items new : List Work) (w : Work) (r : Run) (st : Store) → new ≡ items ++ w ∷ []
@@ -20,6 +24,23 @@ module _ (world : World) where
       ≡ now_of world n (reverse items) r st
   unfolding rest_now
   kept n items r st = refl
+
+-- an element's word, where the index is in the array
+pub of_element : (world : World) (o : Option ℕ) (k : Then) (home : ℕ) (st : Store)
+    → with_place o (λ o. k (global_word st home o) st) ≡ with_number (option_map (global_word st home) o) k st
+of_element world None k home st = refl
+of_element world (Some o) k home st = refl
+
+pub longer : (items new : List Work) (w : Work) → new ≡ items ++ w ∷ [] → length new ≡ length items + 1
+longer items new w e = ap length e ∙ length-append items (w ∷ [])
+
+-- less than so much is less than more
+pub less_more : (a : Ahead) (items : List Work) (m n : ℕ) → m ≤ n → IsLess a items m → IsLess a items n
+less_more (Free now) items m n le h = omega (arith, le, h)
+less_more (Ticked k now) items m n le h = (h.0, omega (arith, le, h.1))
+less_more (Said e now) items m n le h = omega (arith, le, h)
+less_more Asks items m n le h = omega (arith, le, h)
+less_more (Stop e) items m n le h = tt
 
 pub reversed : (items new : List Work) (w : Work) → new ≡ items ++ w ∷ [] → reverse new ≡ w ∷ reverse items
 reversed items new w e = ap reverse e ∙ reverse-append items (w ∷ [])
@@ -35,18 +56,6 @@ other_if (negsuc n) x y ne = refl
 -- the ticks of a procedure's beginning and end, as the code counts them
 pub as_many : (need n : ℕ) (m : Comp) → n ≡ need → ticks (1 + need) m ≡ ticks (n + 1) m
 as_many need n m e = let same : 1 + need ≡ n + 1 = omega (arith, e) in ap (λ k. ticks k m) same
-
-pub two_more : {A : Type 0} (l one two : List A) (a b : A) (ys : List A) → one ≡ l ++ a ∷ []
-    → two ≡ one ++ b ∷ [] → l ++ a ∷ b ∷ ys ≡ two ++ ys
-two_more l one two a b ys e d =
-    sym (ap (λ x. x ++ ys) d ∙ append_assoc one (b ∷ []) ys ∙ ap (λ x. x ++ (b ∷ ys)) e
-    ∙ append_assoc l (a ∷ []) (b ∷ ys))
-
-pub one_more : {A : Type 0} (l one two : List A) (n : ℕ) (a : A) → one ≡ l ++ replicate n a
-    → two ≡ one ++ a ∷ [] → two ≡ l ++ replicate (n + 1) a
-one_more l one two n a e d =
-    d ∙ ap (λ x. x ++ a ∷ []) e ∙ append_assoc l (replicate n a) (a ∷ [])
-    ∙ ap (λ x. l ++ x) (replicate-append-replicate n 1 a)
 
 pub as_many_as : (need n : ℕ) (m : Comp) → n ≡ need + 1 → ticks (1 + need) m ≡ ticks n m
 as_many_as need n m e = let same : 1 + need ≡ n = omega (arith, e) in ap (λ k. ticks k m) same

@@ -3,7 +3,10 @@
 use Rattle.std.specs.Prelude.{ℕ, ◌+◌, ◌*◌, ◌<◌, ◌≤◌, length, ℤ, pos, List, [], ◌∷◌, ◌++◌, reverse}
 use Rattle.std.specs.Prelude.{Option, Some, None, if◌then◌else◌}
 use Rattle.source_events.specs.declared.End.TheVariants.{Halt as Halted}
+use Rattle.source_events.specs.declared.OutEvent.{OutEvent}
+use Rattle.source_events.specs.declared.Told.{Told}
 use Rattle.proc_program.specs.declared.program.CallExp.{CallExp}
+use Rattle.proc_program.specs.declared.program.Procedure.{Procedure}
 use Rattle.proc_program.specs.Program.{Exp, Args, Block}
 use Rattle.proc_program.specs.View.{args_of}
 use Rattle.proc_program.specs.StepView.{block_of}
@@ -111,6 +114,13 @@ module _ (world : World) where
   ended (Entered home left b) ws v st =
       left_by world (whole world) (part_name_of world home) (waiting ws) left b.now v st
 
+  -- a procedure's body, where it can begin
+  abbrev pub begins : Procedure → Option Run → Then → Store → Comp
+  begins p None k st = fails
+  begins p (Some r) k st =
+      block world (whole world) r.frame (block_of p.body) (finish world r.frame.need k)
+      (λ env. finish world r.frame.need k (pos 0)) r.env.items st
+
   abbrev pub now_of : Now → List Work → Run → Store → Comp
   now_of (now.Eval e) ws r st =
       expr world (whole world) r.frame r.env.items e.now (with_value ws r.frame r.env.items) st
@@ -164,3 +174,9 @@ IsLess (Ticked k n) items m = (1 ≤ k) × (size_of n items < m + 8)
 IsLess (Said e n) items m = size_of n items < m
 IsLess Asks items m = 2 * length items < m + 5
 IsLess (Stop e) items m = Unit {0}
+
+-- ---- what was told before
+
+-- these events, and so many ticks, before
+abbrev pub more : List OutEvent → ℕ → Told → Told
+more xs n t = record { events = xs ++ t.events; end = t.end; ticks = t.ticks + n }

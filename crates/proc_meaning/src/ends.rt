@@ -2,15 +2,16 @@
 ghost use Rattle.std.specs.Prelude.{◌≡◌, ◌+◌, ◌*◌, ◌++◌, pos, replicate, IfOk, length, reverse, List, ◌∷◌};
 ghost use Rattle.proc_semantics.specs.declared.value.Value.TheVariants.{Num};
 ghost use Rattle.proc_semantics.specs.Values.{World, Store};
-ghost use Rattle.proc_semantics.specs.Meaning.{finish, enough};
+ghost use Rattle.proc_semantics.specs.Meaning.{Then, finish, enough, begin};
 ghost use Rattle.proc_semantics.specs.Whole.{whole};
 ghost use Rattle.proc_meaning.specs.declared.work.Work.{Work};
-ghost use Rattle.proc_meaning.specs.Rest.{back, ended, ahead_of, IsLess};
+ghost use Rattle.proc_meaning.specs.Rest.{back, ended, begins, ahead_of, IsLess};
 
 use crate::names::{proc_at, taken};
 use crate::places::Run;
+use crate::pushes::put;
 use crate::work::{Ahead, Now, Whence, Work};
-use proc_program::Program;
+use proc_program::{Procedure, Program};
 use proc_semantics::{Activation, Register, Target, Value};
 use source_events::End;
 use std::alloc::{AllocError, Global};
@@ -47,6 +48,33 @@ pub(crate) fn sum(a: u32, b: u32) -> u64
     u64::from(a) + u64::from(b)
 }
 
+/// The run of a procedure that begins, where it has words enough, and its parameters find what they need.
+fn run_of(
+    alloc: Global,
+    home: usize,
+    proc: &Procedure,
+    left: Option<u32>,
+    registers: &[Register],
+) -> Result<Option<Run>, AllocError>
+    ensures { IfOk result (λ run. (world : World) (k : Then) (st : Store) →
+        begin world (whole world) home proc.now left registers.now k st
+        ≡ begins world proc.now run k st) }
+{
+    let Some(words) = enough(proc.need, left) else {
+        return Ok(None);
+    };
+    let Some(env) = taken(alloc, proc.callbacks.as_slice(), registers)? else {
+        return Ok(None);
+    };
+    let env = add_locals(env, proc.locals)?;
+    let frame = Activation {
+        home,
+        left: words,
+        need: proc.need,
+    };
+    Ok(Some(Run { frame, env }))
+}
+
 /// A procedure begins.
 pub(crate) fn begin<'a>(
     alloc: Global,
@@ -64,27 +92,16 @@ pub(crate) fn begin<'a>(
         ≡ ahead_of world.now a work.new.items run.new st) }
     ensures less { IfOk result (λ a. IsLess a work.new.items (2 * length work.old.items)) }
 {
+    put(Work::Ends(whence), work)?;
     let Some(proc) = proc_at(world, target) else {
         return Ok(Ahead::Stop(End::Fail));
     };
     let ticks = sum(proc.need, 1);
-    let Some(words) = enough(proc.need, left) else {
+    let Some(begun) = run_of(alloc, target.home, proc, left, registers)? else {
         return Ok(Ahead::Ticked(ticks, Now::Fail));
     };
-    let Some(env) = taken(alloc, proc.callbacks.as_slice(), registers)? else {
-        return Ok(Ahead::Ticked(ticks, Now::Fail));
-    };
-    let places = add_locals(env, proc.locals)?;
-    *run = Run {
-        frame: Activation {
-            home: target.home,
-            left: words,
-            need: proc.need,
-        },
-        env: places,
-    };
-    work.push(Work::Ends(whence))?;
-    work.push(Work::Rest(proc.body.as_slice()))?;
+    *run = begun;
+    put(Work::Rest(proc.body.as_slice()), work)?;
     Ok(Ahead::Ticked(ticks, Now::Next))
 }
 

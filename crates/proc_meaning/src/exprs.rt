@@ -6,6 +6,7 @@ ghost use Rattle.proc_semantics.specs.Whole.{whole};
 ghost use Rattle.proc_meaning.specs.Rest.{with_value, ahead_of, IsLess};
 
 use crate::places::{Run, Words, number_in, value_at, word_at};
+use crate::pushes::after_tick;
 use crate::work::{Ahead, Now, Work};
 use proc_language::Op;
 use proc_program::{Array, Exp, ExpKind, Location, Program};
@@ -40,18 +41,12 @@ pub(crate) fn eval<'a>(
     match &e.kind {
         ExpKind::Number(n) => Ok(Ahead::Ticked(1, Now::Value(i64::from(*n)))),
         ExpKind::Load(place) => Ok(Ahead::Ticked(1, Now::Value(variable(run, store, *place)))),
-        ExpKind::Element(row, index) => {
-            work.push(Work::Index(*row))?;
-            Ok(Ahead::Ticked(1, Now::Eval(index)))
-        }
+        ExpKind::Element(row, index) => after_tick(index, Work::Index(*row), work),
         ExpKind::Call(call) => Ok(Ahead::Ticked(
             1,
             Now::Args(call, Vec::new(alloc), call.args.as_slice()),
         )),
-        ExpKind::Binary(op, left, right) => {
-            work.push(Work::Right(*op, right))?;
-            Ok(Ahead::Ticked(1, Now::Eval(left)))
-        }
+        ExpKind::Binary(op, left, right) => after_tick(left, Work::Right(*op, right), work),
     }
 }
 

@@ -7,7 +7,7 @@ ghost use Rattle.proc_semantics.specs.Whole.{whole};
 ghost use Rattle.proc_meaning.specs.declared.work.Work.{Work};
 ghost use Rattle.proc_meaning.specs.Rest.{waiting, ahead_of, IsLess};
 
-use crate::calls::part_name;
+use crate::calls::{part_name, part_text};
 use crate::ends::sum;
 use crate::names::{found, registers_fed};
 use crate::places::{Run, registers};
@@ -18,16 +18,6 @@ use source_events::{End, FeedBack, Item, OutEvent};
 use std::alloc::{AllocError, Global};
 
 // ---- the newest call that waits
-
-/// The name of a module, to read.
-fn part_text<'a>(world: &'a [Program], home: usize) -> &'a [u8]
-    ensures { result.now ≡ part_name_of world.now home }
-{
-    match world.get(home) {
-        Some(part) => part.name.as_slice(),
-        None => &[],
-    }
-}
 
 /// Where the frame begins of a call that gave these words away.
 fn base_of(world: &[Program], home: usize, given: u32) -> u64

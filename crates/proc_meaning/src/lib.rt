@@ -14,6 +14,7 @@ mod modules;
 mod names;
 mod pieces;
 mod places;
+mod pushes;
 mod steps;
 mod telling;
 mod text;

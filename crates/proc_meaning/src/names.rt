@@ -153,12 +153,13 @@ pub(crate) fn registers_fed(
 ) -> Result<Vec<Register>, AllocError>
     ensures { IfOk result (λ r. r.items ≡ registers_fed world.now numbers.now pairs.now) }
 {
-    let mut registers = Vec::new(alloc);
-    registers.push(register_fed(world, numbers, pairs, 0))?;
-    registers.push(register_fed(world, numbers, pairs, 1))?;
-    registers.push(register_fed(world, numbers, pairs, 2))?;
-    registers.push(register_fed(world, numbers, pairs, 3))?;
-    Ok(registers)
+    let fed = [
+        register_fed(world, numbers, pairs, 0),
+        register_fed(world, numbers, pairs, 1),
+        register_fed(world, numbers, pairs, 2),
+        register_fed(world, numbers, pairs, 3),
+    ];
+    Vec::from_slice(alloc, &fed)
 }
 
 fn first_of(registers: &[Register]) -> Register
@@ -204,8 +205,7 @@ pub(crate) fn taken(
             let Some(pair) = first.pair else {
                 return Ok(None);
             };
-            env.push(Value::Closure(pair))?;
-            env.push(Value::Other)?;
+            env.extend_from_slice(&[Value::Closure(pair), Value::Other])?;
             registers = rest_of(registers);
         } else {
             let Some(number) = first.number else {

@@ -57,8 +57,7 @@ impl Words {
     pub(crate) fn of(alloc: Global, first: &[i64]) -> Result<Words, AllocError>
         ensures { IfOk result (λ w. w ≡ first.now) }
     {
-        let mut words = Vec::new(alloc);
-        words.extend_from_slice(first)?;
+        let words = Vec::from_slice(alloc, first)?;
         Ok(Words { words })
     }
 

@@ -1,21 +1,24 @@
 //! Statements: what each begins with, what a value does then, and what stands after.
-ghost use Rattle.std.specs.Prelude.{◌≡◌, ◌+◌, ◌*◌, IfOk, length, reverse, List, ◌∷◌};
+ghost use Rattle.std.specs.Prelude.{◌≡◌, ◌+◌, ◌*◌, IfOk, length, reverse, List, ◌∷◌, option_map};
 ghost use Rattle.proc_program.specs.StepView.{block_of};
 ghost use Rattle.proc_semantics.specs.Told.{tick};
-ghost use Rattle.proc_semantics.specs.Values.{World, Store};
-ghost use Rattle.proc_semantics.specs.Meaning.{Next, stmt, assigned};
+ghost use Rattle.proc_semantics.specs.Values.{World, Store, global_word, set_word};
+ghost use Rattle.proc_semantics.specs.Meaning.{Next, stmt, block, assigned, with_number, element};
+ghost use Rattle.proc_semantics.specs.Meaning.{element_at};
 ghost use Rattle.proc_semantics.specs.Whole.{whole};
 ghost use Rattle.proc_meaning.specs.declared.places.Run.{Run};
 ghost use Rattle.proc_meaning.specs.declared.work.Now.TheVariants.{Eval};
 ghost use Rattle.proc_meaning.specs.declared.work.Work.{Work};
 ghost use Rattle.proc_meaning.specs.Rest.{chosen, tested, now_of};
-ghost use Rattle.proc_meaning.specs.Rest.{with_value, after, back, rest_now, size_of, ahead_of, IsLess};
+ghost use Rattle.proc_meaning.specs.Rest.{with_value, after, back, ahead_of, IsLess};
 
+use crate::calls::with_argument;
 use crate::ends::end_run;
 use crate::exprs::{element_at, result_of};
 use crate::places::{Run, Words, set_word, word_at};
+use crate::pushes::{after_tick, at_once, put};
 use crate::work::{Ahead, Now, Work};
-use proc_program::{Exp, Location, Statement, StatementKind};
+use proc_program::{Array, Exp, Location, Statement, StatementKind};
 use proc_semantics::Value;
 use source_events::End;
 use std::alloc::AllocError;
@@ -37,19 +40,6 @@ fn begun<'a>(s: &'a Statement) -> (Work<'a>, &'a Exp)
     }
 }
 
-/// A statement begins.
-fn begin_step<'a>(s: &'a Statement, work: &mut Vec<Work<'a>>) -> Result<Now<'a>, AllocError>
-    ensures same { IfOk result (λ n. (world : World) (r : Run) (st : Store) →
-        stmt world (whole world) r.frame s.now (back world (reverse work.old.items) r.frame)
-        (after world (reverse work.old.items) r.frame) r.env.items st
-        ≡ tick (rest_now world n work.new.items r st)) }
-    ensures less { IfOk result (λ n. size_of n work.new.items ≡ 2 * length work.old.items + 2) }
-{
-    let (then, e) = begun(s);
-    work.push(then)?;
-    Ok(Now::Eval(e))
-}
-
 /// A variable is set.
 fn assign(run: &mut Run, store: &mut Vec<Words>, place: Location, value: i64)
     ensures same { (k : Next) →
@@ -67,6 +57,22 @@ fn assign(run: &mut Run, store: &mut Vec<Words>, place: Location, value: i64)
     }
 }
 
+/// Statements, one after the other.
+fn statements<'a>(steps: &'a [Statement], work: &mut Vec<Work<'a>>) -> Result<Ahead<'a>, AllocError>
+    ensures same { IfOk result (λ a. (world : World) (r : Run) (st : Store) →
+        block world (whole world) r.frame (block_of steps.now) (back world (reverse work.old.items) r.frame)
+        (after world (reverse work.old.items) r.frame) r.env.items st
+        ≡ ahead_of world a work.new.items r st) }
+    ensures less { IfOk result (λ a. IsLess a work.new.items (2 * length work.old.items + 3)) }
+{
+    let Some((s, rest)) = steps.split_first() else {
+        return Ok(Ahead::Free(Now::Next));
+    };
+    put(Work::Rest(rest), work)?;
+    let (w, e) = begun(s);
+    after_tick(e, w, work)
+}
+
 /// The condition of an `if` has a value: one of its blocks follows.
 fn choose<'a>(
     v: i64,
@@ -79,14 +85,13 @@ fn choose<'a>(
         (back world (reverse work.old.items) r.frame)
         (after world (reverse work.old.items) r.frame) r.env.items st
         ≡ ahead_of world h work.new.items r st) }
-    ensures less { IfOk result (λ h. IsLess h work.new.items (2 * length work.old.items + 6)) }
+    ensures less { IfOk result (λ h. IsLess h work.new.items (2 * length work.old.items + 3)) }
 {
     if v == 0 {
-        work.push(Work::Rest(b))?;
-        return Ok(Ahead::Free(Now::Next));
+        statements(b, work)
+    } else {
+        statements(a, work)
     }
-    work.push(Work::Rest(a))?;
-    Ok(Ahead::Free(Now::Next))
 }
 
 /// The condition of a loop has a value: its block and a further turn follow, or nothing.
@@ -101,14 +106,51 @@ fn test<'a>(
         (back world (reverse work.old.items) r.frame)
         (after world (reverse work.old.items) r.frame) r.env.items st
         ≡ ahead_of world h work.new.items r st) }
-    ensures less { IfOk result (λ h. IsLess h work.new.items (2 * length work.old.items + 6)) }
+    ensures less { IfOk result (λ h. IsLess h work.new.items (2 * length work.old.items + 5)) }
 {
     if v == 0 {
         return Ok(Ahead::Free(Now::Next));
     }
-    work.push(Work::Turn(c, b))?;
-    work.push(Work::Rest(b))?;
-    Ok(Ahead::Free(Now::Next))
+    put(Work::Turn(c, b), work)?;
+    statements(b, work)
+}
+
+/// What is done with a value, where there is one.
+fn valued<'a>(value: Option<i64>) -> Ahead<'a>
+    ensures same { (world : World) (items : List Work) (r : Run) (st : Store) →
+        with_number value (with_value world (reverse items) r.frame r.env.items) st
+        ≡ ahead_of world result items r st }
+    ensures less { (items : List Work) → IsLess result items (2 * length items + 5) }
+{
+    match value {
+        Some(v) => Ahead::Free(Now::Value(v)),
+        None => Ahead::Stop(End::Fail),
+    }
+}
+
+/// An element of an array, where the index is in it.
+fn element(row: Array, index: i64, run: &Run, store: &[Words]) -> Option<i64>
+    ensures { result ≡ option_map (global_word store.now run.now.frame.home) (element_at row index) }
+{
+    match element_at(row, index) {
+        Some(o) => Some(word_at(store, run.frame.home, o)),
+        None => None,
+    }
+}
+
+/// An element of an array is set, where the index is in it.
+fn set_element<'a>(row: Array, index: i64, v: i64, run: &Run, store: &mut Vec<Words>) -> Ahead<'a>
+    ensures same { (world : World) (items : List Work) →
+        element row index (λ o. after world (reverse items) run.now.frame run.now.env.items
+        (set_word store.old.items run.now.frame.home o v))
+        ≡ ahead_of world result items run.now store.new.items }
+    ensures less { (items : List Work) → IsLess result items (2 * length items + 5) }
+{
+    let Some(o) = element_at(row, index) else {
+        return Ahead::Stop(End::Fail);
+    };
+    set_word(store, run.frame.home, o, v);
+    Ahead::Free(Now::Next)
 }
 
 /// A value comes to what was to be done with it.
@@ -125,37 +167,16 @@ fn give_to<'a>(
     ensures less { IfOk result (λ a. IsLess a work.new.items (2 * length work.old.items + 6)) }
 {
     match w {
-        Work::Index(row) => match element_at(row, v) {
-            Some(o) => Ok(Ahead::Free(Now::Value(word_at(store, run.frame.home, o)))),
-            None => Ok(Ahead::Stop(End::Fail)),
-        },
-        Work::Right(op, e) => {
-            work.push(Work::Operate(op, v))?;
-            Ok(Ahead::Free(Now::Eval(e)))
-        }
-        Work::Operate(op, x) => match result_of(op, x, v) {
-            Some(result) => Ok(Ahead::Free(Now::Value(result))),
-            None => Ok(Ahead::Stop(End::Fail)),
-        },
-        Work::Arg(to, mut values, rest) => {
-            values.push(Value::Num(v))?;
-            Ok(Ahead::Free(Now::Args(to, values, rest)))
-        }
+        Work::Index(row) => Ok(valued(element(row, v, run, store))),
+        Work::Right(op, e) => at_once(e, Work::Operate(op, v), work),
+        Work::Operate(op, x) => Ok(valued(result_of(op, x, v))),
+        Work::Arg(to, values, rest) => with_argument(to, values, v, rest),
         Work::SetTo(place) => {
             assign(run, store, place, v);
             Ok(Ahead::Free(Now::Next))
         }
-        Work::SetIndex(row, e) => {
-            work.push(Work::SetElement(row, v))?;
-            Ok(Ahead::Free(Now::Eval(e)))
-        }
-        Work::SetElement(row, index) => match element_at(row, index) {
-            Some(o) => {
-                set_word(store, run.frame.home, o, v);
-                Ok(Ahead::Free(Now::Next))
-            }
-            None => Ok(Ahead::Stop(End::Fail)),
-        },
+        Work::SetIndex(row, e) => at_once(e, Work::SetElement(row, v), work),
+        Work::SetElement(row, index) => Ok(set_element(row, index, v, run, store)),
         Work::Forget => Ok(Ahead::Free(Now::Next)),
         Work::Choose(a, b) => choose(v, a, b, work),
         Work::Test(c, b) => test(v, c, b, work),
@@ -195,17 +216,8 @@ fn next_of<'a>(
     ensures less { IfOk result (λ a. IsLess a work.new.items (2 * length work.old.items + 3)) }
 {
     match w {
-        Work::Rest(steps) => match steps.split_first() {
-            None => Ok(Ahead::Free(Now::Next)),
-            Some((s, rest)) => {
-                work.push(Work::Rest(rest))?;
-                Ok(Ahead::Ticked(1, begin_step(s, work)?))
-            }
-        },
-        Work::Turn(c, b) => {
-            work.push(Work::Test(c, b))?;
-            Ok(Ahead::Ticked(1, Now::Eval(c)))
-        }
+        Work::Rest(steps) => statements(steps, work),
+        Work::Turn(c, b) => after_tick(c, Work::Test(c, b), work),
         Work::Ends(whence) => Ok(end_run(whence, 0, run)),
         _ => Ok(Ahead::Stop(End::Fail)),
     }
