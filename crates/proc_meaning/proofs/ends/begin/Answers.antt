@@ -1,4 +1,4 @@
-use Rattle.std.proofs.Common.{◌≡◌, ◌+◌, ℕ, List, Option, Some, ◌∷◌, sym, ap, ap₂, ◌∙◌, pos, reverse}
+use Rattle.std.proofs.Common.{◌≡◌, ◌+◌, ℕ, List, Option, Some, sym, ap, ap₂, ◌∙◌, reverse}
 use Rattle.std.specs.Option.{option_copied}
 use Rattle.proc_program.specs.declared.program.Procedure.{Procedure}
 use Rattle.proc_program.specs.StepView.{block_of}
@@ -9,7 +9,7 @@ use Rattle.proc_meaning.specs.declared.work.Now.TheVariants as now
 use Rattle.proc_meaning.specs.declared.work.Work.TheVariants.{Ends, Rest}
 use Rattle.proc_semantics.specs.Told.{ticks}
 use Rattle.proc_semantics.specs.Values.{World, Store, proc_at}
-use Rattle.proc_semantics.specs.Meaning.{Then, Next, block, finish, begin, proc_of}
+use Rattle.proc_semantics.specs.Meaning.{Then, Next, block, begin, proc_of}
 use Rattle.proc_semantics.specs.Whole.{whole}
 use Rattle.proc_meaning.specs.Rest.{after, back, ended, begins}
 use Rattle.proc_meaning.proofs.Works.{pushed, kept, reversed, as_many_as}

@@ -27,10 +27,11 @@ loop-next-preserved-in-Ticked c =
     let same = c.in_ok-next.ensures.same
     ∙ ap (λ a. ahead_of world a c.turn.new.work.items c.turn.new.run c.turn.new.store.items)
     c.in-Ticked.is in
-    let le : c.loop-next.left - c.in-Ticked.ticks ≤ c.args.fuel = omega (arith, c.loop-next.invariant.0) in (
+    let le : c.loop-next.left - c.in-Ticked.ticks ≤ c.args.fuel = omega
+    (arith, c.loop-next.invariant.0) in (
       le,
-      went_ticks c.args.fuel _ c.in-Ticked.ticks _ _ c.loop-next.events.items c.loop-next.left c.loop-next.coming.now
-          c.if-left-ticks.false c.loop-next.invariant.0 same c.loop-next.invariant.1,
+      went_ticks c.args.fuel _ c.in-Ticked.ticks _ _ c.loop-next.events.items c.loop-next.left
+          c.loop-next.coming.now c.if-left-ticks.false c.loop-next.invariant.0 same c.loop-next.invariant.1,
     )
 
 pub loop-next-preserved : goal.loop-next-preserved
