@@ -2,17 +2,16 @@
 use Rattle.std.proofs.Common.{◌≡◌, ℕ, zero, suc, ◌+◌, ◌<◌, ◌≤◌, true, false, List, [], ◌∷◌, ◌++◌, map}
 use Rattle.std.proofs.Common.{length, drop, get_or, Ok, Err, Result, refl, sym, ap, ◌∙◌, append_assoc}
 use Rattle.std.proofs.Common.{append-nil, arith, subst, drop-cons}
-use Rattle.std.specs.Prelude.{OnOk, is_err}
 use Rattle.std.proofs.lemmas.List.{drop_all}
 use Rattle.text_scan.specs.declared.token.Token.{Token}
 use Rattle.text_scan.specs.Grammar.{Placed}
 use Rattle.text_scan.proofs.Offers.{placed_ends}
 use Rattle.asm_fields.specs.declared.fault.AsmFault.{AsmFault}
-use Rattle.readers.specs.Answers.{Fails}
+use Rattle.readers.specs.Answers.{AnswersAs, Fails}
 use Rattle.asm_fields.specs.Fault.{is_refusal}
 use Rattle.asm_fields.specs.Fields.{Lexeme, Input, seen, InText}
 use Rattle.assembler.specs.Draft.{Draft}
-use Rattle.assembler.specs.Whole.{is_newline, lines_of, goes_to, line_or_none, drafted}
+use Rattle.assembler.specs.Whole.{is_newline, lines_of, goes_to, line_or_none, drafted, MakesLine}
 use Rattle.readers.proofs.Offers.{still_fails}
 
 -- ---- tokens within the text
@@ -157,10 +156,6 @@ push_kept text tokens i d F items old joined total lt more is so_far =
     ∙ ap (λ l. map (seen text) F ++ l) (sym (at_index text tokens i d lt)) in
     rw (more, is) (ap (λ l. drafted old (lines_of l (length text))) all ∙ so_far)
 
-pub went : {A E : Type 0} (r : Result A E) (P : Type 0) → is_err r ≡ false → OnOk r P → P
-went (Ok x) P h p = p
-went (Err e) P h p = absurd cc
-
 -- ---- after the last token
 
 at_end : (text : List ℕ) (tokens F : List Token) (i : ℕ) (old : Draft) → length tokens ≤ i
@@ -172,7 +167,7 @@ at_end text tokens F i old le inside =
     ∙ ap (λ l. drafted old (lines_of l (length text))) (append-nil (map (seen text) F))
     ∙ ap (drafted old) (last_line (map (seen text) F) (length text) inside)
 
-pub end_fails : (text : List ℕ) (tokens F line : List Token) (i : ℕ) (old : Draft) (e : AsmFault)
+end_fails : (text : List ℕ) (tokens F line : List Token) (i : ℕ) (old : Draft) (e : AsmFault)
     (all : Result Draft AsmFault) → length tokens ≤ i → InLine (map (seen text) F) → line ≡ F
     → Fails is_refusal e (line_or_none old (record { rest = map (seen text) line; end = length text }))
     → rest_drafted text tokens i F old ≡ all → Fails is_refusal e all
@@ -183,7 +178,7 @@ end_fails text tokens F line i old e all le inside is failed so_far =
     (line_or_none old (record { rest = map (seen text) l; end = length text }))) is failed in
     line_faulty e old _ [] all (sym (at_end text tokens F i old le inside) ∙ so_far) here
 
-pub end_done : (text : List ℕ) (tokens F line : List Token) (i : ℕ) (old new : Draft)
+end_done : (text : List ℕ) (tokens F line : List Token) (i : ℕ) (old new : Draft)
     (all : Result Draft AsmFault) → length tokens ≤ i → InLine (map (seen text) F) → line ≡ F
     → goes_to (line_or_none old (record { rest = map (seen text) line; end = length text }))
     (λ e. Ok e) ≡ Ok new → rest_drafted text tokens i F old ≡ all → all ≡ Ok new
@@ -193,3 +188,14 @@ end_done text tokens F line i old new all le inside is made so_far =
     subst (λ l. goes_to (line_or_none old (record { rest = map (seen text) l; end = length text }))
     (λ e. Ok e) ≡ Ok new) is made in
     sym so_far ∙ at_end text tokens F i old le inside ∙ line_taken old new _ [] here
+
+-- the last line, whether or not it has a fault
+pub end_taken : (text : List ℕ) (tokens F line : List Token) (i : ℕ) (old new : Draft)
+    (answer : Result (Unit {0}) AsmFault) (all : Result Draft AsmFault) → length tokens ≤ i
+    → InLine (map (seen text) F) → line ≡ F
+    → MakesLine answer new (line_or_none old (record { rest = map (seen text) line; end = length text }))
+    → rest_drafted text tokens i F old ≡ all → AnswersAs is_refusal (λ _. new) answer all
+end_taken text tokens F line i old new (Ok x) all le inside is made so_far =
+    end_done text tokens F line i old new all le inside is made so_far
+end_taken text tokens F line i old new (Err e) all le inside is failed so_far =
+    end_fails text tokens F line i old e all le inside is failed so_far

@@ -1,13 +1,13 @@
 //! What the lines of a text have made so far.
-ghost use Rattle.std.specs.Prelude.{◌≡◌, ◌<◌, ◌&&◌, length, OnOk, IfOk, None};
+ghost use Rattle.std.specs.Prelude.{◌≡◌, ◌<◌, ◌&&◌, length, Ok, Err, OnOk, IfOk, None, MatchResult};
 ghost use Rattle.component_file.specs.declared.TheConstants.{MOST_WORDS};
 ghost use Rattle.readers.specs.Answers.{AnswersAs};
 ghost use Rattle.asm_fields.specs.Fault.{is_refusal};
 ghost use Rattle.assembler.specs.Labels.{label_of};
-ghost use Rattle.readers.specs.Answers.{Gives};
+ghost use Rattle.readers.specs.Answers.{Gives, GivesAs};
 ghost use Rattle.asm_fields.specs.Fields.{proper_name_at};
 ghost use Rattle.asm_fields.specs.Instrs.{last_seen};
-ghost use Rattle.asm_fields.specs.Operands.{offset_seen, kind_seen};
+ghost use Rattle.asm_fields.specs.Operands.{offset_seen, kind_seen, stretch_at};
 ghost use Rattle.assembler.specs.Order.{reaches_data};
 ghost use Rattle.assembler.specs.Tables.{tables_seen};
 ghost use Rattle.assembler.specs.Draft.{nothing, words_in, has_word_room, with_word, may_end, with_label};
@@ -243,10 +243,7 @@ impl<'a> Draft<'a> {
         let Some(row) = row_named(name) else {
             return Err(AsmFault::Unknown(at));
         };
-        if !is_code(section_of(self.last)) {
-            return Err(AsmFault::Section(at));
-        }
-        if !self.has_word_room(Section::Code) {
+        if !is_code(section_of(self.last)) || !self.has_word_room(Section::Code) {
             return Err(AsmFault::Section(at));
         }
         let (instr, last) = instr_operands(at, name, shape_of(&row), fields)?;
@@ -405,25 +402,21 @@ impl<'a> Draft<'a> {
         ensures { MakesDraft result self.new fields.new (operands_in at item self.old fields.old) }
     {
         match item {
-            ItemKind::Name => self.header.name = name(alloc, fields)?,
-            ItemKind::Stack => self.header.stack_base = fields.address()?,
-            ItemKind::Closure => self.header.closure = fields.address()?,
-            ItemKind::Movable => self.header.movable = true,
-            ItemKind::Seals => {
-                let seals = fields.stretch()?;
-                self.header.seals = SealRange::new(seals.base, seals.count);
-            }
-            ItemKind::Linear => self.header.linear = fields.stretch()?,
-            ItemKind::Code => self.header.code_base = fields.address()?,
-            ItemKind::Data => self.header.data_base = fields.address()?,
-            ItemKind::Import => self.import(alloc, at, fields)?,
-            ItemKind::Export => self.export(alloc, at, fields)?,
-            ItemKind::Site => self.site(at, fields)?,
-            ItemKind::Fail => self.fail(fields)?,
-            ItemKind::Literal => self.literal(fields)?,
-            ItemKind::Row => self.row(at, fields)?,
+            ItemKind::Name => put(&mut self.header.name, name(alloc, fields)),
+            ItemKind::Stack => put(&mut self.header.stack_base, fields.address()),
+            ItemKind::Closure => put(&mut self.header.closure, fields.address()),
+            ItemKind::Movable => put(&mut self.header.movable, Ok(true)),
+            ItemKind::Seals => put(&mut self.header.seals, seals(fields)),
+            ItemKind::Linear => put(&mut self.header.linear, fields.stretch()),
+            ItemKind::Code => put(&mut self.header.code_base, fields.address()),
+            ItemKind::Data => put(&mut self.header.data_base, fields.address()),
+            ItemKind::Import => self.import(alloc, at, fields),
+            ItemKind::Export => self.export(alloc, at, fields),
+            ItemKind::Site => self.site(at, fields),
+            ItemKind::Fail => self.fail(fields),
+            ItemKind::Literal => self.literal(fields),
+            ItemKind::Row => self.row(at, fields),
         }
-        Ok(())
     }
 
     fn may_stand(&self, labelled: bool, item: ItemKind) -> bool
@@ -509,6 +502,23 @@ fn is_code(section: Option<Section>) -> bool
     ensures { result ≡ is_code section }
 {
     matches!(section, Some(Section::Code))
+}
+
+// Puts what was read into its place.
+fn put<T: Drop>(place: &mut T, read: Result<T, AsmFault>) -> Result<(), AsmFault>
+    ensures { MatchResult read (λ x. (result ≡ Ok tt) × (place.new ≡ x)) (λ e. result ≡ Err e) }
+{
+    *place = read?;
+    Ok(())
+}
+
+// The seals of return points.
+fn seals(fields: &mut Fields<'_, '_>) -> Result<SealRange, AsmFault>
+    ensures { GivesAs (λ s. record { base = s.base; count = s.count }) result fields.new
+        (stretch_at fields.old) }
+{
+    let stretch = fields.stretch()?;
+    Ok(SealRange::new(stretch.base, stretch.count))
 }
 
 // A name, in memory of its own.

@@ -1,7 +1,7 @@
 //! All lines of a text.
 ghost use Rattle.std.specs.Prelude.{◌≡◌, ◌<◌, ◌^◌, length, map};
 ghost use Rattle.text_scan.specs.Grammar.{Placed};
-ghost use Rattle.readers.specs.Answers.{AnswersUnlessRefused};
+ghost use Rattle.readers.specs.Answers.{AnswersAs, AnswersUnlessRefused};
 ghost use Rattle.asm_fields.specs.Fault.{is_refusal};
 ghost use Rattle.asm_fields.specs.Fields.{InText, seen};
 ghost use Rattle.assembler.specs.Draft.{nothing};
@@ -43,6 +43,30 @@ fn take_line<'a>(
     draft.line(alloc, &mut fields)
 }
 
+// Takes all lines, up to the first fault.
+fn take_lines<'a>(
+    alloc: Global,
+    draft: &mut Draft<'a>,
+    text: &'a [u8],
+    tokens: &[Token],
+) -> Result<(), AsmFault>
+    requires slices { InText text.now tokens.now }
+    requires short { length text.now < 2 ^ 32 }
+    ensures { AnswersAs is_refusal (λ _. draft.new) result
+        (drafted draft.old (lines_of (map (seen text.now) tokens.now) (length text.now))) }
+{
+    let mut line: SmallVec<Token, SHORT_LINE> = SmallVec::new(alloc);
+    for token in tokens {
+        if is_newline(token.kind) {
+            take_line(alloc, draft, text, line.as_slice(), token.at)?;
+            line.clear();
+        } else {
+            line.push(*token)?;
+        }
+    }
+    take_line(alloc, draft, text, line.as_slice(), text.len() as u32)
+}
+
 // The draft that all lines make, whether or not the text may end after them.
 fn draft_of_lines<'a>(
     alloc: Global,
@@ -55,24 +79,13 @@ fn draft_of_lines<'a>(
         (drafted nothing (lines_of (map (seen text.now) tokens.now) (length text.now))) }
 {
     let mut draft = Draft::new(alloc);
-    let mut line: SmallVec<Token, SHORT_LINE> = SmallVec::new(alloc);
-    for token in tokens {
-        if is_newline(token.kind) {
-            if let Err(fault) = take_line(alloc, &mut draft, text, line.as_slice(), token.at) {
-                draft.give_up();
-                return Err(fault);
-            }
-            line.clear();
-        } else if line.push(*token).is_err() {
+    match take_lines(alloc, &mut draft, text, tokens) {
+        Ok(()) => Ok(draft),
+        Err(fault) => {
             draft.give_up();
-            return Err(AsmFault::NoMemory);
+            Err(fault)
         }
     }
-    if let Err(fault) = take_line(alloc, &mut draft, text, line.as_slice(), text.len() as u32) {
-        draft.give_up();
-        return Err(fault);
-    }
-    Ok(draft)
 }
 
 /// The draft that a text makes, which has these tokens, or the first fault of its lines. Where memory is
