@@ -5,7 +5,6 @@ use Rattle.proc_language.specs.declared.module.Import.{Import}
 use Rattle.proc_language.specs.declared.module.Global.{Global}
 use Rattle.proc_language.specs.declared.module.Param.{Param}
 use Rattle.proc_language.specs.declared.module.Proc.{Proc}
-use Rattle.proc_language.specs.declared.module.ModuleFields.{ModuleFields}
 use Rattle.proc_language.specs.Tree.{Stmt}
 use Rattle.token_language.specs.declared.module.TokenProc.{TokenProc}
 use Rattle.token_language.specs.declared.module.TokenModuleFields.{TokenModuleFields}
