@@ -19,6 +19,14 @@ fn owned(alloc: Global, text: &[u8]) -> Result<Items<u8>, AllocError>
     Ok(Items::of(Vec::from_slice(alloc, text)?))
 }
 
+// A part's name and another.
+fn owned_pair(alloc: Global, part: &[u8], name: &[u8]) -> Result<(Items<u8>, Items<u8>), AllocError>
+    ensures { IfOk result (λ p. (p.0 ≡ part.now) × (p.1 ≡ name.now)) }
+{
+    let part = owned(alloc, part)?;
+    Ok((part, owned(alloc, name)?))
+}
+
 // What a return would do.
 fn back_of(alloc: Global, back: &WayBack<'_>) -> Result<FeedBack, AllocError>
     ensures { IfOk result (λ b. b ≡ back_seen back.now) }
@@ -27,8 +35,8 @@ fn back_of(alloc: Global, back: &WayBack<'_>) -> Result<FeedBack, AllocError>
         WayBack::Out => Ok(FeedBack::Out),
         WayBack::Bad => Ok(FeedBack::Bad),
         WayBack::Hop(entry) => {
-            let part = owned(alloc, entry.part)?;
-            Ok(FeedBack::Hop(part, owned(alloc, entry.name)?))
+            let (part, name) = owned_pair(alloc, entry.part, entry.name)?;
+            Ok(FeedBack::Hop(part, name))
         }
         WayBack::Pair(call) => Ok(FeedBack::Pair(owned(alloc, call.part)?, call.site, call.base)),
     }
@@ -43,8 +51,8 @@ fn pair_of(alloc: Global, pair: &Handed<'_>) -> Result<FeedPair, AllocError>
         Handed::Bad => Ok(FeedPair::Bad),
         Handed::Out => Ok(FeedPair::Out),
         Handed::Hop(entry) => {
-            let part = owned(alloc, entry.part)?;
-            Ok(FeedPair::Hop(part, owned(alloc, entry.name)?))
+            let (part, name) = owned_pair(alloc, entry.part, entry.name)?;
+            Ok(FeedPair::Hop(part, name))
         }
     }
 }
@@ -110,13 +118,15 @@ fn entered_item(
     alloc: Global,
     base: u32,
     e: &Entered<'_>,
-    pairs: [FeedPair; 3],
+    lines: &Parts<'_>,
 ) -> Result<Item, AllocError>
-    ensures { IfOk result (λ i. i ≡ entered_item base e.now pairs) }
+    ensures { IfOk result (λ i. i ≡ entered_item base e.now (pairs_next lines.now)) }
 {
+    let (part, name) = owned_pair(alloc, e.part, e.name)?;
+    let back = back_of(alloc, &e.back)?;
     Ok(Item::Enter {
-        part: owned(alloc, e.part)?,
-        name: owned(alloc, e.name)?,
+        part,
+        name,
         left: left_in(base, e.stk),
         args: [
             integer_in(e.a0),
@@ -124,8 +134,8 @@ fn entered_item(
             integer_in(e.a2),
             integer_in(e.a3),
         ],
-        pairs,
-        back: back_of(alloc, &e.back)?,
+        pairs: pairs_behind(alloc, lines)?,
+        back,
     })
 }
 
@@ -150,10 +160,7 @@ pub(crate) fn item_of(
     ensures { IfOk result (λ i. i ≡ line_item base seen.now lines.now) }
 {
     match seen {
-        FeedLine::Enter(e) => {
-            let pairs = pairs_behind(alloc, lines)?;
-            Ok(Some(entered_item(alloc, base, e, pairs)?))
-        }
+        FeedLine::Enter(e) => Ok(Some(entered_item(alloc, base, e, lines)?)),
         FeedLine::Ret(r) => Ok(Some(answer_item(alloc, r)?)),
         _ => Ok(None),
     }
