@@ -1,4 +1,5 @@
-use Rattle.std.proofs.Common.{rules, ◌≡◌, ◌≤◌, ◌+◌, ◌∷◌, sym, ap, ap₂, ◌∙◌, subst, arith, max, min, drop, ◌^◌, ◌-◌}
+use Rattle.std.proofs.Common.{rules, ◌≡◌, ◌≤◌, ◌+◌, ◌∷◌, sym, ap, ap₂, ◌∙◌, subst, arith, max, min, drop}
+use Rattle.std.proofs.Common.{◌^◌, ◌-◌}
 use Rattle.proc_language.specs.Tree.{block_size}
 use Rattle.proc_language.specs.StmtView.{stmt_at, block_of}
 use Rattle.proc_language.proofs.Offers.{drop_item}
