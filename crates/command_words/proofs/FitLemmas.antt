@@ -14,20 +14,18 @@ use Rattle.command_words.specs.Number.{number_in, number_or, steps_in, size_in, 
 use Rattle.command_words.specs.Part.{mark_in, ending_in, may_be, has_tokens, part_in, parts_in, some_parts_in}
 use Rattle.command_words.specs.Part.{one_part_in, image_in, one_image_in}
 use Rattle.command_words.specs.Action.{action_in, image_or_parts, is_assembler, is_module, is_source}
-use Rattle.command_words.specs.Action.{linked_asked, runs_in, run_in, trace_in, put_in, assemble_in}
-use Rattle.command_words.specs.Action.{compile_in, erase_in, part_alone_in, dis_in, check_in, link_in}
-use Rattle.command_words.specs.Action.{modules_in, mean_by, mean_in, generate_in, reach_in, debug_in}
-use Rattle.command_words.specs.Action.{audit_in, asked_by, asked_in}
-use Rattle.command_words.specs.Fits.{Fits, FitsLinked, FitsModules, FitsName, FitsPart, FitsParts}
-use Rattle.command_words.specs.Fits.{FitsStack, FitsSteps}
+use Rattle.command_words.specs.Action.{linked_asked, run_in, assemble_in, compile_in, part_alone_in, link_in}
+use Rattle.command_words.specs.Action.{mean_in, generate_in, asked_of, asked_in}
+use Rattle.command_words.specs.Action.{reach_in, debug_in, audit_in, erase_in}
+use Rattle.command_words.specs.Fits.{Fits, FitsLinked, FitsName, FitsPart, FitsParts, FitsStack, FitsSteps}
 use Rattle.command_words.specs.declared.TheConstants.{MOST_PARTS, GREATEST_SEED}
 use Rattle.command_words.specs.declared.part.PartWord.{PartWord}
 use Rattle.command_words.specs.declared.command.Linked.{Linked}
-use Rattle.command_words.specs.declared.command.Linked.TheVariants.{Image}
+use Rattle.command_words.specs.declared.command.Linked.TheVariants.{Parts, Image}
 use Rattle.command_words.specs.declared.command.Command.{Command}
 use Rattle.command_words.specs.declared.command.LinkDeed.TheVariants.{Run, Trace}
 use Rattle.command_words.specs.declared.command.ComponentDeed.TheVariants.{Put, Show}
-use Rattle.command_words.specs.declared.command.Command.TheVariants.{Links, Takes, Checks, Generate}
+use Rattle.command_words.specs.declared.command.Command.TheVariants.{Links, Takes, Checks, Mean, Generate}
 use Rattle.command_words.specs.declared.command.Command.TheVariants.{Audit, Erase}
 use Rattle.command_words.specs.declared.action.Action.{Action}
 use Rattle.command_words.specs.declared.action.Action.TheVariants as action
@@ -147,86 +145,67 @@ one_image_fits (Some []) = tt
 one_image_fits (Some (word ∷ [])) = image_fits word
 one_image_fits (Some (word ∷ more ∷ words)) = tt
 
-linked_fits : (parts : Option (List PartWord)) (t : Taken) → IfSome parts FitsParts → IfSome
-    (linked_asked parts t) FitsLinked
+parts_linked_fit : (words : Option (List Text)) (stack : Option Text)
+    → IfSome
+    (option_and_then (λ size. option_and_then (λ parts. Some (Parts parts size)) (some_parts_in words))
+    (size_in stack)) FitsLinked
+parts_linked_fit words stack =
+    next (size_in stack) _ FitsStack FitsLinked (size_fits stack) (λ size s.
+    next (some_parts_in words) _ FitsParts FitsLinked (some_parts_fit words) (λ parts p. (p, s)))
+
+linked_fits : (words : Option (List Text)) (stack : Option Text) → IfSome
+    (linked_asked words stack) FitsLinked
 unfolding linked_asked
-linked_fits parts t h = by (one_image_in t.parts) (one_image_fits t.parts)
+linked_fits words stack = by (one_image_in words) (one_image_fits words)
   where
-    by : (o : Option Text) → IfSome o FitsName → IfSome (image_or_parts o parts t.stack) FitsLinked
-    by None i =
-        next (size_in t.stack) _ FitsStack FitsLinked (size_fits t.stack) (λ size s.
-        next parts _ FitsParts FitsLinked h (λ words p. (p, s)))
-    by (Some name) i = unless (is_some t.stack) (Some (Image name)) FitsLinked i
+    by : (o : Option Text) → IfSome o FitsName → IfSome (image_or_parts o words stack) FitsLinked
+    by None h = parts_linked_fit words stack
+    by (Some name) h = unless (is_some stack) (Some (Image name)) FitsLinked h
 
 abbrev FitsRun : Linked × ℕ → Type 0
 FitsRun p = FitsLinked p.0 × FitsSteps p.1
 
-runs_fit : (parts : Option (List PartWord)) (t : Taken) → IfSome parts FitsParts
-    → IfSome (runs_in parts t) FitsRun
-unfolding runs_in
-runs_fit parts t h = unless _ _ FitsRun (
+run_fits : (t : Taken) → IfSome (run_in t) FitsRun
+unfolding run_in
+run_fits t = unless _ _ FitsRun (
     next (steps_in t.steps) _ FitsSteps FitsRun (steps_fit t.steps) (λ steps s.
-    next (linked_asked parts t) _ FitsLinked FitsRun (linked_fits parts t h) (λ what w. (w, s))))
-
-abbrev FitsPut : PartWord × Text → Type 0
-FitsPut p = FitsPart p.0 × FitsName p.1
-
-put_fits : (t : Taken) → IfSome (put_in t) FitsPut
-unfolding put_in
-put_fits t = unless _ _ FitsPut (
-    next (one_part_in t.parts) _ FitsPart FitsPut (one_part_fits t.parts) (λ part p.
-    next (file_of t.out) _ FitsName FitsPut (file_fits t.out) (λ out o. (p, o))))
+    next (linked_asked t.parts t.stack) _ FitsLinked FitsRun (linked_fits t.parts t.stack)
+    (λ what w. (w, s))))
 
 assemble_fits : (t : Taken) → IfSome (assemble_in t) Fits
 unfolding assemble_in
-assemble_fits t = next (put_in t) _ FitsPut Fits (put_fits t) (λ put p.
-    where_true (is_assembler put.0.ending) (Some (Takes put.0 (Put put.1))) Fits (λ e. p))
+assemble_fits t = unless _ _ Fits (
+    next (one_part_in t.parts) _ FitsPart Fits (one_part_fits t.parts) (λ part p.
+    next (file_of t.out) _ FitsName Fits (file_fits t.out) (λ out o.
+    where_true (is_assembler part.ending) (Some (Takes part (Put out))) Fits (λ e. (p, o)))))
 
 compile_fits : (t : Taken) → IfSome (compile_in t) Fits
 unfolding compile_in
-compile_fits t = next (put_in t) _ FitsPut Fits (put_fits t) (λ put p.
-    where_true (is_source put.0.ending) (Some (Takes put.0 (Put put.1))) Fits (λ e. p))
-
-erase_fits : (t : Taken) → IfSome (erase_in t) Fits
-unfolding erase_in
-erase_fits t = next (put_in t) _ FitsPut Fits (put_fits t) (λ put p.
-    where_true (has_tokens put.0.ending) (Some (Erase put.0 put.1)) Fits (λ e. (p.0, e, p.1)))
+compile_fits t = unless _ _ Fits (
+    next (one_part_in t.parts) _ FitsPart Fits (one_part_fits t.parts) (λ part p.
+    next (file_of t.out) _ FitsName Fits (file_fits t.out) (λ out o.
+    where_true (is_source part.ending) (Some (Takes part (Put out))) Fits (λ e. (p, o)))))
 
 part_alone_fits : (t : Taken) → IfSome (part_alone_in t) FitsPart
 unfolding part_alone_in
 part_alone_fits t = unless _ _ FitsPart (one_part_fits t.parts)
 
-link_fits : (parts : Option (List PartWord)) (t : Taken) → IfSome parts FitsParts
-    → IfSome (link_in parts t) Fits
+link_fits : (t : Taken) → IfSome (link_in t) Fits
 unfolding link_in
-link_fits parts t h = unless _ _ Fits (
+link_fits t = unless _ _ Fits (
     next (size_in t.stack) _ FitsStack Fits (size_fits t.stack) (λ size s.
     next (file_of t.out) _ FitsName Fits (file_fits t.out) (λ out o.
-    next parts _ FitsParts Fits h (λ words p. ((p, s), o)))))
+    next (some_parts_in t.parts) _ FitsParts Fits (some_parts_fit t.parts) (λ parts p. ((p, s), o)))))
 
-modules_fit : (parts : Option (List PartWord)) → IfSome parts FitsParts
-    → IfSome (modules_in parts) FitsModules
-unfolding modules_in
-modules_fit parts h = next parts _ FitsParts FitsModules h (λ modules p.
-    where_true (list_all is_module modules) (Some modules) FitsModules (λ e. (p, e)))
-
-abbrev FitsMeanBy : ℕ × ℕ × Text → Type 0
-FitsMeanBy by = FitsStack by.0 × FitsSteps by.1 × FitsName by.2
-
-mean_by_fits : (t : Taken) → IfSome (mean_by t) FitsMeanBy
-unfolding mean_by
-mean_by_fits t = unless _ _ FitsMeanBy (
-    next (size_in t.stack) _ FitsStack FitsMeanBy (size_fits t.stack) (λ size s.
-    next (steps_in t.steps) _ FitsSteps FitsMeanBy (steps_fit t.steps) (λ fuel f.
-    next (file_of t.feed) _ FitsName FitsMeanBy (file_fits t.feed) (λ feed n.
-    (s, f, n)))))
-
-mean_fits : (parts : Option (List PartWord)) (t : Taken) → IfSome parts FitsParts
-    → IfSome (mean_in parts t) Fits
+mean_fits : (t : Taken) → IfSome (mean_in t) Fits
 unfolding mean_in
-mean_fits parts t h =
-    next (mean_by t) _ FitsMeanBy Fits (mean_by_fits t) (λ by b.
-    next (modules_in parts) _ FitsModules Fits (modules_fit parts h) (λ modules p. (p, b.0, b.1, b.2)))
+mean_fits t = unless _ _ Fits (
+    next (size_in t.stack) _ FitsStack Fits (size_fits t.stack) (λ size s.
+    next (steps_in t.steps) _ FitsSteps Fits (steps_fit t.steps) (λ fuel f.
+    next (file_of t.feed) _ FitsName Fits (file_fits t.feed) (λ feed n.
+    next (some_parts_in t.parts) _ FitsParts Fits (some_parts_fit t.parts) (λ modules p.
+    where_true (list_all is_module modules) (Some (Mean modules size fuel feed)) Fits
+    (λ e. ((p, e), s, f, n)))))))
 
 generate_fits : (t : Taken) → IfSome (generate_in t) Fits
 unfolding generate_in
@@ -234,64 +213,48 @@ generate_fits t =
     unless _ _ Fits
     (made (seed_in t.seed) Generate (λ n. n ≤ GREATEST_SEED) Fits (seed_fits t.seed) (λ seed s. s))
 
-reach_fits : (parts : Option (List PartWord)) (t : Taken) → IfSome parts FitsParts
-    → IfSome (reach_in parts t) Fits
+reach_fits : (t : Taken) → IfSome (reach_in t) Fits
 unfolding reach_in
-reach_fits parts t h = unless _ _ Fits (
-    next (linked_asked parts t) _ FitsLinked Fits (linked_fits parts t h) (λ what w. (w, tt)))
+reach_fits t = unless _ _ Fits (
+    next (linked_asked t.parts t.stack) _ FitsLinked Fits (linked_fits t.parts t.stack) (λ what w. (w, tt)))
 
-debug_fits : (parts : Option (List PartWord)) (t : Taken) → IfSome parts FitsParts
-    → IfSome (debug_in parts t) Fits
+debug_fits : (t : Taken) → IfSome (debug_in t) Fits
 unfolding debug_in
-debug_fits parts t h = unless _ _ Fits (
+debug_fits t = unless _ _ Fits (
     next (file_of t.feed) _ FitsName Fits (file_fits t.feed) (λ script n.
-    next (linked_asked parts t) _ FitsLinked Fits (linked_fits parts t h) (λ what w. (w, n))))
+    next (linked_asked t.parts t.stack) _ FitsLinked Fits (linked_fits t.parts t.stack) (λ what w. (w, n))))
 
 audit_fits : (t : Taken) → IfSome (audit_in t) Fits
 unfolding audit_in
 audit_fits t = unless _ _ Fits (made (file_of t.feed) Audit FitsName Fits (file_fits t.feed) (λ text n. n))
 
-run_fits : (parts : Option (List PartWord)) (t : Taken) → IfSome parts FitsParts
-    → IfSome (run_in parts t) Fits
-unfolding run_in
-run_fits parts t h =
-    made (runs_in parts t) (λ p. Links p.0 (Run p.1)) FitsRun Fits (runs_fit parts t h) (λ p i. i)
+erase_fits : (t : Taken) → IfSome (erase_in t) Fits
+unfolding erase_in
+erase_fits t = unless _ _ Fits (
+    next (one_part_in t.parts) _ FitsPart Fits (one_part_fits t.parts) (λ part p.
+    next (file_of t.out) _ FitsName Fits (file_fits t.out) (λ out o.
+    where_true (has_tokens part.ending) (Some (Erase part out)) Fits (λ e. (p, e, o)))))
 
-trace_fits : (parts : Option (List PartWord)) (t : Taken) → IfSome parts FitsParts
-    → IfSome (trace_in parts t) Fits
-unfolding trace_in
-trace_fits parts t h =
-    made (runs_in parts t) (λ p. Links p.0 (Trace p.1)) FitsRun Fits (runs_fit parts t h) (λ p i. i)
-
-dis_fits : (t : Taken) → IfSome (dis_in t) Fits
-unfolding dis_in
-dis_fits t = made (part_alone_in t) (λ p. Takes p Show) FitsPart Fits (part_alone_fits t) (λ p h. (h, tt))
-
-check_fits : (t : Taken) → IfSome (check_in t) Fits
-unfolding check_in
-check_fits t = made (part_alone_in t) Checks FitsPart Fits (part_alone_fits t) (λ p h. h)
-
-asked_by_fits : (a : Action) (parts : Option (List PartWord)) (t : Taken) → IfSome parts FitsParts
-    → IfSome (asked_by a parts t) Fits
-asked_by_fits action.Run parts t h = run_fits parts t h
-asked_by_fits action.Trace parts t h = trace_fits parts t h
-asked_by_fits action.Assemble parts t h = assemble_fits t
-asked_by_fits action.Compile parts t h = compile_fits t
-asked_by_fits action.Disassemble parts t h = dis_fits t
-asked_by_fits action.Check parts t h = check_fits t
-asked_by_fits action.Link parts t h = link_fits parts t h
-asked_by_fits action.Mean parts t h = mean_fits parts t h
-asked_by_fits action.Generate parts t h = generate_fits t
-asked_by_fits action.Reach parts t h = reach_fits parts t h
-asked_by_fits action.Debug parts t h = debug_fits parts t h
-asked_by_fits action.Audit parts t h = audit_fits t
-asked_by_fits action.Erase parts t h = erase_fits t
+asked_of_fits : (a : Action) (t : Taken) → IfSome (asked_of a t) Fits
+asked_of_fits action.Run t = made (run_in t) (λ p. Links p.0 (Run p.1)) FitsRun Fits (run_fits t) (λ p h. h)
+asked_of_fits action.Trace t = made (run_in t) (λ p. Links p.0 (Trace p.1)) FitsRun Fits (run_fits t)
+    (λ p h. h)
+asked_of_fits action.Assemble t = assemble_fits t
+asked_of_fits action.Compile t = compile_fits t
+asked_of_fits action.Disassemble t =
+    made (part_alone_in t) (λ p. Takes p Show) FitsPart Fits (part_alone_fits t) (λ p h. (h, tt))
+asked_of_fits action.Check t = made (part_alone_in t) Checks FitsPart Fits (part_alone_fits t) (λ p h. h)
+asked_of_fits action.Link t = link_fits t
+asked_of_fits action.Mean t = mean_fits t
+asked_of_fits action.Generate t = generate_fits t
+asked_of_fits action.Reach t = reach_fits t
+asked_of_fits action.Debug t = debug_fits t
+asked_of_fits action.Audit t = audit_fits t
+asked_of_fits action.Erase t = erase_fits t
 
 asked_fits : (words : List Text) → IfSome (asked_in words) Fits
 asked_fits words = any (rows words) _ Fits (λ found. any (taken_of found).action _ Fits (λ word.
-    any (action_in word) _ Fits (λ a.
-    asked_by_fits a (some_parts_in (taken_of found).parts) (taken_of found)
-    (some_parts_fit (taken_of found).parts))))
+    any (action_in word) _ Fits (λ a. asked_of_fits a (taken_of found))))
 
 pub asked_command_fits : (words : List Text) (c : Command) → asked_in words ≡ Some c → Fits c
 asked_command_fits words c e = by (asked_in words) (asked_fits words) e

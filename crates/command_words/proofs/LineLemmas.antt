@@ -1,13 +1,15 @@
 -- The command that the code builds, and what its parse says.
-use Rattle.std.proofs.Common.{◌≡◌, ◌∙◌, ap, refl, Bool, List, [], ◌∷◌, true, Option, Some, None}
+use Rattle.std.proofs.Common.{◌≡◌, ◌∙◌, ap, refl, Bool, false, List, [], ◌∷◌, true, Option, Some, None}
 use Rattle.std.proofs.Common.{codes}
-use Rattle.clap.specs.Words.{all_of, first_of, App, Row, Text, fault_of, is_simple_and_free}
+use Rattle.clap.specs.Words.{all_of, first_of, App, Row, Text, fault_of, is_simple, is_simple_and_free}
 use Rattle.clap.specs.Words.{matches_of}
 use Rattle.clap.specs.Simple.{built, names_of, on_top}
 use Rattle.clap.specs.Walk.{Names, Walk, nothing_held, walk_from, walked}
 use Rattle.clap.specs.Faults.{turn_fault, walk_fault}
-use Rattle.clap.specs.Kinds.{or_else, Kinds}
+use Rattle.clap.specs.Kinds.{or_else, IsAmong, Kinds}
+use Rattle.clap.specs.declared.error.kind.ErrorKind.{ErrorKind}
 use Rattle.std.specs.Prelude.{if◌then◌else◌}
+use Rattle.clap.specs.Takes.{takes}
 use Rattle.command_words.proofs.FaultLaw.{clear, fault_law}
 use Rattle.command_words.specs.Line.{Taken, line, named, rows, taken_of}
 use Rattle.command_words.specs.Rows.{rows_by, unless_faults}

@@ -50,108 +50,74 @@ is_assembler (Source dialect) = false
 is_assembler Assembler = true
 is_assembler Component = false
 
-abbrev pub image_or_parts : Option Text → Option (List PartWord) → Option Text → Option Linked
-image_or_parts (Some name) parts stack = if is_some stack then None else Some (Image name)
-image_or_parts None parts stack = do
+abbrev pub image_or_parts : Option Text → Option (List Text) → Option Text → Option Linked
+image_or_parts (Some name) words stack = if is_some stack then None else Some (Image name)
+image_or_parts None words stack = do
   size ← size_in stack
-  words ← parts
-  Some (Parts words size)
+  parts ← some_parts_in words
+  Some (Parts parts size)
 
--- one image word and no size of a stack, or these parts
-unfoldable pub linked_asked : Option (List PartWord) → Taken → Option Linked
-linked_asked parts t = image_or_parts (one_image_in t.parts) parts t.stack
+-- one image word and no size of a stack, or part words
+unfoldable pub linked_asked : Option (List Text) → Option Text → Option Linked
+linked_asked words stack = image_or_parts (one_image_in words) words stack
 
 -- what `run` and `trace` ask for
-unfoldable pub runs_in : Option (List PartWord) → Taken → Option (Linked × ℕ)
-runs_in parts t = if any_used (t.out ∷ t.feed ∷ t.seed ∷ []) then None else do
+unfoldable pub run_in : Taken → Option (Linked × ℕ)
+run_in t = if any_used (t.out ∷ t.feed ∷ t.seed ∷ []) then None else do
   steps ← steps_in t.steps
-  what ← linked_asked parts t
+  what ← linked_asked t.parts t.stack
   Some (what, steps)
 
-unfoldable pub run_in : Option (List PartWord) → Taken → Option Command
-run_in parts t = option_map (λ p. Links p.0 (Run p.1)) (runs_in parts t)
-
-unfoldable pub trace_in : Option (List PartWord) → Taken → Option Command
-trace_in parts t = option_map (λ p. Links p.0 (Trace p.1)) (runs_in parts t)
-
--- the one part of which something is put into a file, and that file
-unfoldable pub put_in : Taken → Option (PartWord × Text)
-put_in t = if any_used (t.stack ∷ t.steps ∷ t.feed ∷ t.seed ∷ []) then None else do
+unfoldable pub assemble_in : Taken → Option Command
+assemble_in t = if any_used (t.stack ∷ t.steps ∷ t.feed ∷ t.seed ∷ []) then None else do
   part ← one_part_in t.parts
   out ← file_of t.out
-  Some (part, out)
-
-unfoldable pub assemble_in : Taken → Option Command
-assemble_in t = do
-  put ← put_in t
-  if is_assembler put.0.ending then Some (Takes put.0 (Put put.1)) else None
+  if is_assembler part.ending then Some (Takes part (Put out)) else None
 
 unfoldable pub compile_in : Taken → Option Command
-compile_in t = do
-  put ← put_in t
-  if is_source put.0.ending then Some (Takes put.0 (Put put.1)) else None
-
-unfoldable pub erase_in : Taken → Option Command
-erase_in t = do
-  put ← put_in t
-  if has_tokens put.0.ending then Some (Erase put.0 put.1) else None
+compile_in t = if any_used (t.stack ∷ t.steps ∷ t.feed ∷ t.seed ∷ []) then None else do
+  part ← one_part_in t.parts
+  out ← file_of t.out
+  if is_source part.ending then Some (Takes part (Put out)) else None
 
 -- what `dis` and `check` ask for
 unfoldable pub part_alone_in : Taken → Option PartWord
 part_alone_in t =
     if any_used (t.stack ∷ t.steps ∷ t.out ∷ t.feed ∷ t.seed ∷ []) then None else one_part_in t.parts
 
-unfoldable pub dis_in : Taken → Option Command
-dis_in t = option_map (λ part. Takes part Show) (part_alone_in t)
-
-unfoldable pub check_in : Taken → Option Command
-check_in t = option_map Checks (part_alone_in t)
-
-unfoldable pub link_in : Option (List PartWord) → Taken → Option Command
-link_in parts t = if any_used (t.steps ∷ t.feed ∷ t.seed ∷ []) then None else do
+unfoldable pub link_in : Taken → Option Command
+link_in t = if any_used (t.steps ∷ t.feed ∷ t.seed ∷ []) then None else do
   size ← size_in t.stack
   out ← file_of t.out
-  words ← parts
-  Some (Links (Parts words size) (Store out))
+  parts ← some_parts_in t.parts
+  Some (Links (Parts parts size) (Store out))
 
 -- `t:NAME.prc` or `t:NAME.tok`
 abbrev pub is_module : PartWord → Bool
 is_module p = is_trusted_mark p.mark && is_source p.ending
 
--- the parts, where each of them is a module
-unfoldable pub modules_in : Option (List PartWord) → Option (List PartWord)
-modules_in parts = do
-  modules ← parts
-  if list_all is_module modules then Some modules else None
-
--- with what the meaning of modules is asked for: the stack, the fuel and the feed
-unfoldable pub mean_by : Taken → Option (ℕ × ℕ × Text)
-mean_by t = if any_used (t.out ∷ t.seed ∷ []) then None else do
+unfoldable pub mean_in : Taken → Option Command
+mean_in t = if any_used (t.out ∷ t.seed ∷ []) then None else do
   size ← size_in t.stack
   fuel ← steps_in t.steps
   feed ← file_of t.feed
-  Some (size, fuel, feed)
-
-unfoldable pub mean_in : Option (List PartWord) → Taken → Option Command
-mean_in parts t = do
-  by ← mean_by t
-  modules ← modules_in parts
-  Some (Mean modules by.0 by.1 by.2)
+  modules ← some_parts_in t.parts
+  if list_all is_module modules then Some (Mean modules size fuel feed) else None
 
 unfoldable pub generate_in : Taken → Option Command
 generate_in t =
     if is_some t.parts || any_used (t.stack ∷ t.steps ∷ t.out ∷ t.feed ∷ []) then None
     else option_map Generate (seed_in t.seed)
 
-unfoldable pub reach_in : Option (List PartWord) → Taken → Option Command
-reach_in parts t = if any_used (t.steps ∷ t.out ∷ t.feed ∷ t.seed ∷ []) then None else do
-  what ← linked_asked parts t
+unfoldable pub reach_in : Taken → Option Command
+reach_in t = if any_used (t.steps ∷ t.out ∷ t.feed ∷ t.seed ∷ []) then None else do
+  what ← linked_asked t.parts t.stack
   Some (Links what Reach)
 
-unfoldable pub debug_in : Option (List PartWord) → Taken → Option Command
-debug_in parts t = if any_used (t.steps ∷ t.out ∷ t.seed ∷ []) then None else do
+unfoldable pub debug_in : Taken → Option Command
+debug_in t = if any_used (t.steps ∷ t.out ∷ t.seed ∷ []) then None else do
   script ← file_of t.feed
-  what ← linked_asked parts t
+  what ← linked_asked t.parts t.stack
   Some (Debug what script)
 
 unfoldable pub audit_in : Taken → Option Command
@@ -159,36 +125,32 @@ audit_in t =
     if is_some t.parts || any_used (t.stack ∷ t.steps ∷ t.out ∷ t.seed ∷ []) then None
     else option_map Audit (file_of t.feed)
 
--- what an action asks for that links nothing
-abbrev pub alone_by : Action → Taken → Option Command
-alone_by action.Assemble t = assemble_in t
-alone_by action.Compile t = compile_in t
-alone_by action.Disassemble t = dis_in t
-alone_by action.Check t = check_in t
-alone_by action.Generate t = generate_in t
-alone_by action.Audit t = audit_in t
-alone_by action.Erase t = erase_in t
-alone_by _ t = None
+unfoldable pub erase_in : Taken → Option Command
+erase_in t = if any_used (t.stack ∷ t.steps ∷ t.feed ∷ t.seed ∷ []) then None else do
+  part ← one_part_in t.parts
+  out ← file_of t.out
+  if has_tokens part.ending then Some (Erase part out) else None
 
--- what an action asks for, with these parts
-abbrev pub asked_by : Action → Option (List PartWord) → Taken → Option Command
-asked_by action.Run parts t = run_in parts t
-asked_by action.Trace parts t = trace_in parts t
-asked_by action.Link parts t = link_in parts t
-asked_by action.Mean parts t = mean_in parts t
-asked_by action.Reach parts t = reach_in parts t
-asked_by action.Debug parts t = debug_in parts t
-asked_by other parts t = alone_by other t
-
--- what the first word asks for, with these parts
-abbrev pub asked_of : Option (List PartWord) → Taken → Option Command
-asked_of parts t = do
-  word ← t.action
-  action ← action_in word
-  asked_by action parts t
+-- what an action asks for
+abbrev pub asked_of : Action → Taken → Option Command
+asked_of action.Run t = option_map (λ p. Links p.0 (Run p.1)) (run_in t)
+asked_of action.Trace t = option_map (λ p. Links p.0 (Trace p.1)) (run_in t)
+asked_of action.Assemble t = assemble_in t
+asked_of action.Compile t = compile_in t
+asked_of action.Disassemble t = option_map (λ part. Takes part Show) (part_alone_in t)
+asked_of action.Check t = option_map Checks (part_alone_in t)
+asked_of action.Link t = link_in t
+asked_of action.Mean t = mean_in t
+asked_of action.Generate t = generate_in t
+asked_of action.Reach t = reach_in t
+asked_of action.Debug t = debug_in t
+asked_of action.Audit t = audit_in t
+asked_of action.Erase t = erase_in t
 
 -- what the words ask for; none where the command line doesn't take them, or they break a rule of their action
 abbrev pub asked_in : List Text → Option Command
 asked_in words = do
   found ← rows words
-  asked_of (some_parts_in (taken_of found).parts) (taken_of found)
+  word ← (taken_of found).action
+  action ← action_in word
+  asked_of action (taken_of found)

@@ -1,21 +1,20 @@
 //! The actions, each with its parts and options.
 ghost use Rattle.std.specs.Prelude.{◌≡◌, IfOk, None, is_some};
 ghost use Rattle.std.specs.List.{list_all, list_any};
-ghost use Rattle.command_words.specs.Texts.{texts, text_of};
+ghost use Rattle.command_words.specs.Texts.{Text, texts, text_of, all_texts};
 ghost use Rattle.command_words.specs.Views.{taken_in};
-ghost use Rattle.command_words.specs.Action.{action_in, linked_asked, runs_in, run_in, trace_in, put_in};
-ghost use Rattle.command_words.specs.Action.{assemble_in, compile_in, erase_in, part_alone_in, dis_in};
-ghost use Rattle.command_words.specs.Action.{check_in, link_in, is_module, modules_in, mean_by, mean_in};
-ghost use Rattle.command_words.specs.Action.{generate_in, reach_in, debug_in, audit_in, alone_by};
-ghost use Rattle.command_words.specs.Action.{asked_by, asked_of, asked_in};
+ghost use Rattle.command_words.specs.Action.{action_in, linked_asked, run_in, assemble_in, compile_in};
+ghost use Rattle.command_words.specs.Action.{part_alone_in, link_in, is_module, mean_in, generate_in};
+ghost use Rattle.command_words.specs.Action.{reach_in, debug_in, audit_in, erase_in};
+ghost use Rattle.command_words.specs.Action.{asked_of, asked_in};
 ghost use Rattle.command_words.specs.Fits.{Fits};
 
 use crate::command::{Command, ComponentDeed, LinkDeed, Linked};
 use crate::fault::WordsFault;
 use crate::line::{Taken, matches, taken_of};
-use crate::name::{FileName, file_of};
+use crate::name::file_of;
 use crate::number::{Steps, seed_of, size_of, steps_of};
-use crate::part::{Ending, Mark, PartWord, PartWords, one_image, one_part, some_parts};
+use crate::part::{Ending, Mark, PartWord, one_image, one_part, some_parts};
 use std::alloc::{AllocError, Global};
 
 // The first word.
@@ -70,69 +69,56 @@ fn any_used(options: &[Option<&str>]) -> bool
     options.iter().any(is_used)
 }
 
-// One image word and no size of a stack, or these parts.
+// One image word and no size of a stack, or part words.
 #[tactic(auto, unfolding(crate::specs::Action::linked_asked))]
-fn linked_of<'a>(parts: Option<PartWords<'a>>, taken: &Taken<'_, 'a>) -> Option<Linked<'a>>
-    ensures { result ≡ linked_asked parts.entry (taken_in taken.now) }
+fn linked_of<'a>(
+    alloc: Global,
+    words: Option<&[&'a str]>,
+    stack: Option<&str>,
+) -> Result<Option<Linked<'a>>, AllocError>
+    ensures { IfOk result (λ r. r ≡ linked_asked (all_texts words.entry) (text_of stack.entry)) }
 {
-    if let Some(name) = one_image(taken.parts) {
-        return if taken.stack.is_some() {
-            None
-        } else {
-            Some(Linked::Image(name))
-        };
+    if let Some(name) = one_image(words) {
+        if stack.is_some() {
+            return Ok(None);
+        }
+        return Ok(Some(Linked::Image(name)));
     }
-    let size = size_of(taken.stack)?;
-    Some(Linked::Parts(parts?, size))
+    let Some(size) = size_of(stack) else {
+        return Ok(None);
+    };
+    match some_parts(alloc, words)? {
+        Some(parts) => Ok(Some(Linked::Parts(parts, size))),
+        None => Ok(None),
+    }
 }
 
 // What `run` and `trace` ask for.
-#[tactic(auto, unfolding(crate::specs::Action::runs_in))]
-fn runs<'a>(parts: Option<PartWords<'a>>, taken: &Taken<'_, 'a>) -> Option<(Linked<'a>, Steps)>
-    ensures { result ≡ runs_in parts.entry (taken_in taken.now) }
+#[tactic(auto, unfolding(crate::specs::Action::run_in))]
+fn run<'a>(alloc: Global, taken: &Taken<'_, 'a>) -> Result<Option<(Linked<'a>, Steps)>, AllocError>
+    ensures { IfOk result (λ r. r ≡ run_in (taken_in taken.now)) }
 {
     if any_used(&[taken.out, taken.feed, taken.seed]) {
-        return None;
+        return Ok(None);
     }
-    let steps = steps_of(taken.steps)?;
-    let what = linked_of(parts, taken)?;
-    Some((what, steps))
-}
-
-#[tactic(auto, unfolding(crate::specs::Action::run_in))]
-fn run<'a>(parts: Option<PartWords<'a>>, taken: &Taken<'_, 'a>) -> Option<Command<'a>>
-    ensures { result ≡ run_in parts.entry (taken_in taken.now) }
-{
-    let (what, steps) = runs(parts, taken)?;
-    Some(Command::Links(what, LinkDeed::Run(steps)))
-}
-
-#[tactic(auto, unfolding(crate::specs::Action::trace_in))]
-fn trace<'a>(parts: Option<PartWords<'a>>, taken: &Taken<'_, 'a>) -> Option<Command<'a>>
-    ensures { result ≡ trace_in parts.entry (taken_in taken.now) }
-{
-    let (what, steps) = runs(parts, taken)?;
-    Some(Command::Links(what, LinkDeed::Trace(steps)))
-}
-
-// The one part of which something is put into a file, and that file.
-#[tactic(auto, unfolding(crate::specs::Action::put_in))]
-fn put<'a>(taken: &Taken<'_, 'a>) -> Option<(PartWord<'a>, FileName<'a>)>
-    ensures { result ≡ put_in (taken_in taken.now) }
-{
-    if any_used(&[taken.stack, taken.steps, taken.feed, taken.seed]) {
-        return None;
+    let Some(steps) = steps_of(taken.steps) else {
+        return Ok(None);
+    };
+    match linked_of(alloc, taken.parts, taken.stack)? {
+        Some(what) => Ok(Some((what, steps))),
+        None => Ok(None),
     }
-    let part = one_part(taken.parts)?;
-    let out = file_of(taken.out)?;
-    Some((part, out))
 }
 
 #[tactic(auto, unfolding(crate::specs::Action::assemble_in))]
 fn assemble<'a>(taken: &Taken<'_, 'a>) -> Option<Command<'a>>
     ensures { result ≡ assemble_in (taken_in taken.now) }
 {
-    let (part, out) = put(taken)?;
+    if any_used(&[taken.stack, taken.steps, taken.feed, taken.seed]) {
+        return None;
+    }
+    let part = one_part(taken.parts)?;
+    let out = file_of(taken.out)?;
     if part.ending == Ending::Assembler {
         Some(Command::Takes(part, ComponentDeed::Put(out)))
     } else {
@@ -144,21 +130,13 @@ fn assemble<'a>(taken: &Taken<'_, 'a>) -> Option<Command<'a>>
 fn compile<'a>(taken: &Taken<'_, 'a>) -> Option<Command<'a>>
     ensures { result ≡ compile_in (taken_in taken.now) }
 {
-    let (part, out) = put(taken)?;
+    if any_used(&[taken.stack, taken.steps, taken.feed, taken.seed]) {
+        return None;
+    }
+    let part = one_part(taken.parts)?;
+    let out = file_of(taken.out)?;
     if part.ending.is_source() {
         Some(Command::Takes(part, ComponentDeed::Put(out)))
-    } else {
-        None
-    }
-}
-
-#[tactic(auto, unfolding(crate::specs::Action::erase_in))]
-fn erase<'a>(taken: &Taken<'_, 'a>) -> Option<Command<'a>>
-    ensures { result ≡ erase_in (taken_in taken.now) }
-{
-    let (part, out) = put(taken)?;
-    if part.ending.has_tokens() {
-        Some(Command::Erase(part, out))
     } else {
         None
     }
@@ -176,15 +154,22 @@ fn part_alone<'a>(taken: &Taken<'_, 'a>) -> Option<PartWord<'a>>
 }
 
 #[tactic(auto, unfolding(crate::specs::Action::link_in))]
-fn link<'a>(parts: Option<PartWords<'a>>, taken: &Taken<'_, 'a>) -> Option<Command<'a>>
-    ensures { result ≡ link_in parts.entry (taken_in taken.now) }
+fn link<'a>(alloc: Global, taken: &Taken<'_, 'a>) -> Result<Option<Command<'a>>, AllocError>
+    ensures { IfOk result (λ r. r ≡ link_in (taken_in taken.now)) }
 {
     if any_used(&[taken.steps, taken.feed, taken.seed]) {
-        return None;
+        return Ok(None);
     }
-    let size = size_of(taken.stack)?;
-    let out = file_of(taken.out)?;
-    Some(Command::Links(Linked::Parts(parts?, size), LinkDeed::Store(out)))
+    let Some(size) = size_of(taken.stack) else {
+        return Ok(None);
+    };
+    let Some(out) = file_of(taken.out) else {
+        return Ok(None);
+    };
+    match some_parts(alloc, taken.parts)? {
+        Some(parts) => Ok(Some(Command::Links(Linked::Parts(parts, size), LinkDeed::Store(out)))),
+        None => Ok(None),
+    }
 }
 
 fn is_module(part: &PartWord<'_>) -> bool
@@ -199,39 +184,32 @@ fn are_modules(parts: &[PartWord<'_>]) -> bool
     parts.iter().all(is_module)
 }
 
-// The parts, where each of them is a module.
-#[tactic(auto, unfolding(crate::specs::Action::modules_in))]
-fn modules<'a>(parts: Option<PartWords<'a>>) -> Option<PartWords<'a>>
-    ensures { result ≡ modules_in parts.entry }
-{
-    let parts = parts?;
-    if are_modules(parts.as_slice()) {
-        Some(parts)
-    } else {
-        None
-    }
-}
-
-// With what the meaning of modules is asked for.
-#[tactic(auto, unfolding(crate::specs::Action::mean_by))]
-fn mean_by<'a>(taken: &Taken<'_, 'a>) -> Option<(u32, Steps, FileName<'a>)>
-    ensures { result ≡ mean_by (taken_in taken.now) }
+#[tactic(auto, unfolding(crate::specs::Action::mean_in))]
+fn mean<'a>(alloc: Global, taken: &Taken<'_, 'a>) -> Result<Option<Command<'a>>, AllocError>
+    ensures { IfOk result (λ r. r ≡ mean_in (taken_in taken.now)) }
 {
     if any_used(&[taken.out, taken.seed]) {
-        return None;
+        return Ok(None);
     }
-    let size = size_of(taken.stack)?;
-    let fuel = steps_of(taken.steps)?;
-    let feed = file_of(taken.feed)?;
-    Some((size, fuel, feed))
-}
-
-#[tactic(auto, unfolding(crate::specs::Action::mean_in))]
-fn mean<'a>(parts: Option<PartWords<'a>>, taken: &Taken<'_, 'a>) -> Option<Command<'a>>
-    ensures { result ≡ mean_in parts.entry (taken_in taken.now) }
-{
-    let (size, fuel, feed) = mean_by(taken)?;
-    Some(Command::Mean(modules(parts)?, size, fuel, feed))
+    let Some(size) = size_of(taken.stack) else {
+        return Ok(None);
+    };
+    let Some(fuel) = steps_of(taken.steps) else {
+        return Ok(None);
+    };
+    let Some(feed) = file_of(taken.feed) else {
+        return Ok(None);
+    };
+    match some_parts(alloc, taken.parts)? {
+        Some(modules) => {
+            if are_modules(modules.as_slice()) {
+                Ok(Some(Command::Mean(modules, size, fuel, feed)))
+            } else {
+                Ok(None)
+            }
+        }
+        None => Ok(None),
+    }
 }
 
 #[tactic(auto, unfolding(crate::specs::Action::generate_in))]
@@ -246,26 +224,32 @@ fn generate<'a>(taken: &Taken<'_, 'a>) -> Option<Command<'a>>
 }
 
 #[tactic(auto, unfolding(crate::specs::Action::reach_in))]
-fn reach<'a>(parts: Option<PartWords<'a>>, taken: &Taken<'_, 'a>) -> Option<Command<'a>>
-    ensures { result ≡ reach_in parts.entry (taken_in taken.now) }
+fn reach<'a>(alloc: Global, taken: &Taken<'_, 'a>) -> Result<Option<Command<'a>>, AllocError>
+    ensures { IfOk result (λ r. r ≡ reach_in (taken_in taken.now)) }
 {
     if any_used(&[taken.steps, taken.out, taken.feed, taken.seed]) {
-        return None;
+        return Ok(None);
     }
-    let what = linked_of(parts, taken)?;
-    Some(Command::Links(what, LinkDeed::Reach))
+    match linked_of(alloc, taken.parts, taken.stack)? {
+        Some(what) => Ok(Some(Command::Links(what, LinkDeed::Reach))),
+        None => Ok(None),
+    }
 }
 
 #[tactic(auto, unfolding(crate::specs::Action::debug_in))]
-fn debug<'a>(parts: Option<PartWords<'a>>, taken: &Taken<'_, 'a>) -> Option<Command<'a>>
-    ensures { result ≡ debug_in parts.entry (taken_in taken.now) }
+fn debug<'a>(alloc: Global, taken: &Taken<'_, 'a>) -> Result<Option<Command<'a>>, AllocError>
+    ensures { IfOk result (λ r. r ≡ debug_in (taken_in taken.now)) }
 {
     if any_used(&[taken.steps, taken.out, taken.seed]) {
-        return None;
+        return Ok(None);
     }
-    let script = file_of(taken.feed)?;
-    let what = linked_of(parts, taken)?;
-    Some(Command::Debug(what, script))
+    let Some(script) = file_of(taken.feed) else {
+        return Ok(None);
+    };
+    match linked_of(alloc, taken.parts, taken.stack)? {
+        Some(what) => Ok(Some(Command::Debug(what, script))),
+        None => Ok(None),
+    }
 }
 
 #[tactic(auto, unfolding(crate::specs::Action::audit_in))]
@@ -279,66 +263,60 @@ fn audit<'a>(taken: &Taken<'_, 'a>) -> Option<Command<'a>>
     Some(Command::Audit(text))
 }
 
-#[tactic(auto, unfolding(crate::specs::Action::dis_in))]
-fn disassemble<'a>(taken: &Taken<'_, 'a>) -> Option<Command<'a>>
-    ensures { result ≡ dis_in (taken_in taken.now) }
+#[tactic(auto, unfolding(crate::specs::Action::erase_in))]
+fn erase<'a>(taken: &Taken<'_, 'a>) -> Option<Command<'a>>
+    ensures { result ≡ erase_in (taken_in taken.now) }
 {
-    let part = part_alone(taken)?;
-    Some(Command::Takes(part, ComponentDeed::Show))
-}
-
-#[tactic(auto, unfolding(crate::specs::Action::check_in))]
-fn check<'a>(taken: &Taken<'_, 'a>) -> Option<Command<'a>>
-    ensures { result ≡ check_in (taken_in taken.now) }
-{
-    let part = part_alone(taken)?;
-    Some(Command::Checks(part))
-}
-
-// An action that links nothing, with its options.
-fn alone<'a>(action: Action, taken: &Taken<'_, 'a>) -> Option<Command<'a>>
-    ensures { result ≡ alone_by action (taken_in taken.now) }
-{
-    match action {
-        Action::Assemble => assemble(taken),
-        Action::Compile => compile(taken),
-        Action::Disassemble => disassemble(taken),
-        Action::Check => check(taken),
-        Action::Generate => generate(taken),
-        Action::Audit => audit(taken),
-        Action::Erase => erase(taken),
-        _ => None,
+    if any_used(&[taken.stack, taken.steps, taken.feed, taken.seed]) {
+        return None;
+    }
+    let part = one_part(taken.parts)?;
+    let out = file_of(taken.out)?;
+    if part.ending.has_tokens() {
+        Some(Command::Erase(part, out))
+    } else {
+        None
     }
 }
 
 // The action with its parts and options.
-fn asked_by<'a>(
+fn asked_of<'a>(
+    alloc: Global,
     action: Action,
-    parts: Option<PartWords<'a>>,
     taken: &Taken<'_, 'a>,
-) -> Option<Command<'a>>
-    ensures { result ≡ asked_by action parts.entry (taken_in taken.now) }
+) -> Result<Option<Command<'a>>, AllocError>
+    ensures { IfOk result (λ r. r ≡ asked_of action (taken_in taken.now)) }
 {
     match action {
-        Action::Run => run(parts, taken),
-        Action::Trace => trace(parts, taken),
-        Action::Link => link(parts, taken),
-        Action::Mean => mean(parts, taken),
-        Action::Reach => reach(parts, taken),
-        Action::Debug => debug(parts, taken),
-        _ => alone(action, taken),
+        Action::Run => match run(alloc, taken)? {
+            Some((what, steps)) => Ok(Some(Command::Links(what, LinkDeed::Run(steps)))),
+            None => Ok(None),
+        },
+        Action::Trace => match run(alloc, taken)? {
+            Some((what, steps)) => Ok(Some(Command::Links(what, LinkDeed::Trace(steps)))),
+            None => Ok(None),
+        },
+        Action::Assemble => Ok(assemble(taken)),
+        Action::Compile => Ok(compile(taken)),
+        Action::Disassemble => match part_alone(taken) {
+            Some(part) => Ok(Some(Command::Takes(part, ComponentDeed::Show))),
+            None => Ok(None),
+        },
+        Action::Check => match part_alone(taken) {
+            Some(part) => Ok(Some(Command::Checks(part))),
+            None => Ok(None),
+        },
+        Action::Link => link(alloc, taken),
+        Action::Mean => mean(alloc, taken),
+        Action::Generate => Ok(generate(taken)),
+        Action::Reach => reach(alloc, taken),
+        Action::Debug => debug(alloc, taken),
+        Action::Audit => Ok(audit(taken)),
+        Action::Erase => Ok(erase(taken)),
     }
 }
 
-// The first word with its parts and options.
-fn asked_of<'a>(parts: Option<PartWords<'a>>, taken: &Taken<'_, 'a>) -> Option<Command<'a>>
-    ensures { result ≡ asked_of parts.entry (taken_in taken.now) }
-{
-    let action = action_named(taken.action?)?;
-    asked_by(action, parts, taken)
-}
-
-// What the words ask for. Their parts are made before the action is looked at.
+// What the words ask for.
 fn command_asked<'a>(alloc: Global, words: &'a [String]) -> Result<Option<Command<'a>>, AllocError>
     ensures { IfOk result (λ r. r ≡ asked_in (texts words.now)) }
 {
@@ -346,8 +324,13 @@ fn command_asked<'a>(alloc: Global, words: &'a [String]) -> Result<Option<Comman
         return Ok(None);
     };
     let taken = taken_of(&matches);
-    let parts = some_parts(alloc, taken.parts)?;
-    Ok(asked_of(parts, &taken))
+    let Some(word) = taken.action else {
+        return Ok(None);
+    };
+    let Some(action) = action_named(word) else {
+        return Ok(None);
+    };
+    asked_of(alloc, action, &taken)
 }
 
 /// What the words ask for, which are those after the program's own name.
