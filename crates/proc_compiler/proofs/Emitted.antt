@@ -1,16 +1,17 @@
 -- What is emitted piece by piece.
 use Rattle.std.proofs.Common.{◌≡◌, ℕ, ◌+◌, ℤ, true, List, [], ◌∷◌, ◌++◌, length, map, refl, sym, ap, ◌∙◌}
-use Rattle.std.proofs.Common.{subst, append_assoc, arith}
+use Rattle.std.proofs.Common.{subst, append_assoc, length-append, arith}
+use Rattle.std.proofs.lemmas.List.{append-nil, length-map}
 use Rattle.cap_words.specs.declared.Word.{Word}
 use Rattle.cap_words.specs.declared.Word.TheVariants.{Int}
 use Rattle.lcm_isa.specs.declared.Reg.{Reg}
 use Rattle.lcm_isa.specs.declared.Instr.{Instr}
 use Rattle.call_sequence.specs.Sequences.{numbers}
-use Rattle.proc_templates.specs.Items.{Item, guards, sites_with, put, word_of}
+use Rattle.proc_templates.specs.Items.{Item, does, guards, instrs, sites_with, put, word_of}
 use Rattle.proc_templates.specs.Templates.{argument, check_half, check_param}
 use Rattle.proc_templates.specs.Free.{behind}
 use Rattle.proc_templates.proofs.Offers.{put-length}
-use Rattle.proc_compiler.specs.Drafts.{Drafted, with_items, Emits, PutsWords}
+use Rattle.proc_compiler.specs.Drafts.{Drafted, with_items, with_code, with_words, Emits, PutsWords}
 use Rattle.proc_compiler.proofs.Written.{items_append, items_nil}
 
 pub nothing : (d : Drafted) → Emits [] 0 0 d d
@@ -52,6 +53,25 @@ single x n d e words sites h = record {
       ∙ words (length d.laid.code);
   sited = ap (λ (f : Drafted). length f.laid.sites) h ∙ ap length (sites (length d.laid.code))
       ∙ omega arith;
+  kept = ap (λ (f : Drafted). f.seals) h;
+}
+
+-- instructions that neither jump nor call, word by word
+plain_items : (is : List Instr) (d : Drafted)
+    → with_words (map word_of is) d ≡ with_items (map (λ i. does i) is) d
+unfolding with_items put instrs
+plain_items [] d = ap (λ ws. with_code ws d) (append-nil d.laid.code)
+plain_items (i ∷ is) d =
+    ap (λ ws. with_code ws d) (sym (append_assoc d.laid.code (word_of i ∷ []) (map word_of is)))
+    ∙ plain_items is (with_words (word_of i ∷ []) d)
+
+pub plainly : (is : List Instr) (d e : Drafted) → e ≡ with_words (map word_of is) d
+    → Emits (map (λ i. does i) is) (length is) 0 d e
+plainly is d e h = record {
+  written = h ∙ plain_items is d;
+  grown = ap (λ (f : Drafted). length f.laid.code) h ∙ length-append d.laid.code (map word_of is)
+      ∙ ap (λ n. length d.laid.code + n) (length-map is word_of);
+  sited = ap (λ (f : Drafted). length f.laid.sites) h ∙ omega arith;
   kept = ap (λ (f : Drafted). f.seals) h;
 }
 

@@ -23,36 +23,28 @@ words_both : (a b : List Word) (d e f : Drafted) → e ≡ with_words a d → f 
     → f ≡ with_words (a ++ b) d
 words_both a b d e f g h = h ∙ ap (with_words b) g ∙ words_then a b d
 
-pub pair_written : {far : ℤ} {d0 d1 d2 d3 d4 d5 : Drafted} (r q : Reg)
+pub pair_written : {far : ℤ} {d0 d1 d2 d3 d4 : Drafted} (r q : Reg)
     → far ≡ distance (length d0.laid.code) FAIL_AT
-    → d1 ≡ with_words (word_of (Move T2 (R Pc)) ∷ []) d0
-    → d2 ≡ with_words (word_of (Cca T2 (Imm far)) ∷ []) d1 → d3 ≡ with_words (map word_of (check_half r)) d2
-    → d4 ≡ with_words (map word_of (check_half q)) d3 → d5 ≡ with_words (word_of (zero_of T2) ∷ []) d4
-    → Emits (guards (check_half r ++ check_half q) ∷ []) CALLBACK_WORDS 0 d0 d5
+    → d1 ≡ with_words (map word_of (Move T2 (R Pc) ∷ Cca T2 (Imm far) ∷ [])) d0
+    → d2 ≡ with_words (map word_of (check_half r)) d1 → d3 ≡ with_words (map word_of (check_half q)) d2
+    → d4 ≡ with_words (map word_of (zero_of T2 ∷ [])) d3
+    → Emits (guards (check_half r ++ check_half q) ∷ []) CALLBACK_WORDS 0 d0 d4
 unfolding put instrs with_items
-pair_written {far = far} {d0 = d0} {d1 = d1} {d2 = d2} {d3 = d3} {d4 = d4} {d5 = d5} r q is h1 h2 h3 h4 h5 =
+pair_written {far = far} {d0 = d0} {d1 = d1} {d2 = d2} {d3 = d3} {d4 = d4} r q is h1 h2 h3 h4 =
     let x = word_of (zero_of T2) ∷ [] in
     let b = map word_of (check_half q) ++ x in
     let a = map word_of (check_half r) ++ b in
-    single (guards (check_half r ++ check_half q)) CALLBACK_WORDS d0 d5 (λ o. omega arith) (λ o. refl)
-    (words_both (word_of (Move T2 (R Pc)) ∷ []) (word_of (Cca T2 (Imm far)) ∷ a) d0 d1 d5 h1
-    (words_both (word_of (Cca T2 (Imm far)) ∷ []) a d1 d2 d5 h2
-    (words_both (map word_of (check_half r)) b d2 d3 d5 h3
-    (words_both (map word_of (check_half q)) x d3 d4 d5 h4 h5)))
+    single (guards (check_half r ++ check_half q)) CALLBACK_WORDS d0 d4 (λ o. omega arith) (λ o. refl)
+    (words_both (word_of (Move T2 (R Pc)) ∷ word_of (Cca T2 (Imm far)) ∷ []) a d0 d1 d4 h1
+    (words_both (map word_of (check_half r)) b d1 d2 d4 h2
+    (words_both (map word_of (check_half q)) x d2 d3 d4 h3 h4))
     ∙ ap (λ z. with_words (word_of (Move T2 (R Pc)) ∷ word_of (Cca T2 (Imm z)) ∷ a) d0) is)
 
-pub leave_written : (d0 d1 d2 d3 d4 : Drafted) → d1 ≡ with_words (word_of (zero_of T2) ∷ []) d0
-    → d2 ≡ with_words (map word_of (map zero_of (C1 ∷ C2 ∷ A1 ∷ A2 ∷ []))) d1
-    → d3 ≡ with_words (map word_of (map zero_of (A3 ∷ G0 ∷ G1 ∷ G2 ∷ []))) d2
-    → d4 ≡ with_words (word_of (Xjmp Rcode Rdata) ∷ []) d3 → Emits (leaves ∷ []) RETURN_WORDS 0 d0 d4
+pub leave_written : (d e : Drafted) → e ≡ with_words (map word_of (zero_of T2 ∷ zero_of C1 ∷ zero_of C2
+    ∷ zero_of A1 ∷ zero_of A2 ∷ zero_of A3 ∷ zero_of G0 ∷ zero_of G1 ∷ zero_of G2 ∷ Xjmp Rcode Rdata ∷ [])) d
+    → Emits (leaves ∷ []) RETURN_WORDS 0 d e
 unfolding put instrs with_items
-leave_written d0 d1 d2 d3 d4 h1 h2 h3 h4 =
-    let x = word_of (Xjmp Rcode Rdata) ∷ [] in
-    let b = map word_of (map zero_of (A3 ∷ G0 ∷ G1 ∷ G2 ∷ [])) in
-    let a = map word_of (map zero_of (C1 ∷ C2 ∷ A1 ∷ A2 ∷ [])) in
-    single leaves RETURN_WORDS d0 d4 (λ o. refl) (λ o. refl)
-    (words_both (word_of (zero_of T2) ∷ []) (a ++ (b ++ x)) d0 d1 d4 h1
-    (words_both a (b ++ x) d1 d2 d4 h2 (words_both b x d2 d3 d4 h3 h4)))
+leave_written d e h = single leaves RETURN_WORDS d e (λ o. refl) (λ o. refl) h
 
 pub epilogue_written : {d0 d1 d2 d3 d4 d5 : Drafted} (w : ℕ) → 2 ≤ w
     → Emits (does (zero_of T1) ∷ []) 1 0 d0 d1 → Emits (wipe (w - 2)) (2 * (w - 2)) 0 d1 d2

@@ -7,10 +7,11 @@ ghost use Rattle.proc_language.specs.declared.TheConstants.{MOST_SEALS};
 ghost use Rattle.cap_words.specs.declared.TheConstants.{LAST_PLACE};
 ghost use Rattle.component_file.specs.declared.TheConstants.{MOST_WORDS};
 ghost use Rattle.call_sequence.specs.Sequences.{distance, call_code, return_code, entry_code};
-ghost use Rattle.proc_templates.specs.Items.{is_last, does, guards, goes, goes_if, finishes, label, site};
-ghost use Rattle.proc_templates.specs.Items.{entry, leaves, word_of, zero_of};
+ghost use Rattle.proc_templates.specs.Items.{leading, is_last, does, guards, goes, goes_if, finishes};
+ghost use Rattle.proc_templates.specs.Items.{label, site};
+ghost use Rattle.proc_templates.specs.Items.{entry, leaves, word_of};
 ghost use Rattle.proc_templates.specs.Templates.{at_slot, at_glob, op_code, check_index};
-ghost use Rattle.proc_templates.specs.Templates.{from_element, at_element, zeros, pair_words, load_linked};
+ghost use Rattle.proc_templates.specs.Templates.{at_element, zeros, pair_words, load_linked};
 ghost use Rattle.proc_templates.specs.Templates.{load_pair, check_half, push, wipe, take_back, epilogue};
 ghost use Rattle.proc_compiler.specs.Drafts.{with_code, with_words, at_spot, Emits, Aims, PutsWords};
 ghost use Rattle.proc_templates.specs.Bounds.{HandleBound};
@@ -59,6 +60,16 @@ impl Model for Draft {
 
     ghost invariant = { λ d. SealsLeft d.sites.items
         (record { stack_base = d.stack_base; epilogue = d.epilogue }) d.first d.seals d.lot };
+}
+
+// Appends the words of instructions.
+fn push_words(code: &mut Vec<Word>, instrs: &[Instr]) -> Result<(), AllocError>
+    ensures { OnOk result (code.new.items ≡ code.old.items ++ map word_of instrs.now) }
+{
+    for instr in instrs {
+        code.push(Word::Int(encode(instr)))?;
+    }
+    Ok(())
 }
 
 impl Draft {
@@ -139,12 +150,11 @@ impl Draft {
         }
     }
 
-    // The word of one instruction.
-    fn word(&mut self, instr: Instr) -> Result<(), AllocError>
-        ensures { OnOk result (self.new ≡ with_words (word_of instr ∷ []) self.old) }
+    // The words of instructions.
+    fn words(&mut self, instrs: &[Instr]) -> Result<(), AllocError>
+        ensures { OnOk result (self.new ≡ with_words (map word_of instrs.now) self.old) }
     {
-        self.code.push(Word::Int(encode(&instr)))?;
-        Ok(())
+        push_words(&mut self.code, instrs)
     }
 
     // Another instruction at an offset.
@@ -180,22 +190,24 @@ impl Draft {
         ensures { OnOk result (self.new ≡ with_words (map word_of (check_half r)) self.old) }
     {
         let (t1, t2) = (Reg::T1, Reg::T2);
-        self.word(Instr::Gettype(t1, r))?;
-        self.word(Instr::Minus(t1, t1, Operand::Imm(3)))?;
-        self.word(Instr::Jnz(t2, t1))?;
-        self.word(Instr::Getlin(t1, r))?;
-        self.word(Instr::Jnz(t2, t1))
+        self.words(&[
+            Instr::Gettype(t1, r),
+            Instr::Minus(t1, t1, Operand::Imm(3)),
+            Instr::Jnz(t2, t1),
+            Instr::Getlin(t1, r),
+            Instr::Jnz(t2, t1),
+        ])
     }
 
-    // The words that set four registers to 0.
-    fn clear(&mut self, a: Reg, b: Reg, c: Reg, d: Reg) -> Result<(), AllocError>
-        ensures { OnOk result
-            (self.new ≡ with_words (map word_of (map zero_of (a ∷ b ∷ c ∷ d ∷ []))) self.old) }
+    // The words of a jump by so many, counted from its own first, which this instruction makes.
+    fn jump_by(&mut self, far: i32, jump: Instr) -> Result<(), AllocError>
+        ensures { OnOk result (self.new ≡ with_words (map word_of (leading far jump)) self.old) }
     {
-        self.word(Instr::Move(a, Operand::Imm(0)))?;
-        self.word(Instr::Move(b, Operand::Imm(0)))?;
-        self.word(Instr::Move(c, Operand::Imm(0)))?;
-        self.word(Instr::Move(d, Operand::Imm(0)))
+        self.words(&[
+            Instr::Move(Reg::T2, Operand::R(Reg::Pc)),
+            Instr::Cca(Reg::T2, Operand::Imm(far)),
+            jump,
+        ])
     }
 }
 
@@ -208,6 +220,14 @@ impl Draft {
     {
         self.code.push(Word::Int(encode(&instr)))?;
         Ok(())
+    }
+
+    /// Instructions that neither jump nor call.
+    pub(crate) fn puts(&mut self, instrs: &[Instr]) -> Result<(), AllocError>
+        ensures { OnOk result
+            (Emits (map (λ i. does i) instrs.now) (length instrs.now) 0 self.old self.new) }
+    {
+        self.words(instrs)
     }
 
     /// A place to which jumps lead.
@@ -227,18 +247,14 @@ impl Draft {
     pub(crate) fn jump(&mut self, far: i32) -> Result<(), AllocError>
         ensures { OnOk result (Emits (goes far ∷ []) JUMP_WORDS 0 self.old self.new) }
     {
-        self.word(Instr::Move(Reg::T2, Operand::R(Reg::Pc)))?;
-        self.word(Instr::Cca(Reg::T2, Operand::Imm(far)))?;
-        self.word(Instr::Jmp(Reg::T2))
+        self.jump_by(far, Instr::Jmp(Reg::T2))
     }
 
     /// The same as `jump` where a register isn't 0.
     pub(crate) fn jump_if(&mut self, far: i32, r: Reg) -> Result<(), AllocError>
         ensures { OnOk result (Emits (goes_if far r ∷ []) JUMP_WORDS 0 self.old self.new) }
     {
-        self.word(Instr::Move(Reg::T2, Operand::R(Reg::Pc)))?;
-        self.word(Instr::Cca(Reg::T2, Operand::Imm(far)))?;
-        self.word(Instr::Jnz(Reg::T2, r))
+        self.jump_by(far, Instr::Jnz(Reg::T2, r))
     }
 
     /// A jump to the epilogue.
@@ -247,9 +263,7 @@ impl Draft {
         ensures { OnOk result (Emits (finishes ∷ []) JUMP_WORDS 0 self.old self.new) }
     {
         let far = self.epilogue as i32 - self.at() as i32;
-        self.word(Instr::Move(Reg::T2, Operand::R(Reg::Pc)))?;
-        self.word(Instr::Cca(Reg::T2, Operand::Imm(far)))?;
-        self.word(Instr::Jmp(Reg::T2))
+        self.jump_by(far, Instr::Jmp(Reg::T2))
     }
 
     // The words of an index check, during which t2 leads to the `fail`.
@@ -260,14 +274,16 @@ impl Draft {
     {
         let (t2, g0, g1) = (Reg::T2, Reg::G0, Reg::G1);
         let far = -(self.at() as i32);
-        self.word(Instr::Move(t2, Operand::R(Reg::Pc)))?;
-        self.word(Instr::Cca(t2, Operand::Imm(far)))?;
-        self.word(Instr::Lt(g1, g0, Operand::Imm(0)))?;
-        self.word(Instr::Jnz(t2, g1))?;
-        self.word(Instr::Lt(g1, g0, Operand::Imm(len as i32)))?;
-        self.word(Instr::Minus(g1, g1, Operand::Imm(1)))?;
-        self.word(Instr::Jnz(t2, g1))?;
-        self.word(Instr::Move(t2, Operand::Imm(0)))
+        self.words(&[
+            Instr::Move(t2, Operand::R(Reg::Pc)),
+            Instr::Cca(t2, Operand::Imm(far)),
+            Instr::Lt(g1, g0, Operand::Imm(0)),
+            Instr::Jnz(t2, g1),
+            Instr::Lt(g1, g0, Operand::Imm(len as i32)),
+            Instr::Minus(g1, g1, Operand::Imm(1)),
+            Instr::Jnz(t2, g1),
+            Instr::Move(t2, Operand::Imm(0)),
+        ])
     }
 
     /// A check of both halves of a pair, during which t2 leads to the `fail`.
@@ -277,11 +293,13 @@ impl Draft {
             (Emits (guards (check_half r ++ check_half q) ∷ []) CALLBACK_WORDS 0 self.old self.new) }
     {
         let far = -(self.at() as i32);
-        self.word(Instr::Move(Reg::T2, Operand::R(Reg::Pc)))?;
-        self.word(Instr::Cca(Reg::T2, Operand::Imm(far)))?;
+        self.words(&[
+            Instr::Move(Reg::T2, Operand::R(Reg::Pc)),
+            Instr::Cca(Reg::T2, Operand::Imm(far)),
+        ])?;
         self.check_half(r)?;
         self.check_half(q)?;
-        self.word(Instr::Move(Reg::T2, Operand::Imm(0)))
+        self.words(&[Instr::Move(Reg::T2, Operand::Imm(0))])
     }
 
     /// A call with its return, which spends a seal of the part's.
@@ -311,10 +329,19 @@ impl Draft {
     fn leave(&mut self) -> Result<(), AllocError>
         ensures { OnOk result (Emits (leaves ∷ []) RETURN_WORDS 0 self.old self.new) }
     {
-        self.word(Instr::Move(Reg::T2, Operand::Imm(0)))?;
-        self.clear(Reg::C1, Reg::C2, Reg::A1, Reg::A2)?;
-        self.clear(Reg::A3, Reg::G0, Reg::G1, Reg::G2)?;
-        self.word(Instr::Xjmp(Reg::Rcode, Reg::Rdata))
+        let zero = Operand::Imm(0);
+        self.words(&[
+            Instr::Move(Reg::T2, zero),
+            Instr::Move(Reg::C1, zero),
+            Instr::Move(Reg::C2, zero),
+            Instr::Move(Reg::A1, zero),
+            Instr::Move(Reg::A2, zero),
+            Instr::Move(Reg::A3, zero),
+            Instr::Move(Reg::G0, zero),
+            Instr::Move(Reg::G1, zero),
+            Instr::Move(Reg::G2, zero),
+            Instr::Xjmp(Reg::Rcode, Reg::Rdata),
+        ])
     }
 }
 
@@ -326,19 +353,11 @@ impl Draft {
         requires { at ≤ LAST_PLACE }
         ensures { OnOk result (Emits (at_glob at instr) ACCESS_WORDS 0 self.old self.new) }
     {
-        self.put(Instr::Cca(Reg::Dat, Operand::Imm(at as i32)))?;
-        self.put(instr)?;
-        self.put(Instr::Cca(Reg::Dat, Operand::Imm(-(at as i32))))
-    }
-
-    // To a slot of a frame of so many words, from the cursor below the frame.
-    fn to_slot(&mut self, words: u32, slot: u32) -> Result<(), AllocError>
-        requires words_fit { words ≤ LAST_PLACE }
-        requires slot_fits { slot ≤ LAST_PLACE }
-        ensures { OnOk result (Emits
-            (does (Instr.Cca Reg.Stk (Operand.Imm (distance slot words))) ∷ []) 1 0 self.old self.new) }
-    {
-        self.put(Instr::Cca(Reg::Stk, Operand::Imm(words as i32 - slot as i32)))
+        self.puts(&[
+            Instr::Cca(Reg::Dat, Operand::Imm(at as i32)),
+            instr,
+            Instr::Cca(Reg::Dat, Operand::Imm(-(at as i32))),
+        ])
     }
 
     /// An instruction at a slot of a frame.
@@ -352,9 +371,12 @@ impl Draft {
         requires slot_fits { slot ≤ LAST_PLACE }
         ensures { OnOk result (Emits (at_slot f slot instr) ACCESS_WORDS 0 self.old self.new) }
     {
-        self.to_slot(f.words, slot)?;
-        self.put(instr)?;
-        self.to_slot(slot, f.words)
+        let (words, slot) = (f.words as i32, slot as i32);
+        self.puts(&[
+            Instr::Cca(Reg::Stk, Operand::Imm(words - slot)),
+            instr,
+            Instr::Cca(Reg::Stk, Operand::Imm(slot - words)),
+        ])
     }
 
     /// What a binary operation does with g0 and g1.
@@ -366,13 +388,13 @@ impl Draft {
             Op::Plus => self.put(Instr::Plus(g0, g0, Operand::R(g1))),
             Op::Minus => self.put(Instr::Minus(g0, g0, Operand::R(g1))),
             Op::Less => self.put(Instr::Lt(g0, g0, Operand::R(g1))),
-            Op::Equal => {
-                self.put(Instr::Lt(g2, g0, Operand::R(g1)))?;
-                self.put(Instr::Lt(g0, g1, Operand::R(g0)))?;
-                self.put(Instr::Plus(g0, g0, Operand::R(g2)))?;
-                self.put(Instr::Move(g1, Operand::Imm(1)))?;
-                self.put(Instr::Minus(g0, g1, Operand::R(g0)))
-            }
+            Op::Equal => self.puts(&[
+                Instr::Lt(g2, g0, Operand::R(g1)),
+                Instr::Lt(g0, g1, Operand::R(g0)),
+                Instr::Plus(g0, g0, Operand::R(g2)),
+                Instr::Move(g1, Operand::Imm(1)),
+                Instr::Minus(g0, g1, Operand::R(g0)),
+            ]),
         }
     }
 
@@ -391,22 +413,16 @@ impl Draft {
         requires len_fits { len ≤ LAST_PLACE }
         ensures { OnOk result (Emits (at_element at len instr) ELEMENT_WORDS 0 self.old self.new) }
     {
-        let g0 = Reg::G0;
-        self.check_index(len)?;
-        self.put(Instr::Plus(g0, g0, Operand::Imm(at as i32)))?;
-        self.put(Instr::Cca(Reg::Dat, Operand::R(g0)))?;
-        self.put(instr)?;
-        self.from_element()
-    }
-
-    // The data's cursor is set back from the element whose offset is in g0.
-    fn from_element(&mut self) -> Result<(), AllocError>
-        ensures { OnOk result (Emits from_element 3 0 self.old self.new) }
-    {
         let (g0, g2) = (Reg::G0, Reg::G2);
-        self.put(Instr::Move(g2, Operand::Imm(0)))?;
-        self.put(Instr::Minus(g2, g2, Operand::R(g0)))?;
-        self.put(Instr::Cca(Reg::Dat, Operand::R(g2)))
+        self.check_index(len)?;
+        self.puts(&[
+            Instr::Plus(g0, g0, Operand::Imm(at as i32)),
+            Instr::Cca(Reg::Dat, Operand::R(g0)),
+            instr,
+            Instr::Move(g2, Operand::Imm(0)),
+            Instr::Minus(g2, g2, Operand::R(g0)),
+            Instr::Cca(Reg::Dat, Operand::R(g2)),
+        ])
     }
 
     /// Registers become 0.
@@ -431,8 +447,8 @@ impl Draft {
         match registers.split_first() {
             None => Ok(()),
             Some((r, rest)) => {
-                self.put(Instr::Store(Reg::Stk, *r))?;
-                self.put(Instr::Cca(Reg::Stk, Operand::Imm(-1)))?;
+                let down = Instr::Cca(Reg::Stk, Operand::Imm(-1));
+                self.puts(&[Instr::Store(Reg::Stk, *r), down])?;
                 self.push(rest)
             }
         }
@@ -443,9 +459,9 @@ impl Draft {
     pub(crate) fn push_zeros(&mut self, count: u32) -> Result<(), AllocError>
         ensures { OnOk result (Emits (push (replicate count Reg.T1)) (2 * count) 0 self.old self.new) }
     {
+        let down = Instr::Cca(Reg::Stk, Operand::Imm(-1));
         for _ in 0..count {
-            self.put(Instr::Store(Reg::Stk, Reg::T1))?;
-            self.put(Instr::Cca(Reg::Stk, Operand::Imm(-1)))?;
+            self.puts(&[Instr::Store(Reg::Stk, Reg::T1), down])?;
         }
         Ok(())
     }
@@ -455,9 +471,9 @@ impl Draft {
     pub(crate) fn wipe(&mut self, count: u32) -> Result<(), AllocError>
         ensures { OnOk result (Emits (wipe count) (2 * count) 0 self.old self.new) }
     {
+        let up = Instr::Cca(Reg::Stk, Operand::Imm(1));
         for _ in 0..count {
-            self.put(Instr::Cca(Reg::Stk, Operand::Imm(1)))?;
-            self.put(Instr::Store(Reg::Stk, Reg::T1))?;
+            self.puts(&[up, Instr::Store(Reg::Stk, Reg::T1)])?;
         }
         Ok(())
     }
@@ -466,9 +482,11 @@ impl Draft {
     fn take_back(&mut self, r: Reg) -> Result<(), AllocError>
         ensures { OnOk result (Emits (take_back r) 3 0 self.old self.new) }
     {
-        self.put(Instr::Cca(Reg::Stk, Operand::Imm(1)))?;
-        self.put(Instr::Load(r, Reg::Stk))?;
-        self.put(Instr::Store(Reg::Stk, Reg::T1))
+        self.puts(&[
+            Instr::Cca(Reg::Stk, Operand::Imm(1)),
+            Instr::Load(r, Reg::Stk),
+            Instr::Store(Reg::Stk, Reg::T1),
+        ])
     }
 
     /// The end of a procedure whose frame has so many words.
@@ -510,20 +528,13 @@ impl Draft {
         requires { at + 1 ≤ LAST_PLACE }
         ensures { OnOk result (Emits (load_linked at r q) 5 0 self.old self.new) }
     {
-        self.put(Instr::Cca(Reg::Dat, Operand::Imm(at as i32)))?;
-        self.put(Instr::Load(r, Reg::Dat))?;
-        self.put(Instr::Cca(Reg::Dat, Operand::Imm(1)))?;
-        self.put(Instr::Load(q, Reg::Dat))?;
-        self.back_to_start(at + 1)
-    }
-
-    // The data's cursor is set back by so many.
-    fn back_to_start(&mut self, far: u32) -> Result<(), AllocError>
-        requires { far ≤ LAST_PLACE }
-        ensures { OnOk result (Emits
-            (does (Instr.Cca Reg.Dat (Operand.Imm (distance far 0))) ∷ []) 1 0 self.old self.new) }
-    {
-        self.put(Instr::Cca(Reg::Dat, Operand::Imm(-(far as i32))))
+        self.puts(&[
+            Instr::Cca(Reg::Dat, Operand::Imm(at as i32)),
+            Instr::Load(r, Reg::Dat),
+            Instr::Cca(Reg::Dat, Operand::Imm(1)),
+            Instr::Load(q, Reg::Dat),
+            Instr::Cca(Reg::Dat, Operand::Imm(-((at + 1) as i32))),
+        ])
     }
 }
 

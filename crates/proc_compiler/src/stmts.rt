@@ -57,8 +57,7 @@ fn statement(draft: &mut Draft, f: FrameShape, s: &Statement) -> Result<(), Allo
         }
         StatementKind::Halt(e) => {
             expr(draft, f, e, f.temps)?;
-            draft.put(Instr::Move(Reg::A0, Operand::R(Reg::G0)))?;
-            draft.put(Instr::Halt)
+            draft.puts(&[Instr::Move(Reg::A0, Operand::R(Reg::G0)), Instr::Halt])
         }
     }
 }

@@ -5,7 +5,7 @@ use Rattle.proc_compiler.proofs.draft.Draft.check_pair.Goals as goal
 
 pub returns : goal.returns
 returns c =
-    on_ok_weaker c.word-3.result
-    (pair_written c.args.r c.args.q (search rules) c.in_ok-word.ensures c.in_ok-word-2.ensures
-    c.in_ok-check_half.ensures c.in_ok-check_half-2.ensures)
-    c.word-3.ensures
+    on_ok_weaker c.words-2.result
+    (pair_written c.args.r c.args.q (search rules) c.in_ok-words.ensures c.in_ok-check_half.ensures
+    c.in_ok-check_half-2.ensures)
+    c.words-2.ensures
