@@ -137,7 +137,8 @@ fn a_front_of_a_word_is_not_read(rt: HostRuntime) {
         for len in 0..bytes.len() {
             assert!(rt;
                 read(&rt, &bytes[..len]).is_none(),
-                "{len} bytes of {word:?}"
+                "{len} bytes of {}",
+                word_text(word).as_str()
             );
         }
     }
