@@ -1,5 +1,6 @@
 -- A line of an event is read of its own text alone.
-use Rattle.std.proofs.Common.{◌≡◌, ℕ, Bool, true, false, List, [], ◌∷◌, ◌++◌, Some, refl, sym, ap, ◌∙◌, arith}
+use Rattle.std.proofs.Common.{◌≡◌, ℕ, ◌≤◌, Bool, true, false, List, [], ◌∷◌, ◌++◌, Some, refl, sym, ap, ◌∙◌}
+use Rattle.std.proofs.Common.{arith}
 use Rattle.std.specs.Prelude.{codes, decimal, map, ◌||◌}
 use Rattle.std.specs.Str.{bytes_eq}
 use Rattle.cap_words.specs.Names.{is_name}
@@ -36,6 +37,10 @@ pub record Spells (name : List ℕ) (fs : Fields) (l : AuditLine) : Type 0 where
 
 -- ---- call and ret lines
 
+natural_taken : (ts : Fields) (n : ℕ) (rest : Fields) → meant natural_in ts ≡ Some (n, rest)
+    → (n ≤ 4294967295) × (ts ≡ decimal n ∷ rest)
+natural_taken ts n rest = number_taken 4294967295 ts n rest (omega arith)
+
 record ToldTaken (is_call : Bool) (ts : Fields) (t : ToldSeen) (rest : Fields) : Type 0 where
   inward : Bool
   line : LineTold
@@ -63,9 +68,9 @@ told_taken is_call ts t rest h =
     let g7 = goes (words_left g6.rest) _ y g6.next in
     let d = direction_taken ts g0.value g0.rest g0.first in
     let p = name_taken g0.rest g1.value g1.rest g1.first in
-    let s = number_taken 4294967295 g1.rest g2.value g2.rest (omega arith) g2.first in
-    let b = number_taken 4294967295 g2.rest g3.value g3.rest (omega arith) g3.first in
-    let l = number_taken 4294967295 g3.rest g4.value g4.rest (omega arith) g4.first in
+    let s = natural_taken g1.rest g2.value g2.rest g2.first in
+    let b = natural_taken g2.rest g3.value g3.rest g3.first in
+    let l = natural_taken g3.rest g4.value g4.rest g4.first in
     let k = mark_taken (codes ":") g5.rest g6.value g6.rest g6.first in
     let w = words_taken g6.rest g7.value g7.rest g7.first in
     let both = same_read g7.next in

@@ -9,9 +9,6 @@ pub mod Modules
 pub mod Loads
 pub mod Debugs
 pub mod Audits
-pub mod Alongside
-pub mod ComponentLimits
-pub mod Roads
 pub mod Why
 pub mod Put
 pub mod Caused
@@ -19,12 +16,8 @@ pub mod RunsMade
 pub mod MeaningMade
 pub mod LoadsMade
 pub mod DebugsMade
-pub mod Rising
-pub mod OneStart
-pub mod OneOverlay
-pub mod OneAnswer
 pub mod SourceWords
 pub mod SourceFeeds
 pub mod SourcesMade
-pub mod SourceTexts
-pub mod SafeSinks
+pub mod CutRuns
+pub mod Offers

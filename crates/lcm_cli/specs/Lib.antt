@@ -3,6 +3,4 @@ pub mod Bytes
 pub mod Answers
 pub mod Causes
 pub mod SourceRuns
-pub mod Roads
-pub mod SafeRuns
 pub mod Pieces

@@ -1,7 +1,7 @@
 -- Runs of parts of which every trusted one is a source, or was made of one.
-use Rattle.std.specs.Prelude.{◌≡◌, ◌⊎◌, ℕ, ◌≤◌, Bool, true, false, List, [], ◌∷◌, map, Ok, Err}
+use Rattle.std.specs.Prelude.{◌≡◌, ◌⊎◌, ℕ, Bool, true, false, List, [], ◌∷◌, map, Ok, Err}
 use Rattle.outside_io.specs.FilesSeen.{FilesSeen}
-use Rattle.outside_io.specs.SinkSeen.{Adds, FailsToWrite}
+use Rattle.outside_io.specs.SinkSeen.{FailsToWrite}
 use Rattle.outside_io.specs.Whole.{GivesWhole as ComesWhole}
 use Rattle.command_words.specs.declared.command.Linked.{Linked}
 use Rattle.command_words.specs.declared.command.Linked.TheVariants as what
@@ -19,13 +19,9 @@ use Rattle.linked_starts.specs.Parts.{PartSeen}
 use Rattle.linked_starts.specs.Started.{StartSeen}
 use Rattle.module_rules.specs.Rules.{stack_base_of, ruled}
 use Rattle.line_fields.specs.Feed.{fed}
-use Rattle.source_events.specs.declared.End.{End}
-use Rattle.source_events.specs.declared.Told.{Told}
-use Rattle.source_events.specs.Outs.{out_lines}
 use Rattle.source_starts.specs.Links.{Linking}
 use Rattle.source_starts.specs.Sources.{AreSources}
-use Rattle.source_laws.specs.Sources.{MeaningEnds, MeaningBegins}
-use Rattle.source_starts.specs.RunMeans.{went_out, came_in, RunMeans}
+use Rattle.source_starts.specs.RunMeans.{came_in, RunMeans}
 use Rattle.source_starts.specs.Shown.{ShowsNothingElse}
 use Rattle.run_lines.specs.Layout.{layout}
 use Rattle.file_plans.specs.declared.TheConstants.{LONGEST_FILE}
@@ -37,12 +33,9 @@ use Rattle.ready_tasks.specs.Commands.{plan_of}
 use Rattle.link_tool.specs.Linked.{linked_plan}
 use Rattle.lcm_cli.specs.Bytes.{ComesOf, ComesBy}
 use Rattle.refusal_lines.specs.Refusals.{refusal_text}
-use Rattle.proc_semantics.specs.Meaning.{meaning}
-use Rattle.proc_semantics.specs.Fuel.{Prefix}
-use Rattle.proc_meaning.specs.Text.{told_text}
-use Rattle.lcm_cli.specs.Answers.{Outside, meaning_status}
+use Rattle.lcm_cli.specs.Answers.{Outside}
 use Rattle.refusal_lines.specs.declared.status.Status.TheVariants.{WriteFault}
-use Rattle.lcm_cli.specs.Causes.{IsRunStatus, Started, IsMadeOf, RunGiven, text_of_run, MeaningGiven}
+use Rattle.lcm_cli.specs.Causes.{IsRunStatus, Started, IsMadeOf, RunGiven, text_of_run}
 
 -- every trusted word is a source
 abbrev pub AllSources : List PartWord → Type 0
@@ -133,32 +126,3 @@ ModulesTold l steps = RunTold l (ModulesMean l steps) steps
 
 abbrev pub SourcesTold : List PartWord → ℕ → ℕ → List (List ℕ) → Outside → Status → Outside → Type 0
 SourcesTold words stack steps = RunTold (what.Parts words stack) (SourcesAre words stack steps) steps
-
--- what `mean` wrote and answered is of the very meaning that the run's lines are told by. With fuel enough it
--- tells just the events that went out by those lines, wherever they are all of the meaning's; and it begins
--- with them where they are a front of those
-pub record TellsOfRun (modules : List ModuleFields) (l : Linked) (steps : ℕ) (took : List (List ℕ))
-    (old new : FilesSeen) (from : Started l took old new) (fuel : ℕ) (before : Outside) (ended : Status)
-    (after : Outside) : Type 0 where
-  pub told : Told
-  pub told_is : told ≡ meaning (map part_of modules) from.size (came_in from.start steps) fuel
-  pub status_is : ended ≡ meaning_status told.end
-  pub written : Adds before.sink (told_text told) after.sink
-  pub tells : (end : End)
-      (ends : MeaningEnds (map part_of modules) from.size (came_in from.start steps)
-      (went_out from.start steps) end)
-      → ends.enough ≤ fuel → (told.end ≡ end) × (out_lines told.events ≡ went_out from.start steps)
-  pub begins :
-      (begun : MeaningBegins (map part_of modules) from.size (came_in from.start steps)
-      (went_out from.start steps))
-      → begun.enough ≤ fuel → Prefix (went_out from.start steps) (out_lines told.events)
-
--- wherever `mean` is asked of the sources of a run, over the text of that run
-abbrev pub MeanTellsRuns : Type 0
-MeanTellsRuns =
-    (m : ModuleFields) (others : List ModuleFields) (l : Linked) (steps : ℕ) (took : List (List ℕ))
-    (old new : FilesSeen) (from : Started l took old new) → SourcesMean (m ∷ others) l steps took old new from
-    → (sources : List PartWord) (stack fuel : ℕ) (feed : List ℕ) (read : List (List ℕ)) (before : Outside)
-    (ended : Status) (after : Outside) (mean : MeaningGiven sources stack fuel feed read before ended after)
-    → stack ≡ from.size → mean.modules ≡ m ∷ others → mean.text ≡ text_of_run from.start steps
-    → TellsOfRun (m ∷ others) l steps took old new from fuel before ended after

@@ -1,7 +1,6 @@
 //! The top call: all that the program does, over files and a sink that the caller hands in.
 #![tactic(auto)]
 
-pub mod laws;
 mod lines;
 mod top;
 mod totals;

@@ -10,7 +10,8 @@ use Rattle.file_plans.specs.declared.refusal.Refusal.TheVariants.{Rule}
 use Rattle.file_plans.specs.declared.refusal.Stop.{Stop}
 use Rattle.file_plans.specs.declared.refusal.Stop.TheVariants.{NoMemory}
 use Rattle.file_plans.specs.Plans.{Plan, Made, ◌>>=◌, unless, each_at, Comes, Follows, Meets, FollowsAs}
-use Rattle.file_plans.proofs.Offers.{comes_bind, comes_same, follows_end, follows_bind, meets_follows}
+use Rattle.file_plans.proofs.Offers.{comes_bind, comes_quiet, comes_same, follows_end, follows_bind}
+use Rattle.file_plans.proofs.Offers.{meets_follows}
 use Rattle.meaning_tool.specs.Subjects.{Subject, IsMeant, module_at, feed_at, subject_of, subject_in}
 use Rattle.meaning_tool.specs.declared.telling.Meaning.{Meaning}
 
@@ -28,6 +29,13 @@ as_made : {A C : Type 0} (P : A → C → Type 0) (x : A) (seen : FilesSeen) (r 
     → IfOk r (P x) → IfErr r (λ s. s ≡ NoMemory) → (let p : Plan A = Made x in FollowsAs P p seen r seen)
 as_made P x seen (Ok y) h n = (x, (refl, refl), h)
 as_made P x seen (Err s) h n = rw n refl
+
+-- one plan came, and of it alone something was made; or memory is refused
+pub as_came : {A C : Type 0} (P : A → C → Type 0) (p : Plan A) (old new : FilesSeen) (x : A)
+    (r : Result C Stop) → Comes p old (Ok x) new → IfOk r (P x) → IfErr r (λ s. s ≡ NoMemory)
+    → FollowsAs P p old r new
+as_came P p old new x (Ok y) c h n = (x, c, h)
+as_came P p old new x (Err s) c h n = rw n (comes_quiet p old new x c)
 
 -- ---- after the modules: their rules, and the feed
 

@@ -1,5 +1,5 @@
 //! What is left to do once the files of a command came.
-ghost use Rattle.std.specs.Prelude.{◌≡◌, ◌≤◌, IfOk, IfErr, length, []};
+ghost use Rattle.std.specs.Prelude.{◌≡◌, ◌≤◌, IfOk, IfErr, length};
 ghost use Rattle.command_words.specs.declared.command.LinkDeed.TheVariants as link_deed;
 ghost use Rattle.link_tool.specs.Parts.{part_at, component_at};
 ghost use Rattle.ready_tasks.specs.Audits.{audit_at};
@@ -14,10 +14,8 @@ ghost use Rattle.link_tool.specs.Linked.{linked_plan};
 ghost use Rattle.link_tool.specs.Loads.{load_plan};
 ghost use Rattle.ready_tasks.specs.ReadyTasks.{Does, FollowsTask};
 ghost use Rattle.meaning_tool.specs.Subjects.{module_at, subject_in};
-ghost use Rattle.proc_names.specs.NameFaults.{name_faults};
 
 use crate::debugging::ready_debug;
-use alike_modules::laws::printed_modules_are_sources;
 use authority_report::reach_text;
 use cap_words::Items;
 use command_words::{
@@ -30,11 +28,9 @@ use file_plans::{Refusal, Stop, read};
 use link_tool::generated::{Workload, load_of};
 use link_tool::{component, image_bytes, load_start, part, start};
 use linked_starts::Start;
-use meaning_tool::{Meaning, meant, module};
+use meaning_tool::{Meaning, erased, meant};
 use outside_io::Files;
 use overlay_machine::Overlay;
-use proc_language::Module;
-use proc_print::print;
 use run_audit::{AuditFault, audit};
 use std::alloc::Global;
 
@@ -111,8 +107,11 @@ fn reach<'a, F: Files>(
     ensures { FollowsTask (for_task (linked_plan what.now) (link_task link_deed.Reach))
         (F.seen files.old) result (F.seen files.new) }
 {
-    let start = start(alloc, files, what)?;
-    let text = reach_text(alloc, &start)?;
+    let told = {
+        let start = start(alloc, files, what)?;
+        reach_text(alloc, &start)
+    };
+    let text = told?;
     Ok(ReadyTask::Write(text))
 }
 
@@ -231,18 +230,6 @@ fn ready_audit<'a, F: Files>(
     Ok(ReadyTask::Say)
 }
 
-// The text of a module whose names are resolved.
-fn module_text<'a>(alloc: Global, m: &Module, out: FileName<'a>) -> Result<ReadyTask<'a>, Stop>
-    requires { name_faults m.now ≡ [] }
-    ensures does { IfOk result (Does (Put out.entry (OfModule m.now))) }
-    ensures stops { IfErr result (λ stop. stop ≡ Stop.NoMemory) }
-{
-    printed_modules_are_sources();
-    let _limits = m.fields();
-    let text = print(alloc, m)?;
-    Ok(ReadyTask::Put(out, Items::of(text)))
-}
-
 // Reads a module, and makes its text.
 fn ready_erase<'a, F: Files>(
     alloc: Global,
@@ -253,8 +240,8 @@ fn ready_erase<'a, F: Files>(
     ensures { FollowsTask (for_task (module_at 0 word.now) (λ m. Put out.entry (OfModule m)))
         (F.seen files.old) result (F.seen files.new) }
 {
-    let module = module(alloc, files, 0, word)?;
-    module_text(alloc, &module, out)
+    let text = erased(alloc, files, word)?;
+    Ok(ReadyTask::Put(out, text))
 }
 
 // Makes the start of a load.

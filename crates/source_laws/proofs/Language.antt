@@ -7,11 +7,12 @@ use Rattle.source_laws.proofs.Refined.{Way, way, handed, of_args, pair_of, Comp,
 use Rattle.source_laws.proofs.Refined.{args, call, stmt, block, part_of, stack_of, whole}
 use Rattle.std.proofs.Common.{Option, ◌≡◌, ℕ, zero, suc, ◌+◌, ◌-◌, ◌*◌, ◌<◌, ◌≤◌, pos, List, [], ◌∷◌, ◌++◌}
 use Rattle.std.proofs.Common.{length, Some, refl, sym, ap, ◌∙◌, subst, arith}
-use Rattle.std.specs.Prelude.{slice_get, drop, replicate}
+use Rattle.std.specs.Prelude.{slice_get, drop, replicate, nat_eq, false}
 use Rattle.std.proofs.lemmas.Option.{slice_get_within}
 use Rattle.cap_words.specs.declared.Word.TheVariants.{Int}
 use Rattle.lcm_isa.specs.declared.Reg.{Reg}
-use Rattle.lcm_isa.specs.declared.Reg.TheVariants.{C1, C2, G0, G1, G2, A0}
+use Rattle.lcm_isa.specs.Numbers.{reg_number}
+use Rattle.lcm_isa.specs.declared.Reg.TheVariants.{Pc, Stk, Dat, C1, C2, G0, G1, G2, A0}
 use Rattle.lcm_isa.specs.declared.Operand.TheVariants.{Imm}
 use Rattle.lcm_isa.specs.declared.Instr.TheVariants.{Plus}
 use Rattle.trusted_border.specs.declared.layout.SiteCode.{SiteCode}
@@ -43,11 +44,26 @@ use Rattle.source_laws.proofs.Waiting.{WaitLaw}
 use Rattle.source_laws.proofs.Evals.{LawOf, number_law, local_law, global_law, element_law, binary_law}
 use Rattle.source_laws.proofs.Doings.{Evals, Does, set_local_law, set_global_law, set_at_law, do_law}
 use Rattle.source_laws.proofs.Doings.{return_law, halt_law, if_law, while_law, none_law, step_law}
-use Rattle.source_laws.proofs.Arguments.{Apart, Others, Holding, argument_spare, HandlesFit, ArgsOf, ArgsIn}
+use Rattle.source_laws.proofs.Registers.{other}
+use Rattle.source_laws.proofs.Arguments.{Spare, Apart, Others, Holding, argument_spare, HandlesFit}
+use Rattle.source_laws.proofs.Arguments.{ArgsOf, ArgsIn}
 use Rattle.source_laws.proofs.Arguments.{ValuesAre, no_values, number_too, pair_too, load_args_law, zeros_law}
 use Rattle.source_laws.proofs.Arguments.{zero_law, pair_law, no_args_law, value_law, pass_law}
 use Rattle.source_laws.proofs.Callings.{IsPair, IsCalled, Passed, no_more, one_more, two_more, filled}
 use Rattle.source_laws.proofs.Callings.{call_law}
+
+-- ---- registers of a call
+
+spare : (d : Reg) → nat_eq (reg_number d) (reg_number Pc) ≡ false
+    → nat_eq (reg_number d) (reg_number Stk) ≡ false → nat_eq (reg_number d) (reg_number Dat) ≡ false
+    → Spare d
+spare d p s t = (other d Pc p, other d Stk s, other d Dat t)
+
+apart : (d r : Reg) → nat_eq (reg_number d) (reg_number r) ≡ false → Apart d (r ∷ [])
+apart d r n = (other d r n, tt)
+
+none_held : (o : OState) → Holding [] o
+none_held o j x e = cc
 
 argument_apart : (j : ℕ) → Apart (argument j) (C1 ∷ C2 ∷ G0 ∷ G1 ∷ G2 ∷ [])
 argument_apart zero = ((λ e. cc), ((λ e. cc), ((λ e. cc), ((λ e. cc), ((λ e. cc), tt)))))
@@ -235,7 +251,7 @@ module _ (here : Enacting) where
             load_args_law Working n m words2 mem2 st2 env store2
             en2 (cnt ∙ len) xs vs t 0 k1 (c + 150) (c + 100) [] q (handles_fit t 0 xs fits)
             (omega (arith, few)) refl is (stand_front g linked p end k1 L1 _ s0) at1 h1
-            (λ j x e. cc) (λ ws q1 vals lw h2 at2 hold1.
+            (none_held q) (λ ws q1 vals lw h2 at2 hold1.
             zeros_law Working n (arg_registers xs) (c + 100) (c + 90)
             m words2 mem2 (drop (arg_registers xs) arguments) k2 ws q1 refl lw few
             (stand_front g linked p end k2 L2 _ s1) at2 h2 hold1 (λ zs q2 zis h3 at3 hold2.
@@ -245,16 +261,16 @@ module _ (here : Enacting) where
             subst (λ y. Holding (ws ++ y) q2) full hold2 in
             pair_law Working n (c + 90) (c + 80) m words2 mem2 st2
             env store2 en2 (cnt ∙ len) hd k3 C1 C2 q2 fit
-            (λ e. cc) (free_c1 g linked) (free_c2 g linked) ((λ e. cc), (λ e. cc), (λ e. cc))
-            ((λ e. cc), (λ e. cc), (λ e. cc))
+            (other C1 C2 refl) (free_c1 g linked) (free_c2 g linked) (spare C1 refl refl refl)
+            (spare C2 refl refl refl)
             (stand_front g linked p end k3 L3 _ s2) at3 h3 (λ x y q3 pr h4 at4 e1 e2 o3.
             zero_law Working n (c + 80) (c + 79) m words2 mem2 k4 G0
-            q3 (free_g0 g linked) ((λ e. cc), (λ e. cc), (λ e. cc)) s3.0 at4 h4 (λ q4 h5 at5 z0 o4.
+            q3 (free_g0 g linked) (spare G0 refl refl refl) s3.0 at4 h4 (λ q4 h5 at5 z0 o4.
             zero_law Working n (c + 79) (c + 78) m words2 mem2
-            (k4 + 1) G1 q4 (free_g1 g linked) ((λ e. cc), (λ e. cc), (λ e. cc)) s3.1.0 at5 h5
+            (k4 + 1) G1 q4 (free_g1 g linked) (spare G1 refl refl refl) s3.1.0 at5 h5
             (λ q5 h6 at6 z1 o5.
             zero_law Working n (c + 78) (c + 77) m words2 mem2
-            (k4 + 1 + 1) G2 q5 (free_g2 g linked) ((λ e. cc), (λ e. cc), (λ e. cc)) s3.1.1.0 at6 h6
+            (k4 + 1 + 1) G2 q5 (free_g2 g linked) (spare G2 refl refl refl) s3.1.1.0 at6 h6
             (λ q6 h7 at7 z2 o6.
             let a3 : Holding (filled g linked Begins ws) q3 =
             holding_kept (filled g linked Begins ws) (C1 ∷ C2 ∷ []) q2 q3
@@ -268,21 +284,21 @@ module _ (here : Enacting) where
             let a6 : Holding (filled g linked Begins ws) q6 =
             holding_kept (filled g linked Begins ws) (G2 ∷ []) q5 q6
             (λ j. let a = argument_apart j in (a.1.1.1.1.0, tt)) o6 a5 in
-            let c1 : q6.maps.regs.c1 ≡ x = o6 C1 ((λ e. cc), (λ e. cc), (λ e. cc)) ((λ e. cc), tt)
-            ∙ o5 C1 ((λ e. cc), (λ e. cc), (λ e. cc)) ((λ e. cc), tt)
-            ∙ o4 C1 ((λ e. cc), (λ e. cc), (λ e. cc)) ((λ e. cc), tt) ∙ e1 in
-            let c2 : q6.maps.regs.c2 ≡ y = o6 C2 ((λ e. cc), (λ e. cc), (λ e. cc)) ((λ e. cc), tt)
-            ∙ o5 C2 ((λ e. cc), (λ e. cc), (λ e. cc)) ((λ e. cc), tt)
-            ∙ o4 C2 ((λ e. cc), (λ e. cc), (λ e. cc)) ((λ e. cc), tt) ∙ e2 in
+            let c1 : q6.maps.regs.c1 ≡ x = o6 C1 (spare C1 refl refl refl) (apart C1 G2 refl)
+            ∙ o5 C1 (spare C1 refl refl refl) (apart C1 G1 refl)
+            ∙ o4 C1 (spare C1 refl refl refl) (apart C1 G0 refl) ∙ e1 in
+            let c2 : q6.maps.regs.c2 ≡ y = o6 C2 (spare C2 refl refl refl) (apart C2 G2 refl)
+            ∙ o5 C2 (spare C2 refl refl refl) (apart C2 G1 refl)
+            ∙ o4 C2 (spare C2 refl refl refl) (apart C2 G0 refl) ∙ e2 in
             call_law g linked Begins world StoreIs RegsAre p s.words top fs ow f need_is left_is stack_is
             site_part passes n (c + 77) c site kk st2 words2 mem2 q6 h7 (k4 + 1 + 1 + 1) end at7
             (called _ site cs.1) store2 below.procs below.waits (pair_of world f.home env hd) x y c1 c2 pr.0
             vs ws (way world f hd xs) pr.1 pr.2 (passed vs (of_args world f xs) ws vals)
             (omega (arith, lw, few)) a6
             (record {
-              g0 = o6 G0 ((λ e. cc), (λ e. cc), (λ e. cc)) ((λ e. cc), tt)
-                  ∙ o5 G0 ((λ e. cc), (λ e. cc), (λ e. cc)) ((λ e. cc), tt) ∙ z0;
-              g1 = o6 G1 ((λ e. cc), (λ e. cc), (λ e. cc)) ((λ e. cc), tt) ∙ z1;
+              g0 = o6 G0 (spare G0 refl refl refl) (apart G0 G2 refl)
+                  ∙ o5 G0 (spare G0 refl refl refl) (apart G0 G1 refl) ∙ z0;
+              g1 = o6 G1 (spare G1 refl refl refl) (apart G1 G2 refl) ∙ z1;
               g2 = z2;
             }) s3.1.1.1.1.0
             (λ v st9 mem9 q9 h9 at9 e9 f9 store9. u v st9 mem9 words2 q9

@@ -13,6 +13,7 @@ pub mod Meanwhile
 pub mod Waiting
 pub mod Leaving
 pub mod Idle
+pub mod Registers
 pub mod Procs
 pub mod CallsOut
 pub mod All

@@ -1,5 +1,6 @@
 -- A procedure, from its entry to the `xjmp` that ends it, given its checks and its body.
 use Rattle.call_sequence.specs.declared.TheConstants.{ENTRY_WORDS}
+use Rattle.source_laws.proofs.Registers.{other}
 use Rattle.source_laws.proofs.Scenes.{Scene}
 use Rattle.source_laws.proofs.Refined.{Frame, taken_marks, wipes, proc_at, Comp, ends, ticks, Registers, Then}
 use Rattle.source_laws.proofs.Refined.{with_place, block, begin, body_of, finish, proc_of, whole, recursive}
@@ -195,9 +196,12 @@ module _ (scene : Scene)
                 half = l.half;
                 value = l.value ∙ a0;
                 fits = fit;
-                a1 = l.clean A1 (λ q. cc) (λ q. cc) (λ q. cc) (λ q. cc) (λ q. cc) (λ q. cc);
-                a2 = l.clean A2 (λ q. cc) (λ q. cc) (λ q. cc) (λ q. cc) (λ q. cc) (λ q. cc);
-                a3 = l.clean A3 (λ q. cc) (λ q. cc) (λ q. cc) (λ q. cc) (λ q. cc) (λ q. cc);
+                a1 = l.clean A1 (other A1 Pc refl) (other A1 Dat refl) (other A1 Stk refl)
+                    (other A1 Rcode refl) (other A1 Rdata refl) (other A1 A0 refl);
+                a2 = l.clean A2 (other A2 Pc refl) (other A2 Dat refl) (other A2 Stk refl)
+                    (other A2 Rcode refl) (other A2 Rdata refl) (other A2 A0 refl);
+                a3 = l.clean A3 (other A3 Pc refl) (other A3 Dat refl) (other A3 Stk refl)
+                    (other A3 Rcode refl) (other A3 Rdata refl) (other A3 A0 refl);
                 clean = l.clean;
                 top = cap.end;
                 within = h.high;
@@ -248,7 +252,9 @@ module _ (scene : Scene)
                   )
               safe_reg Pc np nd = absurd (np refl)
               safe_reg Dat np nd = absurd (nd refl)
-              safe_reg d np nd = zeroed d np nd (λ e. cc) (λ e. cc) (λ e. cc) (λ e. cc)
+              safe_reg d np nd =
+                  zeroed d np nd (other d Stk refl) (other d Rcode refl) (other d Rdata refl)
+                  (other d A0 refl)
 
       -- the frame of a body
       frame_with : ℕ → Frame

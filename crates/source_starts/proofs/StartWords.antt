@@ -1,6 +1,6 @@
 -- What the overlay of a linked start of sources has in its cells.
-use Rattle.std.proofs.Common.{◌≡◌, inl, inr, ℕ, ◌+◌, ◌-◌, ◌<◌, pos, Bool, true, false, List, length, Option}
-use Rattle.std.proofs.Common.{Some, None, refl, sym, ap, ◌∙◌, subst, arith, eq-eqb}
+use Rattle.std.proofs.Common.{◌≡◌, ◌⊎◌, inl, inr, ℕ, ◌+◌, ◌-◌, ◌<◌, pos, Bool, true, false, List, length}
+use Rattle.std.proofs.Common.{Option, Some, None, refl, sym, ap, ◌∙◌, subst, arith, eq-eqb}
 use Rattle.std.specs.Prelude.{slice_get, option_map, unwrap_or, is_some, ◌==◌, ◌&&◌, if◌then◌else◌}
 use Rattle.std.specs.List.{Contains}
 use Rattle.std.proofs.lemmas.Option.{slice_get_within}
@@ -32,6 +32,69 @@ use Rattle.template_runs.specs.Public.{IsSharedAt, IsPublicWord, IsPublic, IsFre
 use Rattle.source_starts.specs.Sources.{LinkedStart}
 use Rattle.source_starts.proofs.Worlds.{NamesApart, names_apart}
 use Rattle.source_starts.proofs.Linking.{may_import, same_part}
+
+-- ---- halves
+
+-- what stands at a slot is one of two halves
+slot_half : (x : Option Exported) (first second : Bool) (w : Word)
+    → (if first then option_map code_half x else (if second then option_map data_half x else None)) ≡ Some w
+    → (y : Exported) × (x ≡ Some y) × ((code_half y ≡ w) ⊎ (data_half y ≡ w))
+slot_half None true second w h = absurd (let z : None ≡ Some w = h in cc)
+slot_half None false true w h = absurd (let z : None ≡ Some w = h in cc)
+slot_half None false false w h = absurd (let z : None ≡ Some w = h in cc)
+slot_half (Some y) true second w h = (y, refl, inl (let s : code_half y ≡ w = cc in s))
+slot_half (Some y) false true w h = (y, refl, inr (let s : data_half y ≡ w = cc in s))
+slot_half (Some y) false false w h = absurd (let z : None ≡ Some w = h in cc)
+
+two_marks : (b : Bool) → b ≡ true → b ≡ false → ⊥
+two_marks b t f = let bad : true ≡ false = sym t ∙ f in cc
+
+-- ---- which words are public, whatever the link
+
+module _ (g : Link) (linked : IsLink g) where
+  -- a word of a part's own is under no seal
+  own_public : (p : PartSeen) (w : Word) → OwnWord p.component w → IsPublicWord g w
+  own_public p (Int z) h q k iq e = cc
+  own_public p (Mem c) h q k iq e = cc
+  own_public p (Seal c) h q k iq e = cc
+  own_public p (Sealed n x) h q k iq e = absurd h
+
+  open_closure : (p : PartSeen) → IsUntrusted g p → IsOpenSeal g p.component.closure
+  open_closure p u = let t = eq-eqb p.component.closure p.component.closure refl in (p, u, rw t refl)
+
+  -- a half of what an untrusted part imports
+  code_is_public : (parts : List PartSeen) (x : Exported) → IsExport parts x
+      → (x.part.trusted ≡ true → IsTrusted g x.part) → (x.part.trusted ≡ false → IsUntrusted g x.part)
+      → (x.part.trusted ≡ true → x.export.shared ≡ true) → IsPublicWord g (code_half x)
+  code_is_public parts x there trusted untrusted shared q k iq e = by x.part.trusted refl
+    where
+      seals : x.part.component.closure ≡ q.component.closure
+      seals = cc
+
+      caps : code_of x ≡ code_at (ranges_of q) k
+      caps = cc
+
+      by : (b : Bool) → x.part.trusted ≡ b → IsSharedAt q.component k
+      by true t =
+          let same : x.part ≡ q = linked.one_closure x.part q (trusted t) iq seals in
+          let base : x.part.component.code_base ≡ q.component.code_base =
+          ap (λ (p : PartSeen). p.component.code_base) same in
+          let at : pos (x.part.component.code_base + x.export.offset) ≡ pos (q.component.code_base + k) =
+          ap (λ c. c.addr) caps in
+          let at' : x.part.component.code_base + x.export.offset ≡ q.component.code_base + k = cc in
+          record {
+            export = x.export;
+            among = subst (λ (p : PartSeen). Contains p.component.exports x.export) same there.listed;
+            shared = shared t;
+            offset = omega (arith, base, at');
+          }
+      by false t =
+          absurd (linked.closure_closed q iq (subst (IsOpenSeal g) seals (open_closure x.part (untrusted t))))
+
+  data_is_public : (x : Exported) → IsPublicWord g (data_half x)
+  data_is_public x q k iq e =
+      let c : data_of x.part ≡ code_at (ranges_of q) k = cc in
+      let bad = ap (λ c. c.perm) c in cc
 
 module _ (parts : List PartSeen) (size : ℕ) (s : StartSeen) (is : IsLinkedStart parts size s) where
   abbrev pub the_link : Link
@@ -74,8 +137,6 @@ module _ (parts : List PartSeen) (size : ℕ) (s : StartSeen) (is : IsLinkedStar
         by None e t = absurd (let bad : false ≡ true = ap is_some (sym e) ∙ t in cc)
         by (Some w) e t = e ∙ ap (λ o. Some (unwrap_or o (Plain (Int (pos 0))))) (sym e)
 
-    -- ---- which words are public
-
     within_data : (p : PartSeen) → IsPart p → (o : ℕ) (w : Word) → data_word parts p.component o ≡ Some w
         → o < length p.component.data_words
     within_data p each o w h =
@@ -92,49 +153,15 @@ module _ (parts : List PartSeen) (size : ℕ) (s : StartSeen) (is : IsLinkedStar
           | inr d ↦ slice_get_within p.component.data_words o w d
         ]
 
-    own_public : (p : PartSeen) (w : Word) → OwnWord p.component w → IsPublicWord the_link w
-    own_public p (Int z) h q k iq e = cc
-    own_public p (Mem c) h q k iq e = cc
-    own_public p (Seal c) h q k iq e = cc
-    own_public p (Sealed n x) h q k iq e = absurd h
-
-    open_closure : (p : PartSeen) → IsUntrusted the_link p → IsOpenSeal the_link p.component.closure
-    open_closure p u = let t = eq-eqb p.component.closure p.component.closure refl in (p, u, rw t refl)
-
     -- a half of what an untrusted part imports
     pub code_public : (x : Exported) → IsExport parts x
-        → ((t : x.part.trusted ≡ true) → x.export.shared ≡ true)
-        → IsPublicWord the_link (code_half x)
-    code_public x there shared q k iq e = by x.part.trusted refl
-      where
-        seals : x.part.component.closure ≡ q.component.closure
-        seals = cc
-
-        caps : code_of x ≡ code_at (ranges_of q) k
-        caps = cc
-
-        by : (b : Bool) → x.part.trusted ≡ b → IsSharedAt q.component k
-        by true t =
-            let ix : IsTrusted the_link x.part = (listed_at parts there.index x.part there.at, t) in
-            let same : x.part ≡ q = linked.one_closure x.part q ix iq seals in
-            let base : x.part.component.code_base ≡ q.component.code_base =
-            ap (λ (p : PartSeen). p.component.code_base) same in
-            let at : pos (x.part.component.code_base + x.export.offset) ≡ pos (q.component.code_base + k) =
-            ap (λ c. c.addr) caps in
-            let at' : x.part.component.code_base + x.export.offset ≡ q.component.code_base + k = cc in
-            record {
-              export = x.export;
-              among = subst (λ (p : PartSeen). Contains p.component.exports x.export) same there.listed;
-              shared = shared t;
-              offset = omega (arith, base, at');
-            }
-        by false t = absurd (linked.closure_closed q iq (subst (IsOpenSeal the_link) seals
-            (open_closure x.part (listed_at parts there.index x.part there.at, t))))
+        → (x.part.trusted ≡ true → x.export.shared ≡ true) → IsPublicWord the_link (code_half x)
+    code_public x there shared =
+        let listed = listed_at parts there.index x.part there.at in
+        code_is_public the_link linked parts x there (λ t. (listed, t)) (λ t. (listed, t)) shared
 
     pub data_public : (x : Exported) → IsPublicWord the_link (data_half x)
-    data_public x q k iq e =
-        let c : data_of x.part ≡ code_at (ranges_of q) k = cc in
-        let bad = ap (λ c. c.perm) c in cc
+    data_public = data_is_public the_link linked
 
     slot_public : (n j : ℕ) (p : PartSeen) (i : Import) (x : Option Exported) (first second : Bool) (w : Word)
         → slice_get parts n ≡ Some p → p.trusted ≡ false → slice_get p.component.imports j ≡ Some i
@@ -142,25 +169,24 @@ module _ (parts : List PartSeen) (size : ℕ) (s : StartSeen) (is : IsLinkedStar
         → (if first then option_map code_half x else (if second then option_map data_half x else None)) ≡ Some
         w
         → IsPublicWord the_link w
-    slot_public n j p i None true second w at u here e h = cc
-    slot_public n j p i None false true w at u here e h = cc
-    slot_public n j p i None false false w at u here e h = cc
-    slot_public n j p i (Some x) true second w at u here e h =
-        let s : code_half x ≡ w = cc in
-        subst (IsPublicWord the_link) s (code_public x (imported_there parts i x e) shared)
+    slot_public n j p i x first second w at u here e h =
+        let f = slot_half x first second w h in
+        let is_here = e ∙ f.1 in
+        elim f.2 as (λ _. IsPublicWord the_link w) [
+          | inl s ↦ subst (IsPublicWord the_link) s
+              (code_public f.0 (imported_there parts i f.0 is_here) (shared f.0 is_here))
+          | inr s ↦ subst (IsPublicWord the_link) s (data_public f.0)
+        ]
       where
-        shared : x.part.trusted ≡ true → x.export.shared ≡ true
-        shared t = elim (may_import parts size is.rules n j p i x at here e)
-            as (λ _. x.export.shared ≡ true) [
+        shared : (y : Exported) → imported parts i ≡ Some y → y.part.trusted ≡ true → y.export.shared ≡ true
+        shared y e t = elim (may_import parts size is.rules n j p i y at here e)
+            as (λ _. y.export.shared ≡ true) [
               | inl k ↦ k
               | inr k ↦ (
-                  let y = imported_there parts i x e in
-                  let same = same_part parts apart y.index n x.part p y.at at k in
-                  let bad : true ≡ false = sym t ∙ ap (λ (q : PartSeen). q.trusted) same ∙ u in cc)
+                  let z = imported_there parts i y e in
+                  let same = same_part parts apart z.index n y.part p z.at at k in
+                  absurd (two_marks y.part.trusted t (ap (λ (q : PartSeen). q.trusted) same ∙ u)))
             ]
-    slot_public n j p i (Some x) false true w at u here e h =
-        let s : data_half x ≡ w = cc in subst (IsPublicWord the_link) s (data_public x)
-    slot_public n j p i (Some x) false false w at u here e h = cc
 
     -- each word but those of trusted code and data
     word_public : (a : ℕ) (w : Word) → IsFreeAt the_link a → start_cell parts size a ≡ Some w
@@ -190,7 +216,7 @@ module _ (parts : List PartSeen) (size : ℕ) (s : StartSeen) (is : IsLinkedStar
             ]
         by_code n p false t at h =
             let f = from_inv p.component.code_base (slice_get p.component.code) a w h in
-            own_public p w (own_code p (is.accepted n p at) (a - p.component.code_base) w f.1)
+            own_public the_link linked p w (own_code p (is.accepted n p at) (a - p.component.code_base) w f.1)
 
         by_data : (n : ℕ) (p : PartSeen) (b : Bool) → p.trusted ≡ b → slice_get parts n ≡ Some p
             → from p.component.data_base (data_word parts p.component) a ≡ Some w → IsPublicWord the_link w
@@ -213,7 +239,7 @@ module _ (parts : List PartSeen) (size : ℕ) (s : StartSeen) (is : IsLinkedStar
                   slot_public n g.index p g.item (imported parts g.item) (g.item.slot == o)
                   (g.item.slot + 1 == o) w at t
                   g.at refl g.is)
-              | inr own ↦ own_public p w (own_data p (is.accepted n p at) o w own)
+              | inr own ↦ own_public the_link linked p w (own_data p (is.accepted n p at) o w own)
             ]
 
         by_part : (n : ℕ) (p : PartSeen) → slice_get parts n ≡ Some p → part_word parts a p ≡ Some w

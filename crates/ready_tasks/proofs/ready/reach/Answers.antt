@@ -8,8 +8,8 @@ use Rattle.ready_tasks.proofs.Offers.{linked_as}
 use Rattle.ready_tasks.proofs.Tasks.{task_done, task_stops}
 use Rattle.ready_tasks.proofs.ready.reach.Goals as goal
 
-pub reach_text-requires : goal.reach_text-requires
-reach_text-requires g c =
+pub reach_text-told-requires : goal.reach_text-told-requires
+reach_text-told-requires g c =
     let f = c.in_ok-start.ensures in linked_as f.0.parts f.0.stack c.in_ok-start.start f.2
 
 pub returns-in_err-start : goal.returns-in_err-start

@@ -1,5 +1,5 @@
 use Rattle.link_tool.proofs.Offers.{linked_is}
-use Rattle.lcm_cli.proofs.laws.first_rule_is_told.Goals as goal
+use Rattle.answer_laws.proofs.laws.first_rule_is_told.Goals as goal
 
 pub returns : goal.returns
 returns c = linked_is

@@ -10,9 +10,9 @@ ghost use Rattle.link_tool.specs.Parts.{linked, loaded};
 ghost use Rattle.ready_tasks.specs.Commands.{plan_in};
 ghost use Rattle.command_words.specs.Answers.{IsWritten};
 ghost use Rattle.lcm_cli.specs.Answers.{Answer, stk};
-ghost use Rattle.lcm_cli.specs.SourceRuns.{MeanTellsRuns};
-ghost use Rattle.lcm_cli.specs.SafeRuns.{SafeSinksHoldRuns};
-ghost use Rattle.lcm_cli.specs.Roads.{RoadsAreOne};
+ghost use Rattle.answer_laws.specs.MeanOfRuns.{MeanTellsRuns};
+ghost use Rattle.answer_laws.specs.SafeRuns.{SafeSinksHoldRuns};
+ghost use Rattle.answer_laws.specs.Roads.{RoadsAreOne};
 
 use alike_modules::laws::{alike_modules_mean_the_same, printed_modules_are_sources};
 use assembler::laws::what_is_spelled_keeps_the_limits;

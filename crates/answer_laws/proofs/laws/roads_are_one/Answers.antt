@@ -1,9 +1,9 @@
 use Rattle.std.proofs.Common.{List, ℕ, subst, sym}
 use Rattle.proc_language.specs.declared.dialect.Dialect.TheVariants.{Tokens}
 use Rattle.alike_modules.specs.Alike.{IsSourceOf}
-use Rattle.lcm_cli.specs.Roads.{IsErasure}
-use Rattle.lcm_cli.proofs.Roads.{roads_are_one}
-use Rattle.lcm_cli.proofs.laws.roads_are_one.Goals as goal
+use Rattle.answer_laws.specs.Roads.{IsErasure}
+use Rattle.answer_laws.proofs.Roads.{roads_are_one}
+use Rattle.answer_laws.proofs.laws.roads_are_one.Goals as goal
 
 pub returns : goal.returns
 returns c =

@@ -25,7 +25,7 @@ use Rattle.linked_starts.specs.declared.owners.Site.{Site}
 use Rattle.linked_starts.specs.declared.owners.Owner.{Owner}
 use Rattle.linked_starts.specs.Owners.{AreSites, AreOwners}
 use Rattle.linked_starts.specs.Started.{StartSeen, Starts}
-use Rattle.lcm_cli.proofs.Rising.{Rises, one_rising}
+use Rattle.answer_laws.proofs.Rising.{Rises, one_rising}
 use Rattle.lcm_machine.specs.declared.End.{End}
 use Rattle.lcm_machine.specs.declared.cells.Span.{Span}
 use Rattle.lcm_machine.specs.Maps.{Regs}

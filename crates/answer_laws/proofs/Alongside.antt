@@ -10,7 +10,7 @@ use Rattle.file_plans.specs.declared.refusal.Refusal.{Refusal}
 use Rattle.file_plans.specs.declared.refusal.Refusal.TheVariants.{TooLong}
 use Rattle.file_plans.specs.Plans.{Plan, Reads, Ends, Made, ◌>>=◌, unless, each_at}
 use Rattle.command_words.specs.Plans.{Settles}
-use Rattle.lcm_cli.specs.Roads.{Held, Pairwise}
+use Rattle.answer_laws.specs.Roads.{Held, Pairwise}
 
 -- ---- what is due, as a value; none where a file isn't there
 

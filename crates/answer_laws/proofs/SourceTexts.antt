@@ -20,7 +20,7 @@ use Rattle.source_starts.specs.RunMeans.{went_out, came_in}
 use Rattle.refusal_lines.specs.declared.status.Status.{Status}
 use Rattle.lcm_cli.specs.Answers.{Outside, meaning_status}
 use Rattle.lcm_cli.specs.Causes.{Started, text_of_run}
-use Rattle.lcm_cli.specs.SourceRuns.{TellsOfRun, MeanTellsRuns}
+use Rattle.answer_laws.specs.MeanOfRuns.{TellsOfRun, MeanTellsRuns}
 
 same_items : (xs ys : List Item) → (let r : Result (List Item) FeedFault = Ok xs in r) ≡ Ok ys → xs ≡ ys
 same_items xs ys e = cc

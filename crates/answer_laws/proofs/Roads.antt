@@ -47,14 +47,15 @@ use Rattle.link_tool.specs.Linked.{parts_plan, image_plan, linked_plan}
 use Rattle.ready_tasks.specs.Commands.{plan_of}
 use Rattle.command_words.specs.Answers.{NewFile, IsWritten}
 use Rattle.lcm_cli.specs.Answers.{Answer, IsAnswerOf, tells, puts, writes, stk}
-use Rattle.lcm_cli.specs.Roads.{Held, PutsComponent, PutsImage, ShowsText, IsErasure, HoldsShort, Pairwise}
-use Rattle.lcm_cli.specs.Roads.{HaveOneText, same, erasure, IsBeside, one_text, component, shown, AreBeside}
-use Rattle.lcm_cli.specs.Roads.{LinkBeside, AskBeside, Asking, AskTheSame, beside, back, onward, IsGiven}
-use Rattle.lcm_cli.proofs.Alongside.{Due, by_length, by_bytes, on, settled, settled_by, settles, settled_bind}
-use Rattle.lcm_cli.proofs.Alongside.{Match, Agree, agree_bind, each_agree, all_equal, as_many, told}
-use Rattle.lcm_cli.proofs.Alongside.{settled_unless, match_same}
-use Rattle.lcm_cli.proofs.ComponentLimits.{LimitLaws, form_fits}
-use Rattle.lcm_cli.proofs.RunsMade.{refused_none}
+use Rattle.answer_laws.specs.Roads.{Held, PutsComponent, PutsImage, ShowsText, IsErasure, HoldsShort}
+use Rattle.answer_laws.specs.Roads.{Pairwise, HaveOneText, same, erasure, IsBeside, one_text, component}
+use Rattle.answer_laws.specs.Roads.{shown, AreBeside, LinkBeside, AskBeside, Asking, AskTheSame, beside}
+use Rattle.answer_laws.specs.Roads.{back, onward, IsGiven}
+use Rattle.answer_laws.proofs.Alongside.{Due, by_length, by_bytes, on, settled, settled_by, settles}
+use Rattle.answer_laws.proofs.Alongside.{Match, Agree, agree_bind, each_agree, all_equal, as_many, told}
+use Rattle.answer_laws.proofs.Alongside.{settled_bind, settled_unless, match_same}
+use Rattle.answer_laws.proofs.ComponentLimits.{LimitLaws, form_fits}
+use Rattle.lcm_cli.proofs.Offers.{refused_none}
 
 -- what alike modules have in common, and that an erasure that is read again is alike; and that the text of a
 -- component is read as it

@@ -18,8 +18,8 @@ use Rattle.command_words.specs.Plans.{Settles}
 use Rattle.command_words.specs.Answers.{IsWritten}
 use Rattle.lcm_cli.specs.Answers.{Answer, IsAnswerOf, writes, ran, ran_overlay, stk}
 use Rattle.refusal_lines.specs.declared.status.Status.TheVariants.{Done}
-use Rattle.lcm_cli.proofs.OneStart.{one_start}
-use Rattle.lcm_cli.proofs.OneOverlay.{one_overlay}
+use Rattle.answer_laws.proofs.OneStart.{one_start}
+use Rattle.answer_laws.proofs.OneOverlay.{one_overlay}
 
 -- ---- files settle one due
 

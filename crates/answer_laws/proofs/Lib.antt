@@ -1,0 +1,9 @@
+pub mod Alongside
+pub mod ComponentLimits
+pub mod Roads
+pub mod Rising
+pub mod OneStart
+pub mod OneOverlay
+pub mod OneAnswer
+pub mod SourceTexts
+pub mod SafeSinks

@@ -1,0 +1,3 @@
+pub mod Roads
+pub mod SafeRuns
+pub mod MeanOfRuns

@@ -1,5 +1,0 @@
-use Rattle.lcm_cli.proofs.OneAnswer.{one_answer}
-use Rattle.lcm_cli.proofs.laws.one_answer.Goals as goal
-
-pub returns : goal.returns
-returns c = one_answer c.reports_are_one.ensures.text
