@@ -4,16 +4,13 @@ ghost use Rattle.component_check.specs.Verdict.{check_from, kept_or};
 ghost use Rattle.linked_starts.specs.Pairs.{by_part, IsFirstBrokenIn};
 ghost use Rattle.module_rules.specs.Rules.{module_rules, told_as, ruled};
 
-use crate::imports::{imports_are_shared, imports_are_there};
-use crate::pairs::{names_differ, stacks_agree};
-use crate::places::ModulePlace;
-use crate::whole::{one_main, stack_fits};
+use crate::rules::ModuleRule;
 use component_check::{Group, Rule};
-use linked_starts::RuleAt;
+use linked_starts::{PartPlace, RuleAt};
 use proc_language::Module;
 
 // Goes on where a rule has no broken place. The first that is tried is L3.
-fn kept(tried: u8, at: Option<ModulePlace>) -> Result<(), RuleAt>
+fn kept(tried: u8, at: Option<PartPlace>) -> Result<(), RuleAt>
     requires { tried < 10 }
     ensures { result ≡ kept_or told_as tried at (Ok tt) }
 {
@@ -34,12 +31,12 @@ fn try_rules(modules: &[Module], size: u32) -> Result<(), RuleAt>
     requires { length modules.now < 2 ^ 32 }
     ensures { result ≡ check_from told_as 1 (map by_part (module_rules modules.now size)) }
 {
-    kept(1, names_differ(modules))?;
-    kept(2, imports_are_there(modules))?;
-    kept(3, imports_are_shared(modules))?;
-    kept(4, one_main(modules))?;
-    kept(5, stacks_agree(modules))?;
-    kept(6, stack_fits(modules, size))
+    kept(1, ModuleRule::L3.first(modules, size))?;
+    kept(2, ModuleRule::L4.first(modules, size))?;
+    kept(3, ModuleRule::L5.first(modules, size))?;
+    kept(4, ModuleRule::L6.first(modules, size))?;
+    kept(5, ModuleRule::L7.first(modules, size))?;
+    kept(6, ModuleRule::L8.first(modules, size))
 }
 
 /// Tries the rules L3 to L8 on modules and a stack of `size` words: L4 and L5 on imports from one of

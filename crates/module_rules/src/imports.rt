@@ -2,12 +2,11 @@
 ghost use Rattle.std.specs.Prelude.{◌≡◌, ◌<◌, ◌^◌, length, slice_get};
 ghost use Rattle.std.specs.Option.{option_copied};
 ghost use Rattle.component_check.specs.Places.{first_place};
-ghost use Rattle.linked_starts.specs.Pairs.{first_in, passes};
+ghost use Rattle.linked_starts.specs.Pairs.{passes};
 ghost use Rattle.module_rules.specs.Rules.{module_named, proc_named, is_missing, imports_are_there};
 ghost use Rattle.module_rules.specs.Rules.{is_unshared, is_private, imports_are_shared};
 
 use crate::pairs::{module_at, same_name};
-use crate::places::{ModulePlace, first_in};
 use component_check::first_place;
 use proc_language::{Import, Module, ModuleFields, Proc};
 
@@ -49,20 +48,13 @@ fn import_is_missing(modules: &[Module], imports: &[Import], k: usize) -> bool
     )
 }
 
-fn missing_within(modules: &[Module], i: usize) -> Option<u32>
+/// The first import of the module of an index that names what isn't there.
+pub(crate) fn missing_within(modules: &[Module], i: usize) -> Option<u32>
     requires { i < length modules.now }
     ensures { result ≡ first_place ((imports_are_there modules.now).within i) }
 {
     let imports = module_at(modules, i).imports.as_slice();
     first_place(imports.len(), |k| import_is_missing(modules, imports, k))
-}
-
-/// The first module with an import of what isn't there, and its first such import.
-pub(crate) fn imports_are_there(modules: &[Module]) -> Option<ModulePlace>
-    requires { length modules.now < 2 ^ 32 }
-    ensures { result ≡ first_in (imports_are_there modules.now) }
-{
-    first_in(modules.len(), |i| missing_within(modules, i))
 }
 
 // Whether the procedure is there, and has no `export`.
@@ -101,7 +93,8 @@ fn import_is_private(modules: &[Module], m: &ModuleFields, k: usize) -> bool
     )
 }
 
-fn private_within(modules: &[Module], i: usize) -> Option<u32>
+/// The first import of the module of an index that it may not have.
+pub(crate) fn private_within(modules: &[Module], i: usize) -> Option<u32>
     requires { i < length modules.now }
     ensures { result ≡ first_place ((imports_are_shared modules.now).within i) }
 {
@@ -110,12 +103,4 @@ fn private_within(modules: &[Module], i: usize) -> Option<u32>
         m.imports.as_slice().len(),
         |k| import_is_private(modules, m, k),
     )
-}
-
-/// The first module with an import that it may not have, and its first such import.
-pub(crate) fn imports_are_shared(modules: &[Module]) -> Option<ModulePlace>
-    requires { length modules.now < 2 ^ 32 }
-    ensures { result ≡ first_in (imports_are_shared modules.now) }
-{
-    first_in(modules.len(), |i| private_within(modules, i))
 }

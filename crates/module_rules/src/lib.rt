@@ -9,7 +9,7 @@ mod check;
 mod imports;
 pub mod laws;
 mod pairs;
-mod places;
+mod rules;
 mod whole;
 
 pub use check::check_modules;

@@ -1,10 +1,9 @@
 //! Rules L3 and L7: what two modules may not have in common, and what all must.
 ghost use Rattle.std.specs.Prelude.{◌≡◌, ◌<◌, ◌≤◌, ◌^◌, length, slice_get, Some};
 ghost use Rattle.component_check.specs.Places.{first_place};
-ghost use Rattle.linked_starts.specs.Pairs.{first_in, passes};
+ghost use Rattle.linked_starts.specs.Pairs.{once, passes};
 ghost use Rattle.module_rules.specs.Rules.{same_name, names_differ, stack_base_of, stacks_agree};
 
-use crate::places::{ModulePlace, first_in, once};
 use cap_words::LAST_PLACE;
 use component_check::first_place;
 use proc_language::{MOST_ITEMS, Module, ModuleFields};
@@ -33,21 +32,14 @@ fn is_named_as(modules: &[Module], m: &ModuleFields, j: usize) -> bool
     same_name(m, module_at(modules, j))
 }
 
-fn name_within(modules: &[Module], i: usize) -> Option<u32>
+/// The first module before that of an index with the name of that.
+pub(crate) fn name_within(modules: &[Module], i: usize) -> Option<u32>
     requires within { i < length modules.now }
     requires few { i < 2 ^ 32 }
     ensures { result ≡ first_place ((names_differ modules.now).within i) }
 {
     let m = module_at(modules, i);
     first_place(i, |j| is_named_as(modules, m, j))
-}
-
-/// The first module of the name of one before it, and the first of those.
-pub(crate) fn names_differ(modules: &[Module]) -> Option<ModulePlace>
-    requires { length modules.now < 2 ^ 32 }
-    ensures { result ≡ first_in (names_differ modules.now) }
-{
-    first_in(modules.len(), |i| name_within(modules, i))
 }
 
 /// The stack base of the first module, 0 where there is none. It is that of all modules which keep L7.
@@ -61,18 +53,18 @@ pub fn stack_base_of(modules: &[Module]) -> u32
     }
 }
 
-fn stack_within(modules: &[Module], i: usize) -> Option<u32>
+/// The place of a rule that is tried once, where it is broken.
+pub(crate) fn once(broken: bool, told: u32) -> Option<u32>
+    ensures { result ≡ first_place (once broken told) }
+{
+    if broken { Some(told) } else { None }
+}
+
+/// The stack base of the module of an index, where it isn't the first's.
+pub(crate) fn stack_within(modules: &[Module], i: usize) -> Option<u32>
     requires { i < length modules.now }
     ensures { result ≡ first_place ((stacks_agree modules.now).within i) }
 {
     let m = module_at(modules, i);
     once(m.stack != stack_base_of(modules), m.stack)
-}
-
-/// The first module whose stack base isn't the first's, and its stack base.
-pub(crate) fn stacks_agree(modules: &[Module]) -> Option<ModulePlace>
-    requires { length modules.now < 2 ^ 32 }
-    ensures { result ≡ first_in (stacks_agree modules.now) }
-{
-    first_in(modules.len(), |i| stack_within(modules, i))
 }

@@ -4,11 +4,9 @@ ghost use Rattle.std.specs.List.{list_any};
 ghost use Rattle.component_check.specs.Places.{first_place};
 ghost use Rattle.component_file.specs.Limits.{name_lt};
 ghost use Rattle.linked_starts.specs.Regions.{is_stack_size};
-ghost use Rattle.linked_starts.specs.Pairs.{first_in};
 ghost use Rattle.module_rules.specs.Rules.{is_main, has_main, main_rank, one_main, stack_fits};
 
-use crate::pairs::{module_at, stack_base_of};
-use crate::places::{ModulePlace, first_in, once};
+use crate::pairs::{module_at, once, stack_base_of};
 use cap_words::{LAST_PLACE, LONGEST_STRETCH};
 use proc_language::{MOST_ITEMS, Module, ModuleFields, Proc};
 
@@ -34,16 +32,10 @@ fn main_before(modules: &[Module], count: usize) -> bool
     modules[..count].iter().any(|m| has_main(m.fields()))
 }
 
-fn name_lt(a: &[u8], b: &[u8]) -> bool
-    ensures { result ≡ name_lt a.now b.now }
-{
-    a.cmp(b).is_lt()
-}
-
 fn comes_before_main(p: &Proc) -> bool
     ensures { result ≡ name_lt p.now.name.text (codes "main") }
 {
-    name_lt(p.name.text.as_slice(), MAIN.as_bytes())
+    p.name.text.as_slice().cmp(MAIN.as_bytes()).is_lt()
 }
 
 // How many procedures come before `main`, in the order of their names.
@@ -58,27 +50,13 @@ fn main_rank(m: &ModuleFields) -> u32
         .count() as u32
 }
 
-fn is_second_main(modules: &[Module], m: &ModuleFields, i: usize) -> bool
-    requires { i ≤ length modules.now }
-    ensures { result ≡ (has_main m.now && list_any has_main (take i modules.now)) }
-{
-    has_main(m) && main_before(modules, i)
-}
-
-fn main_within(modules: &[Module], i: usize) -> Option<u32>
+/// Which of the exports of the module of an index is its `main`, where one before shares one too.
+pub(crate) fn main_within(modules: &[Module], i: usize) -> Option<u32>
     requires { i < length modules.now }
     ensures { result ≡ first_place ((one_main modules.now).within i) }
 {
     let m = module_at(modules, i);
-    once(is_second_main(modules, m, i), main_rank(m))
-}
-
-/// The second module that shares a `main`, and which of its exports that is.
-pub(crate) fn one_main(modules: &[Module]) -> Option<ModulePlace>
-    requires { length modules.now < 2 ^ 32 }
-    ensures { result ≡ first_in (one_main modules.now) }
-{
-    first_in(modules.len(), |i| main_within(modules, i))
+    once(has_main(m) && main_before(modules, i), main_rank(m))
 }
 
 fn is_stack_size(words: u32) -> bool
@@ -87,7 +65,8 @@ fn is_stack_size(words: u32) -> bool
     2 <= words && words <= LONGEST_STRETCH
 }
 
-fn size_within(modules: &[Module], size: u32, i: usize) -> Option<u32>
+/// The stack's size, where it doesn't fit, behind the last module.
+pub(crate) fn size_within(modules: &[Module], size: u32, i: usize) -> Option<u32>
     requires { i ≤ length modules.now }
     ensures { result ≡ first_place ((stack_fits modules.now size).within i) }
 {
@@ -96,12 +75,4 @@ fn size_within(modules: &[Module], size: u32, i: usize) -> Option<u32>
     }
     let fits = is_stack_size(size) && stack_base_of(modules) + size <= LAST_PLACE + 1;
     once(!fits, size)
-}
-
-/// The number of modules, and the stack's size, where that doesn't fit.
-pub(crate) fn stack_fits(modules: &[Module], size: u32) -> Option<ModulePlace>
-    requires { length modules.now < 2 ^ 32 }
-    ensures { result ≡ first_in (stack_fits modules.now size) }
-{
-    first_in(modules.len() + 1, |i| size_within(modules, size, i))
 }

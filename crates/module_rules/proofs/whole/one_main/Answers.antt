@@ -1,8 +1,0 @@
-use Rattle.std.proofs.Common.{rules}
-use Rattle.linked_starts.proofs.Offers.{first_in_is}
-use Rattle.module_rules.specs.Rules.{one_main as rule}
-use Rattle.module_rules.proofs.whole.one_main.Goals as goal
-
-pub returns : goal.returns
-unfolding rule
-returns c = first_in_is (rule c.args.modules.now) c.first_in.ensures (search rules) (λ p o lt h. search rules)
