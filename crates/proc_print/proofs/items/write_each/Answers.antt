@@ -1,4 +1,4 @@
-use Rattle.std.proofs.Common.{◌+◌, sym, subst, drop, flat_map}
+use Rattle.std.proofs.Common.{sym, subst, flat_map}
 use Rattle.std.proofs.Math.ListN.{drop_of_length-le}
 use Rattle.proc_language.proofs.Offers.{drop_item}
 use Rattle.proc_print.specs.Writing.{WritesPieces}
