@@ -1,5 +1,5 @@
 //! Rules L4 and L5: what imports from one of the modules name is there, and may be imported.
-ghost use Rattle.std.specs.Prelude.{◌≡◌, ◌<◌, ◌^◌, length, slice_get};
+ghost use Rattle.std.specs.Prelude.{◌≡◌, ◌<◌, length, slice_get};
 ghost use Rattle.std.specs.Option.{option_copied};
 ghost use Rattle.component_check.specs.Places.{first_place};
 ghost use Rattle.linked_starts.specs.Pairs.{passes};

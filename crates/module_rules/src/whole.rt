@@ -1,5 +1,5 @@
 //! Rules L6 and L8, of all modules together: at most one `main`, and a stack that fits.
-ghost use Rattle.std.specs.Prelude.{◌≡◌, ◌<◌, ◌≤◌, ◌^◌, ◌&&◌, length, take, codes};
+ghost use Rattle.std.specs.Prelude.{◌≡◌, ◌<◌, ◌≤◌, length, take, codes};
 ghost use Rattle.std.specs.List.{list_any};
 ghost use Rattle.component_check.specs.Places.{first_place};
 ghost use Rattle.component_file.specs.Limits.{name_lt};

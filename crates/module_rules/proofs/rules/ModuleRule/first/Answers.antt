@@ -1,4 +1,4 @@
-use Rattle.std.proofs.Common.{◌≡◌, ℕ, List, Some, None, refl, sym, ◌∙◌, arith}
+use Rattle.std.proofs.Common.{◌≡◌, ℕ, List, refl, sym, ◌∙◌, arith}
 use Rattle.component_check.specs.Places.{first_place}
 use Rattle.linked_starts.proofs.Offers.{first_in_is}
 use Rattle.proc_language.specs.declared.module.ModuleFields.{ModuleFields}
