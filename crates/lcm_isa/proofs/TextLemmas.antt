@@ -46,6 +46,31 @@ few (Cseal a b) = lit≤ tt
 few (Split a b c n) = lit≤ tt
 few (Splice a b c) = lit≤ tt
 
+pub mnemonic_short : (i : Instr) → length (mnemonic_of i) ≤ 8
+mnemonic_short Fail = lit≤ tt
+mnemonic_short Halt = lit≤ tt
+mnemonic_short (Jmp a) = lit≤ tt
+mnemonic_short (Jnz a b) = lit≤ tt
+mnemonic_short (Gettype a b) = lit≤ tt
+mnemonic_short (Geta a b) = lit≤ tt
+mnemonic_short (Getb a b) = lit≤ tt
+mnemonic_short (Gete a b) = lit≤ tt
+mnemonic_short (Getp a b) = lit≤ tt
+mnemonic_short (Getlin a b) = lit≤ tt
+mnemonic_short (Move a n) = lit≤ tt
+mnemonic_short (Store a b) = lit≤ tt
+mnemonic_short (Load a b) = lit≤ tt
+mnemonic_short (Cca a n) = lit≤ tt
+mnemonic_short (Restrict a n) = lit≤ tt
+mnemonic_short (Lt a b n) = lit≤ tt
+mnemonic_short (Plus a b n) = lit≤ tt
+mnemonic_short (Minus a b n) = lit≤ tt
+mnemonic_short (Seta2b a) = lit≤ tt
+mnemonic_short (Xjmp a b) = lit≤ tt
+mnemonic_short (Cseal a b) = lit≤ tt
+mnemonic_short (Split a b c n) = lit≤ tt
+mnemonic_short (Splice a b c) = lit≤ tt
+
 pub instr_text_joined : (i : Instr)
     → instr_text i
     ≡ (((mnemonic_of i ++ after_blank (slice_get (operands_of i) 0)) ++ after_blank

@@ -22,7 +22,7 @@ ghost use Rattle.lcm_isa.specs.Texts.{reg_name, mnemonic_of};
 ///
 /// `Pc` is the program counter, `Stk` the stack capability and `Dat` the register `data`. The
 /// names of the others say how the calling convention uses them.
-#[derive(Clone, Copy, PartialEq, Debug)]
+#[derive(Clone, Copy, PartialEq)]
 pub enum Reg {
     Pc,
     Rcode,
@@ -233,18 +233,14 @@ const MODE: u64 = 262_144;
 const FIELD: u64 = 524_288;
 
 // The parts of an instruction in one number.
-fn number_of_parts(op: u64, first: u64, second: u64, third: u64, mode: u64, field: u64) -> u64
-    requires op_fits { op < 64 }
-    requires first_fits { first < 16 }
-    requires second_fits { second < 16 }
-    requires third_fits { third < 16 }
-    requires mode_fits { mode < 2 }
-    requires field_fits { field < 2 ^ 32 }
-    ensures value { result ≡ packed op first second third mode field }
+fn number_of_parts(op: u64, first: Reg, second: Reg, third: Reg, last: Operand) -> u64
+    requires { op < 64 }
+    ensures value { result ≡ packed op (reg_number first) (reg_number second) (reg_number third)
+        (mode_of last) (field_of last) }
     ensures below { result < 2 ^ 51 }
 {
-    let low = op + FIRST * first + SECOND * second + THIRD * third;
-    low + MODE * mode + FIELD * field
+    let low = op + FIRST * first.number() + SECOND * second.number() + THIRD * third.number();
+    low + MODE * last.mode() + FIELD * last.field()
 }
 
 /// The number of an instruction. It is never negative.
@@ -257,50 +253,39 @@ pub fn encode(instr: &Instr) -> i64
     number(instr) as i64
 }
 
-// The number, of which an instruction needs 51 bits.
+// The number, of which an instruction needs 51 bits. An operand that it doesn't have counts as pc, whose
+// number is 0.
 #[tactic(auto, unfolding(crate::specs::Numbers::number_of))]
 fn number(instr: &Instr) -> u64
     ensures value { result ≡ number_of instr.now }
     ensures below { result < 2 ^ 51 }
 {
+    let pc = Reg::Pc;
+    let none = Operand::R(pc);
     match *instr {
-        Instr::Fail => number_of_parts(0, 0, 0, 0, 0, 0),
-        Instr::Halt => number_of_parts(1, 0, 0, 0, 0, 0),
-        Instr::Jmp(a) => number_of_parts(2, a.number(), 0, 0, 0, 0),
-        Instr::Jnz(a, b) => number_of_parts(3, a.number(), b.number(), 0, 0, 0),
-        Instr::Gettype(a, b) => number_of_parts(4, a.number(), b.number(), 0, 0, 0),
-        Instr::Geta(a, b) => number_of_parts(5, a.number(), b.number(), 0, 0, 0),
-        Instr::Getb(a, b) => number_of_parts(6, a.number(), b.number(), 0, 0, 0),
-        Instr::Gete(a, b) => number_of_parts(7, a.number(), b.number(), 0, 0, 0),
-        Instr::Getp(a, b) => number_of_parts(8, a.number(), b.number(), 0, 0, 0),
-        Instr::Getlin(a, b) => number_of_parts(9, a.number(), b.number(), 0, 0, 0),
-        Instr::Move(a, n) => number_of_parts(10, a.number(), 0, 0, n.mode(), n.field()),
-        Instr::Store(a, b) => number_of_parts(11, a.number(), b.number(), 0, 0, 0),
-        Instr::Load(a, b) => number_of_parts(12, a.number(), b.number(), 0, 0, 0),
-        Instr::Cca(a, n) => number_of_parts(13, a.number(), 0, 0, n.mode(), n.field()),
-        Instr::Restrict(a, n) => number_of_parts(14, a.number(), 0, 0, n.mode(), n.field()),
-        Instr::Lt(a, b, n) => number_of_parts(15, a.number(), b.number(), 0, n.mode(), n.field()),
-        Instr::Plus(a, b, n) => number_of_parts(16, a.number(), b.number(), 0, n.mode(), n.field()),
-        Instr::Minus(a, b, n) => number_of_parts(
-            17,
-            a.number(),
-            b.number(),
-            0,
-            n.mode(),
-            n.field(),
-        ),
-        Instr::Seta2b(a) => number_of_parts(18, a.number(), 0, 0, 0, 0),
-        Instr::Xjmp(a, b) => number_of_parts(19, a.number(), b.number(), 0, 0, 0),
-        Instr::Cseal(a, b) => number_of_parts(20, a.number(), b.number(), 0, 0, 0),
-        Instr::Split(a, b, c, n) => number_of_parts(
-            21,
-            a.number(),
-            b.number(),
-            c.number(),
-            n.mode(),
-            n.field(),
-        ),
-        Instr::Splice(a, b, c) => number_of_parts(22, a.number(), b.number(), c.number(), 0, 0),
+        Instr::Fail => number_of_parts(0, pc, pc, pc, none),
+        Instr::Halt => number_of_parts(1, pc, pc, pc, none),
+        Instr::Jmp(a) => number_of_parts(2, a, pc, pc, none),
+        Instr::Jnz(a, b) => number_of_parts(3, a, b, pc, none),
+        Instr::Gettype(a, b) => number_of_parts(4, a, b, pc, none),
+        Instr::Geta(a, b) => number_of_parts(5, a, b, pc, none),
+        Instr::Getb(a, b) => number_of_parts(6, a, b, pc, none),
+        Instr::Gete(a, b) => number_of_parts(7, a, b, pc, none),
+        Instr::Getp(a, b) => number_of_parts(8, a, b, pc, none),
+        Instr::Getlin(a, b) => number_of_parts(9, a, b, pc, none),
+        Instr::Move(a, n) => number_of_parts(10, a, pc, pc, n),
+        Instr::Store(a, b) => number_of_parts(11, a, b, pc, none),
+        Instr::Load(a, b) => number_of_parts(12, a, b, pc, none),
+        Instr::Cca(a, n) => number_of_parts(13, a, pc, pc, n),
+        Instr::Restrict(a, n) => number_of_parts(14, a, pc, pc, n),
+        Instr::Lt(a, b, n) => number_of_parts(15, a, b, pc, n),
+        Instr::Plus(a, b, n) => number_of_parts(16, a, b, pc, n),
+        Instr::Minus(a, b, n) => number_of_parts(17, a, b, pc, n),
+        Instr::Seta2b(a) => number_of_parts(18, a, pc, pc, none),
+        Instr::Xjmp(a, b) => number_of_parts(19, a, b, pc, none),
+        Instr::Cseal(a, b) => number_of_parts(20, a, b, pc, none),
+        Instr::Split(a, b, c, n) => number_of_parts(21, a, b, c, n),
+        Instr::Splice(a, b, c) => number_of_parts(22, a, b, c, none),
     }
 }
 
@@ -476,6 +461,13 @@ impl Instr {
     pub fn mnemonic(&self) -> &'static str
         ensures text { result.now ≡ mnemonic_of self.now }
         ensures short { length result.now ≤ 8 }
+    {
+        self.first_word()
+    }
+
+    // The word itself: that each is short is a lemma.
+    fn first_word(&self) -> &'static str
+        ensures { result.now ≡ mnemonic_of self.now }
     {
         match self {
             Instr::Fail => "fail",

@@ -13,8 +13,8 @@ impl Instr {
         ensures { result ≡ map (slice_get (operands_of self.now)) (0 ∷ 1 ∷ 2 ∷ 3 ∷ []) }
     {
         match *self {
-            Instr::Fail | Instr::Halt => [None, None, None, None],
-            Instr::Jmp(a) | Instr::Seta2b(a) => [Some(Operand::R(a)), None, None, None],
+            Instr::Fail | Instr::Halt => listed(None, None, None, None),
+            Instr::Jmp(a) | Instr::Seta2b(a) => listed(Some(Operand::R(a)), None, None, None),
             Instr::Jnz(a, b)
             | Instr::Gettype(a, b)
             | Instr::Geta(a, b)
@@ -25,25 +25,25 @@ impl Instr {
             | Instr::Store(a, b)
             | Instr::Load(a, b)
             | Instr::Xjmp(a, b)
-            | Instr::Cseal(a, b) => [Some(Operand::R(a)), Some(Operand::R(b)), None, None],
+            | Instr::Cseal(a, b) => listed(Some(Operand::R(a)), Some(Operand::R(b)), None, None),
             Instr::Move(a, n) | Instr::Cca(a, n) | Instr::Restrict(a, n) => {
-                [Some(Operand::R(a)), Some(n), None, None]
+                listed(Some(Operand::R(a)), Some(n), None, None)
             }
             Instr::Lt(a, b, n) | Instr::Plus(a, b, n) | Instr::Minus(a, b, n) => {
-                [Some(Operand::R(a)), Some(Operand::R(b)), Some(n), None]
+                listed(Some(Operand::R(a)), Some(Operand::R(b)), Some(n), None)
             }
-            Instr::Split(a, b, c, n) => [
+            Instr::Split(a, b, c, n) => listed(
                 Some(Operand::R(a)),
                 Some(Operand::R(b)),
                 Some(Operand::R(c)),
                 Some(n),
-            ],
-            Instr::Splice(a, b, c) => [
+            ),
+            Instr::Splice(a, b, c) => listed(
                 Some(Operand::R(a)),
                 Some(Operand::R(b)),
                 Some(Operand::R(c)),
                 None,
-            ],
+            ),
         }
     }
 
@@ -62,6 +62,18 @@ impl Instr {
         push_operand(&mut text, fourth);
         text
     }
+}
+
+// Up to four operands, in their order.
+fn listed(
+    first: Option<Operand>,
+    second: Option<Operand>,
+    third: Option<Operand>,
+    fourth: Option<Operand>,
+) -> [Option<Operand>; 4]
+    ensures { result ≡ first ∷ second ∷ third ∷ fourth ∷ [] }
+{
+    [first, second, third, fourth]
 }
 
 // Appends a blank and the operand, or nothing where there is none.
