@@ -1,6 +1,5 @@
 //! From the tree of a module to the program that it runs as.
-ghost use Rattle.std.specs.Prelude.{◌≡◌, ℕ, ◌+◌, ◌<◌, ◌≤◌, ◌++◌, IfOk, OnOk, OnErr, length, replicate, map};
-ghost use Rattle.std.specs.Prelude.{sum_by};
+ghost use Rattle.std.specs.Prelude.{◌≡◌, ℕ, ◌+◌, ◌<◌, ◌≤◌, ◌++◌, IfOk, OnOk, OnErr, length, map};
 ghost use Rattle.std.specs.Prelude.{is_some, ◌^◌, MatchOption, [], unwrap_or};
 ghost use Rattle.proc_names.specs.Need.{need};
 ghost use Rattle.proc_language.specs.Limits.{Each, ProcFits, GlobalFits, IsModule, params_registers};
@@ -13,11 +12,10 @@ ghost use Rattle.proc_program.specs.Lower.{words, words_in, first_word_of, row_a
 ghost use Rattle.proc_program.specs.Lower.{variable_of};
 ghost use Rattle.proc_program.specs.Lower.{handle_by, handle_of, passed_handle, exp_of, args_of, call_of};
 ghost use Rattle.proc_program.specs.Lower.{step_of};
-ghost use Rattle.proc_program.specs.Program.{Call as run_call};
-ghost use Rattle.proc_program.specs.declared.program.StatementKind.TheVariants as code;
-ghost use Rattle.proc_program.specs.View.{args_of as args_view};
+ghost use Rattle.proc_program.specs.Program.{SetAt, If, While};
+ghost use Rattle.proc_program.specs.StepView.{block_of};
 ghost use Rattle.proc_program.specs.Lower.{steps_of, procedure_of, procedures_of, globals_of, import_of};
-ghost use Rattle.proc_program.specs.Lower.{header_of, part_of};
+ghost use Rattle.proc_program.specs.Lower.{part_of};
 
 use crate::program::{
     ArgExp, Array, CallExp, Exp, ExpKind, Handle, Header, Location, Procedure, Program,
@@ -89,22 +87,6 @@ fn variable_in(m: &ModuleFields, p: &Proc, x: &Name) -> Variable
     variable_named(m, p, x)
 }
 
-#[tactic(auto, using(crate::proofs::Limits::callee_within))]
-fn callee_in(m: &ModuleFields, p: &Proc, f: &Name) -> Callee
-    ensures is { result ≡ callee_named m.now p.now f.now }
-    ensures within { CalleeWithin m.now p.now result }
-{
-    callee_named(m, p, f)
-}
-
-#[tactic(auto, using(crate::proofs::Limits::passed_within))]
-fn passed_in(m: &ModuleFields, p: &Proc, f: &Name) -> Callee
-    ensures is { result ≡ passed_named m.now p.now f.now }
-    ensures within { CalleeWithin m.now p.now result }
-{
-    passed_named(m, p, f)
-}
-
 fn variable_of(m: &ModuleFields, p: &Proc, x: &Name) -> Location
     requires limits { IsModule m.now }
     requires fits { ProcFits p.now }
@@ -114,10 +96,10 @@ fn variable_of(m: &ModuleFields, p: &Proc, x: &Name) -> Location
     match variable_in(m, p, x) {
         Variable::Param(i) => Location::Local(param_place(params, i)),
         Variable::Local(k) => Location::Local(params_registers(params) + k as u32),
-        Variable::Global(k) => Location::Global(word_at(m.globals.as_slice(), k)),
-        Variable::Array(k) => Location::Global(word_at(m.globals.as_slice(), k)),
-        Variable::Other => Location::Global(0),
-        Variable::Missing => Location::Global(0),
+        Variable::Global(k) | Variable::Array(k) => {
+            Location::Global(word_at(m.globals.as_slice(), k))
+        }
+        Variable::Other | Variable::Missing => Location::Global(0),
     }
 }
 
@@ -144,25 +126,26 @@ fn handle_by(m: &ModuleFields, p: &Proc, callee: Callee) -> Handle
         Callee::Callback(i) => Handle::Given(param_place(p.params.as_slice(), i)),
         Callee::Import(k) => Handle::Imported(k as u32),
         Callee::Proc(j) => Handle::Own(j as u32),
-        Callee::Other => Handle::Own(0),
-        Callee::Missing => Handle::Own(0),
+        Callee::Other | Callee::Missing => Handle::Own(0),
     }
 }
 
+#[tactic(auto, using(crate::proofs::Limits::callee_within))]
 fn handle_of(m: &ModuleFields, p: &Proc, f: &Name) -> Handle
     requires limits { IsModule m.now }
     requires fits { ProcFits p.now }
     ensures { result ≡ handle_of m.now p.now f.now }
 {
-    handle_by(m, p, callee_in(m, p, f))
+    handle_by(m, p, callee_named(m, p, f))
 }
 
+#[tactic(auto, using(crate::proofs::Limits::passed_within))]
 fn passed_of(m: &ModuleFields, p: &Proc, f: &Name) -> Handle
     requires limits { IsModule m.now }
     requires fits { ProcFits p.now }
     ensures { result ≡ passed_handle m.now p.now f.now }
 {
-    handle_by(m, p, passed_in(m, p, f))
+    handle_by(m, p, passed_named(m, p, f))
 }
 
 // ---- expressions and statements
@@ -198,7 +181,7 @@ fn exp_of(
         ExprKind::Element(x, index) => {
             ExpKind::Element(row_of(m, p, x), boxed_of(alloc, m, p, index, next)?)
         }
-        ExprKind::Call(call) => ExpKind::Call(call_of(alloc, m, p, call, next)?),
+        ExprKind::Call(call) => return call_of(alloc, m, p, call, next),
         ExprKind::Op(op, left, right) => {
             let left = boxed_of(alloc, m, p, left, next)?;
             ExpKind::Binary(*op, left, boxed_of(alloc, m, p, right, next)?)
@@ -230,46 +213,50 @@ fn call_of(
     p: &Proc,
     call: &Call,
     next: &mut u32,
-) -> Result<CallExp, AllocError>
+) -> Result<Exp, AllocError>
     requires limits { IsModule m.now }
     requires fits { ProcFits p.now }
-    ensures same { IfOk result (λ x. run_call x.site x.handle (args_view x.args)
+    ensures same { IfOk result (λ x. x
         ≡ call_of m.now p.now next.old call.now.name (tree_args call.now.args)) }
     ensures counted { OnOk result (next.new ≡ next.old + (args_calls (tree_args call.now.args) + 1)) }
 {
-    let args = Items::of(args_of(alloc, m, p, call.args.as_slice(), next, Vec::new(alloc))?);
+    let mut args = Vec::new(alloc);
+    push_args(alloc, m, p, call.args.as_slice(), next, &mut args)?;
     let site = next_site(next)?;
-    let handle = handle_of(m, p, &call.name);
-    Ok(CallExp { site, handle, args })
+    let kind = ExpKind::Call(CallExp {
+        site,
+        handle: handle_of(m, p, &call.name),
+        args: Items::of(args),
+    });
+    Ok(Exp { kind })
 }
 
 // After what is lowered already, the arguments that are left.
 #[cycle(exp_of)]
 #[tactic(auto, using(crate::proofs::Limits::one_more))]
-fn args_of(
+fn push_args(
     alloc: Heap,
     m: &ModuleFields,
     p: &Proc,
     xs: &[Arg],
     next: &mut u32,
-    done: Vec<ArgExp>,
-) -> Result<Vec<ArgExp>, AllocError>
+    done: &mut Vec<ArgExp>,
+) -> Result<(), AllocError>
     requires limits { IsModule m.now }
     requires fits { ProcFits p.now }
-    ensures same { IfOk result (λ v. v.items
-        ≡ done.items ++ args_of m.now p.now next.old (tree_args xs.now)) }
+    ensures same { OnOk result (done.new.items
+        ≡ done.old.items ++ args_of m.now p.now next.old (tree_args xs.now)) }
     ensures counted { OnOk result (next.new ≡ next.old + args_calls (tree_args xs.now)) }
 {
     let Some((first, rest)) = xs.split_first() else {
-        return Ok(done);
+        return Ok(());
     };
     let lowered = match first {
         Arg::Value(e) => ArgExp::Value(exp_of(alloc, m, p, e, next)?),
         Arg::Proc(f) => ArgExp::Pass(passed_of(m, p, f)),
     };
-    let mut done = done;
     done.push(lowered)?;
-    args_of(alloc, m, p, rest, next, done)
+    push_args(alloc, m, p, rest, next, done)
 }
 
 // An element of an array is set.
@@ -281,35 +268,18 @@ fn set_at_of(
     index: &Expr,
     e: &Expr,
     next: &mut u32,
-) -> Result<StatementKind, AllocError>
+) -> Result<Statement, AllocError>
     requires limits { IsModule m.now }
     requires fits { ProcFits p.now }
-    ensures same { IfOk result (λ k. k ≡ code.SetAt (row_of m.now p.now x.now)
+    ensures same { IfOk result (λ s. s ≡ SetAt (row_of m.now p.now x.now)
         (exp_of m.now p.now next.old index.now)
         (exp_of m.now p.now (next.old + calls index.now) e.now)) }
     ensures counted { OnOk result (next.new ≡ next.old + (calls index.now + calls e.now)) }
 {
     let row = row_of(m, p, x);
     let index = exp_of(alloc, m, p, index, next)?;
-    Ok(StatementKind::SetAt(row, index, exp_of(alloc, m, p, e, next)?))
-}
-
-// The value of a call, as it is done.
-fn do_of(
-    alloc: Heap,
-    m: &ModuleFields,
-    p: &Proc,
-    call: &Call,
-    next: &mut u32,
-) -> Result<Exp, AllocError>
-    requires limits { IsModule m.now }
-    requires fits { ProcFits p.now }
-    ensures same { IfOk result (λ x. x
-        ≡ call_of m.now p.now next.old call.now.name (tree_args call.now.args)) }
-    ensures counted { OnOk result (next.new ≡ next.old + (args_calls (tree_args call.now.args) + 1)) }
-{
-    let kind = ExpKind::Call(call_of(alloc, m, p, call, next)?);
-    Ok(Exp { kind })
+    let kind = StatementKind::SetAt(row, index, exp_of(alloc, m, p, e, next)?);
+    Ok(Statement { kind })
 }
 
 // The statements of an `else`, if there is one.
@@ -340,12 +310,12 @@ fn step_of(
         StmtKind::Set(x, e) => {
             StatementKind::Set(variable_of(m, p, x), exp_of(alloc, m, p, e, next)?)
         }
-        StmtKind::SetAt(x, index, e) => set_at_of(alloc, m, p, x, index, e, next)?,
-        StmtKind::Call(call) => StatementKind::Do(do_of(alloc, m, p, call, next)?),
+        StmtKind::SetAt(x, index, e) => return set_at_of(alloc, m, p, x, index, e, next),
+        StmtKind::Call(call) => StatementKind::Do(call_of(alloc, m, p, call, next)?),
         StmtKind::If(c, body, other) => {
-            branch_of(alloc, m, p, c, body.as_slice(), otherwise(other), next)?
+            return branch_of(alloc, m, p, c, body.as_slice(), otherwise(other), next);
         }
-        StmtKind::While(c, body) => repeat_of(alloc, m, p, c, body.as_slice(), next)?,
+        StmtKind::While(c, body) => return repeat_of(alloc, m, p, c, body.as_slice(), next),
         StmtKind::Return(e) => StatementKind::Return(exp_of(alloc, m, p, e, next)?),
         StmtKind::Halt(e) => StatementKind::Halt(exp_of(alloc, m, p, e, next)?),
     };
@@ -361,19 +331,20 @@ fn branch_of(
     body: &[Stmt],
     other: &[Stmt],
     next: &mut u32,
-) -> Result<StatementKind, AllocError>
+) -> Result<Statement, AllocError>
     requires limits { IsModule m.now }
     requires fits { ProcFits p.now }
-    ensures same { IfOk result (λ k. k ≡ code.If (exp_of m.now p.now next.old c.now)
-        (steps_of m.now p.now (next.old + calls c.now) (stmts_of body.now))
-        (steps_of m.now p.now (next.old + calls c.now + block_calls (stmts_of body.now))
-        (stmts_of other.now))) }
+    ensures same { IfOk result (λ s. s ≡ If (exp_of m.now p.now next.old c.now)
+        (block_of (steps_of m.now p.now (next.old + calls c.now) (stmts_of body.now)))
+        (block_of (steps_of m.now p.now (next.old + calls c.now + block_calls (stmts_of body.now))
+        (stmts_of other.now)))) }
     ensures counted { OnOk result (next.new
         ≡ next.old + (calls c.now + (block_calls (stmts_of body.now) + block_calls (stmts_of other.now)))) }
 {
     let c = exp_of(alloc, m, p, c, next)?;
     let body = steps_of(alloc, m, p, body, next)?;
-    Ok(StatementKind::If(c, body, steps_of(alloc, m, p, other, next)?))
+    let kind = StatementKind::If(c, body, steps_of(alloc, m, p, other, next)?);
+    Ok(Statement { kind })
 }
 
 #[cycle(step_of)]
@@ -384,16 +355,17 @@ fn repeat_of(
     c: &Expr,
     body: &[Stmt],
     next: &mut u32,
-) -> Result<StatementKind, AllocError>
+) -> Result<Statement, AllocError>
     requires limits { IsModule m.now }
     requires fits { ProcFits p.now }
-    ensures same { IfOk result (λ k. k ≡ code.While (exp_of m.now p.now next.old c.now)
-        (steps_of m.now p.now (next.old + calls c.now) (stmts_of body.now))) }
+    ensures same { IfOk result (λ s. s ≡ While (exp_of m.now p.now next.old c.now)
+        (block_of (steps_of m.now p.now (next.old + calls c.now) (stmts_of body.now)))) }
     ensures counted { OnOk result (next.new
         ≡ next.old + (calls c.now + block_calls (stmts_of body.now))) }
 {
     let c = exp_of(alloc, m, p, c, next)?;
-    Ok(StatementKind::While(c, steps_of(alloc, m, p, body, next)?))
+    let kind = StatementKind::While(c, steps_of(alloc, m, p, body, next)?);
+    Ok(Statement { kind })
 }
 
 #[cycle(step_of)]
@@ -485,21 +457,13 @@ fn procedures_of(
     Ok(lowered)
 }
 
-fn push_words(globals: &mut Vec<i64>, count: u32, word: i64) -> Result<(), AllocError>
-    ensures { OnOk result (globals.new.items ≡ globals.old.items ++ replicate count word) }
-{
-    for _ in 0..count {
-        globals.push(word)?;
-    }
-    Ok(())
-}
-
 fn globals_of(alloc: Heap, gs: &[Global]) -> Result<Vec<i64>, AllocError>
     ensures { IfOk result (λ v. v.items ≡ globals_of gs.now) }
 {
     let mut globals = Vec::new(alloc);
     for g in gs {
-        push_words(&mut globals, words(g), g.initial.unwrap_or(0))?;
+        let end = globals.len() + words(g) as usize;
+        globals.resize(end, g.initial.unwrap_or(0))?;
     }
     Ok(globals)
 }
@@ -521,19 +485,6 @@ fn imports_of(
     Ok(lowered)
 }
 
-fn header_of(m: &ModuleFields) -> Header
-    ensures { result ≡ header_of m.now }
-{
-    Header {
-        code: m.code,
-        data_base: m.data_base,
-        closure: m.closure,
-        returns: m.returns,
-        return_count: m.return_count,
-        movable: m.movable,
-    }
-}
-
 /// The program that a module runs as, by the rules of docs/LANGUAGE.md on names. Of a module whose
 /// names aren't resolved it is one of no use.
 ///
@@ -552,7 +503,14 @@ pub fn lowered(alloc: Heap, m: &Module) -> Result<Program, AllocError>
     Ok(Program {
         name,
         stack: fields.stack,
-        header: header_of(fields),
+        header: Header {
+            code: fields.code,
+            data_base: fields.data_base,
+            closure: fields.closure,
+            returns: fields.returns,
+            return_count: fields.return_count,
+            movable: fields.movable,
+        },
         imports: Items::of(imports),
         globals: Items::of(globals),
         procs: Items::of(procs),
