@@ -15,17 +15,18 @@ use Rattle.command_words.specs.Part.{mark_in, ending_in, may_be, has_tokens, par
 use Rattle.command_words.specs.Part.{one_part_in, image_in, one_image_in}
 use Rattle.command_words.specs.Action.{action_in, image_or_parts, is_assembler, is_module, is_source}
 use Rattle.command_words.specs.Action.{linked_asked, run_in, assemble_in, compile_in, part_alone_in, link_in}
-use Rattle.command_words.specs.Action.{mean_in, generate_in, asked_of, asked_in}
+use Rattle.command_words.specs.Action.{mean_in, generate_in, asked_of, asked_by, asked_in}
 use Rattle.command_words.specs.Action.{reach_in, debug_in, audit_in, erase_in}
-use Rattle.command_words.specs.Fits.{Fits, FitsLinked, FitsName, FitsPart, FitsParts, FitsStack, FitsSteps}
+use Rattle.command_words.specs.Fits.{Fits, FitsLinked, FitsLinkDeed, FitsName, FitsPart, FitsParts}
+use Rattle.command_words.specs.Fits.{FitsStack, FitsSteps}
 use Rattle.command_words.specs.declared.TheConstants.{MOST_PARTS, GREATEST_SEED}
 use Rattle.command_words.specs.declared.part.PartWord.{PartWord}
-use Rattle.command_words.specs.declared.command.Linked.{Linked}
 use Rattle.command_words.specs.declared.command.Linked.TheVariants.{Parts, Image}
 use Rattle.command_words.specs.declared.command.Command.{Command}
+use Rattle.command_words.specs.declared.command.LinkDeed.{LinkDeed}
 use Rattle.command_words.specs.declared.command.LinkDeed.TheVariants.{Run, Trace}
 use Rattle.command_words.specs.declared.command.ComponentDeed.TheVariants.{Put, Show}
-use Rattle.command_words.specs.declared.command.Command.TheVariants.{Links, Takes, Checks, Mean, Generate}
+use Rattle.command_words.specs.declared.command.Command.TheVariants.{Takes, Checks, Mean, Generate}
 use Rattle.command_words.specs.declared.command.Command.TheVariants.{Audit, Erase}
 use Rattle.command_words.specs.declared.action.Action.{Action}
 use Rattle.command_words.specs.declared.action.Action.TheVariants as action
@@ -162,15 +163,13 @@ linked_fits words stack = by (one_image_in words) (one_image_fits words)
     by None h = parts_linked_fit words stack
     by (Some name) h = unless (is_some stack) (Some (Image name)) FitsLinked h
 
-abbrev FitsRun : Linked × ℕ → Type 0
-FitsRun p = FitsLinked p.0 × FitsSteps p.1
-
-run_fits : (t : Taken) → IfSome (run_in t) FitsRun
+run_fits : (deed : ℕ → LinkDeed) → ((steps : ℕ) → FitsSteps steps → FitsLinkDeed (deed steps))
+    → (t : Taken) → IfSome (run_in deed t) Fits
 unfolding run_in
-run_fits t = unless _ _ FitsRun (
-    next (steps_in t.steps) _ FitsSteps FitsRun (steps_fit t.steps) (λ steps s.
-    next (linked_asked t.parts t.stack) _ FitsLinked FitsRun (linked_fits t.parts t.stack)
-    (λ what w. (w, s))))
+run_fits deed d t = unless _ _ Fits (
+    next (steps_in t.steps) _ FitsSteps Fits (steps_fit t.steps) (λ steps s.
+    next (linked_asked t.parts t.stack) _ FitsLinked Fits (linked_fits t.parts t.stack)
+    (λ what w. (w, d steps s))))
 
 assemble_fits : (t : Taken) → IfSome (assemble_in t) Fits
 unfolding assemble_in
@@ -236,9 +235,8 @@ erase_fits t = unless _ _ Fits (
     where_true (has_tokens part.ending) (Some (Erase part out)) Fits (λ e. (p, e, o)))))
 
 asked_of_fits : (a : Action) (t : Taken) → IfSome (asked_of a t) Fits
-asked_of_fits action.Run t = made (run_in t) (λ p. Links p.0 (Run p.1)) FitsRun Fits (run_fits t) (λ p h. h)
-asked_of_fits action.Trace t = made (run_in t) (λ p. Links p.0 (Trace p.1)) FitsRun Fits (run_fits t)
-    (λ p h. h)
+asked_of_fits action.Run t = run_fits Run (λ steps s. s) t
+asked_of_fits action.Trace t = run_fits Trace (λ steps s. s) t
 asked_of_fits action.Assemble t = assemble_fits t
 asked_of_fits action.Compile t = compile_fits t
 asked_of_fits action.Disassemble t =
@@ -252,9 +250,13 @@ asked_of_fits action.Debug t = debug_fits t
 asked_of_fits action.Audit t = audit_fits t
 asked_of_fits action.Erase t = erase_fits t
 
+asked_by_fits : (t : Taken) → IfSome (asked_by t) Fits
+unfolding asked_by
+asked_by_fits t =
+    any t.action _ Fits (λ word. any (action_in word) _ Fits (λ a. asked_of_fits a t))
+
 asked_fits : (words : List Text) → IfSome (asked_in words) Fits
-asked_fits words = any (rows words) _ Fits (λ found. any (taken_of found).action _ Fits (λ word.
-    any (action_in word) _ Fits (λ a. asked_of_fits a (taken_of found))))
+asked_fits words = any (rows words) _ Fits (λ found. asked_by_fits (taken_of found))
 
 pub asked_command_fits : (words : List Text) (c : Command) → asked_in words ≡ Some c → Fits c
 asked_command_fits words c e = by (asked_in words) (asked_fits words) e

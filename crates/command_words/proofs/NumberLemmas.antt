@@ -1,6 +1,6 @@
 -- What `parse` reads of a word of digits.
-use Rattle.std.proofs.Common.{◌≡◌, ◌≢◌, ℕ, ◌<◌, ◌≤◌, ◌^◌, List, length, true, Some, None, Result, get_or}
-use Rattle.std.proofs.Common.{refl, ap, ◌∙◌, arith, le-leb, inl, inr}
+use Rattle.std.proofs.Common.{◌≡◌, ◌≢◌, ℕ, ◌<◌, ◌≤◌, ◌^◌, List, length, Bool, true, false, Some, None}
+use Rattle.std.proofs.Common.{Result, get_or, refl, ap, ◌∙◌, arith, le-leb, inl, inr}
 use Rattle.std.specs.Prelude.{Ok, Err, nat_le, nat_lt}
 use Rattle.std.specs.Result.{result_ok}
 use Rattle.std.specs.Str.{all_ascii_digits}
@@ -12,6 +12,11 @@ use Rattle.command_words.specs.Number.{number_in}
 
 own : IsNumeralModel (λ ds. all_ascii_digits ds ≡ true) (digits_value 10)
 own = numerals_by_value _ tells_all_ascii_digits
+
+-- what doesn't begin with `+`
+pub plain_word : (plus : Bool) (bs : List ℕ) → (get_or bs 0 0 ≡ 43 → plus ≡ true) → plus ≡ false
+    → get_or bs 0 0 ≢ 43
+plain_word plus bs s f e = let t = s e in cc
 
 pub number_taken : {E : Type 0} (least most : ℕ) (bs : List ℕ) (r : Result ℕ E) (n : ℕ)
     → ParsesUnsigned 64 10 bs r → get_or bs 0 0 ≢ 43 → Some n ≡ result_ok r

@@ -14,6 +14,7 @@ use Rattle.command_words.specs.declared.part.Ending.TheVariants.{Source, Assembl
 use Rattle.command_words.specs.declared.part.PartWord.{PartWord}
 use Rattle.command_words.specs.declared.command.Linked.{Linked}
 use Rattle.command_words.specs.declared.command.Linked.TheVariants.{Parts, Image}
+use Rattle.command_words.specs.declared.command.LinkDeed.{LinkDeed}
 use Rattle.command_words.specs.declared.command.LinkDeed.TheVariants.{Run, Trace, Store, Reach}
 use Rattle.command_words.specs.declared.command.ComponentDeed.TheVariants.{Put, Show}
 use Rattle.command_words.specs.declared.command.Command.{Command}
@@ -62,11 +63,11 @@ unfoldable pub linked_asked : Option (List Text) → Option Text → Option Link
 linked_asked words stack = image_or_parts (one_image_in words) words stack
 
 -- what `run` and `trace` ask for
-unfoldable pub run_in : Taken → Option (Linked × ℕ)
-run_in t = if any_used (t.out ∷ t.feed ∷ t.seed ∷ []) then None else do
+unfoldable pub run_in : (ℕ → LinkDeed) → Taken → Option Command
+run_in deed t = if any_used (t.out ∷ t.feed ∷ t.seed ∷ []) then None else do
   steps ← steps_in t.steps
   what ← linked_asked t.parts t.stack
-  Some (what, steps)
+  Some (Links what (deed steps))
 
 unfoldable pub assemble_in : Taken → Option Command
 assemble_in t = if any_used (t.stack ∷ t.steps ∷ t.feed ∷ t.seed ∷ []) then None else do
@@ -133,8 +134,8 @@ erase_in t = if any_used (t.stack ∷ t.steps ∷ t.feed ∷ t.seed ∷ []) then
 
 -- what an action asks for
 abbrev pub asked_of : Action → Taken → Option Command
-asked_of action.Run t = option_map (λ p. Links p.0 (Run p.1)) (run_in t)
-asked_of action.Trace t = option_map (λ p. Links p.0 (Trace p.1)) (run_in t)
+asked_of action.Run t = run_in Run t
+asked_of action.Trace t = run_in Trace t
 asked_of action.Assemble t = assemble_in t
 asked_of action.Compile t = compile_in t
 asked_of action.Disassemble t = option_map (λ part. Takes part Show) (part_alone_in t)
@@ -147,10 +148,15 @@ asked_of action.Debug t = debug_in t
 asked_of action.Audit t = audit_in t
 asked_of action.Erase t = erase_in t
 
+-- what words taken apart ask for
+unfoldable pub asked_by : Taken → Option Command
+asked_by t = do
+  word ← t.action
+  action ← action_in word
+  asked_of action t
+
 -- what the words ask for; none where the command line doesn't take them, or they break a rule of their action
 abbrev pub asked_in : List Text → Option Command
 asked_in words = do
   found ← rows words
-  word ← (taken_of found).action
-  action ← action_in word
-  asked_of action (taken_of found)
+  asked_by (taken_of found)

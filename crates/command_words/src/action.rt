@@ -1,12 +1,12 @@
 //! The actions, each with its parts and options.
-ghost use Rattle.std.specs.Prelude.{◌≡◌, IfOk, None, is_some};
+ghost use Rattle.std.specs.Prelude.{◌≡◌, IfOk, None, is_some, if◌then◌else◌};
 ghost use Rattle.std.specs.List.{list_all, list_any};
 ghost use Rattle.command_words.specs.Texts.{Text, texts, text_of, all_texts};
 ghost use Rattle.command_words.specs.Views.{taken_in};
 ghost use Rattle.command_words.specs.Action.{action_in, linked_asked, run_in, assemble_in, compile_in};
 ghost use Rattle.command_words.specs.Action.{part_alone_in, link_in, is_module, mean_in, generate_in};
 ghost use Rattle.command_words.specs.Action.{reach_in, debug_in, audit_in, erase_in};
-ghost use Rattle.command_words.specs.Action.{asked_of, asked_in};
+ghost use Rattle.command_words.specs.Action.{asked_of, asked_by, asked_in};
 ghost use Rattle.command_words.specs.Fits.{Fits};
 
 use crate::command::{Command, ComponentDeed, LinkDeed, Linked};
@@ -93,10 +93,15 @@ fn linked_of<'a>(
     }
 }
 
-// What `run` and `trace` ask for.
+// `run` or `trace`.
 #[tactic(auto, unfolding(crate::specs::Action::run_in))]
-fn run<'a>(alloc: Global, taken: &Taken<'_, 'a>) -> Result<Option<(Linked<'a>, Steps)>, AllocError>
-    ensures { IfOk result (λ r. r ≡ run_in (taken_in taken.now)) }
+fn run<'a>(
+    alloc: Global,
+    is_traced: bool,
+    taken: &Taken<'_, 'a>,
+) -> Result<Option<Command<'a>>, AllocError>
+    ensures { IfOk result (λ r. r
+        ≡ run_in (λ n. if is_traced then LinkDeed.Trace n else LinkDeed.Run n) (taken_in taken.now)) }
 {
     if any_used(&[taken.out, taken.feed, taken.seed]) {
         return Ok(None);
@@ -104,41 +109,37 @@ fn run<'a>(alloc: Global, taken: &Taken<'_, 'a>) -> Result<Option<(Linked<'a>, S
     let Some(steps) = steps_of(taken.steps) else {
         return Ok(None);
     };
-    match linked_of(alloc, taken.parts, taken.stack)? {
-        Some(what) => Ok(Some((what, steps))),
-        None => Ok(None),
+    let Some(what) = linked_of(alloc, taken.parts, taken.stack)? else {
+        return Ok(None);
+    };
+    if is_traced {
+        Ok(Some(Command::Links(what, LinkDeed::Trace(steps))))
+    } else {
+        Ok(Some(Command::Links(what, LinkDeed::Run(steps))))
     }
 }
 
-#[tactic(auto, unfolding(crate::specs::Action::assemble_in))]
-fn assemble<'a>(taken: &Taken<'_, 'a>) -> Option<Command<'a>>
-    ensures { result ≡ assemble_in (taken_in taken.now) }
+// `asm`, `compile` or `erase`: what comes of one part is put into a file.
+#[tactic(auto, unfolding(crate::specs::Action::assemble_in, crate::specs::Action::compile_in, crate::specs::Action::erase_in,),)]
+fn put<'a>(action: Action, taken: &Taken<'_, 'a>) -> Option<Command<'a>>
+    ensures assemble { action ≡ Action.Assemble → result ≡ assemble_in (taken_in taken.now) }
+    ensures compile { action ≡ Action.Compile → result ≡ compile_in (taken_in taken.now) }
+    ensures erase { action ≡ Action.Erase → result ≡ erase_in (taken_in taken.now) }
 {
     if any_used(&[taken.stack, taken.steps, taken.feed, taken.seed]) {
         return None;
     }
     let part = one_part(taken.parts)?;
     let out = file_of(taken.out)?;
-    if part.ending == Ending::Assembler {
-        Some(Command::Takes(part, ComponentDeed::Put(out)))
-    } else {
-        None
-    }
-}
-
-#[tactic(auto, unfolding(crate::specs::Action::compile_in))]
-fn compile<'a>(taken: &Taken<'_, 'a>) -> Option<Command<'a>>
-    ensures { result ≡ compile_in (taken_in taken.now) }
-{
-    if any_used(&[taken.stack, taken.steps, taken.feed, taken.seed]) {
-        return None;
-    }
-    let part = one_part(taken.parts)?;
-    let out = file_of(taken.out)?;
-    if part.ending.is_source() {
-        Some(Command::Takes(part, ComponentDeed::Put(out)))
-    } else {
-        None
+    match action {
+        Action::Assemble if part.ending == Ending::Assembler => {
+            Some(Command::Takes(part, ComponentDeed::Put(out)))
+        }
+        Action::Compile if part.ending.is_source() => {
+            Some(Command::Takes(part, ComponentDeed::Put(out)))
+        }
+        Action::Erase if part.ending.has_tokens() => Some(Command::Erase(part, out)),
+        _ => None,
     }
 }
 
@@ -151,6 +152,18 @@ fn part_alone<'a>(taken: &Taken<'_, 'a>) -> Option<PartWord<'a>>
         return None;
     }
     one_part(taken.parts)
+}
+
+// `dis` or `check`.
+fn alone<'a>(action: Action, taken: &Taken<'_, 'a>) -> Option<Command<'a>>
+    ensures show { action ≡ Action.Disassemble → result ≡ asked_of Action.Disassemble (taken_in taken.now) }
+    ensures check { action ≡ Action.Check → result ≡ asked_of Action.Check (taken_in taken.now) }
+{
+    let part = part_alone(taken)?;
+    match action {
+        Action::Check => Some(Command::Checks(part)),
+        _ => Some(Command::Takes(part, ComponentDeed::Show)),
+    }
 }
 
 #[tactic(auto, unfolding(crate::specs::Action::link_in))]
@@ -263,22 +276,6 @@ fn audit<'a>(taken: &Taken<'_, 'a>) -> Option<Command<'a>>
     Some(Command::Audit(text))
 }
 
-#[tactic(auto, unfolding(crate::specs::Action::erase_in))]
-fn erase<'a>(taken: &Taken<'_, 'a>) -> Option<Command<'a>>
-    ensures { result ≡ erase_in (taken_in taken.now) }
-{
-    if any_used(&[taken.stack, taken.steps, taken.feed, taken.seed]) {
-        return None;
-    }
-    let part = one_part(taken.parts)?;
-    let out = file_of(taken.out)?;
-    if part.ending.has_tokens() {
-        Some(Command::Erase(part, out))
-    } else {
-        None
-    }
-}
-
 // The action with its parts and options.
 fn asked_of<'a>(
     alloc: Global,
@@ -288,49 +285,41 @@ fn asked_of<'a>(
     ensures { IfOk result (λ r. r ≡ asked_of action (taken_in taken.now)) }
 {
     match action {
-        Action::Run => match run(alloc, taken)? {
-            Some((what, steps)) => Ok(Some(Command::Links(what, LinkDeed::Run(steps)))),
-            None => Ok(None),
-        },
-        Action::Trace => match run(alloc, taken)? {
-            Some((what, steps)) => Ok(Some(Command::Links(what, LinkDeed::Trace(steps)))),
-            None => Ok(None),
-        },
-        Action::Assemble => Ok(assemble(taken)),
-        Action::Compile => Ok(compile(taken)),
-        Action::Disassemble => match part_alone(taken) {
-            Some(part) => Ok(Some(Command::Takes(part, ComponentDeed::Show))),
-            None => Ok(None),
-        },
-        Action::Check => match part_alone(taken) {
-            Some(part) => Ok(Some(Command::Checks(part))),
-            None => Ok(None),
-        },
+        Action::Run => run(alloc, false, taken),
+        Action::Trace => run(alloc, true, taken),
+        Action::Assemble | Action::Compile | Action::Erase => Ok(put(action, taken)),
+        Action::Disassemble | Action::Check => Ok(alone(action, taken)),
         Action::Link => link(alloc, taken),
         Action::Mean => mean(alloc, taken),
         Action::Generate => Ok(generate(taken)),
         Action::Reach => reach(alloc, taken),
         Action::Debug => debug(alloc, taken),
         Action::Audit => Ok(audit(taken)),
-        Action::Erase => Ok(erase(taken)),
     }
 }
 
-// What the words ask for.
-fn command_asked<'a>(alloc: Global, words: &'a [String]) -> Result<Option<Command<'a>>, AllocError>
-    ensures { IfOk result (λ r. r ≡ asked_in (texts words.now)) }
+// What words taken apart ask for.
+#[tactic(auto, unfolding(crate::specs::Action::asked_by))]
+fn asked_by<'a>(alloc: Global, taken: &Taken<'_, 'a>) -> Result<Option<Command<'a>>, AllocError>
+    ensures { IfOk result (λ r. r ≡ asked_by (taken_in taken.now)) }
 {
-    let Some(matches) = matches(alloc, words)? else {
-        return Ok(None);
-    };
-    let taken = taken_of(&matches);
     let Some(word) = taken.action else {
         return Ok(None);
     };
     let Some(action) = action_named(word) else {
         return Ok(None);
     };
-    asked_of(alloc, action, &taken)
+    asked_of(alloc, action, taken)
+}
+
+// What the words ask for.
+fn command_asked<'a>(alloc: Global, words: &'a [String]) -> Result<Option<Command<'a>>, AllocError>
+    ensures { IfOk result (λ r. r ≡ asked_in (texts words.now)) }
+{
+    match matches(alloc, words)? {
+        Some(matches) => asked_by(alloc, &taken_of(&matches)),
+        None => Ok(None),
+    }
 }
 
 /// What the words ask for, which are those after the program's own name.
