@@ -175,7 +175,7 @@ kind_tail (Pc offset) = u32_bytes offset
 kind_tail _ = []
 
 kind_is : (k : Kind) → kind_tag k ∷ kind_tail k ≡ kind_bytes k
-unfolding kind_tag kind_tail
+unfolding kind_tail
 kind_is Any = refl
 kind_is Int = refl
 kind_is DataCap = refl

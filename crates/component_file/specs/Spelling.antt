@@ -54,12 +54,8 @@ kind_tag (Pc offset) = 4
 kind_tag Top = 5
 
 abbrev pub kind_bytes : Kind → List ℕ
-kind_bytes Any = 0 ∷ []
-kind_bytes Int = 1 ∷ []
-kind_bytes DataCap = 2 ∷ []
-kind_bytes Stk = 3 ∷ []
-kind_bytes (Pc offset) = 4 ∷ u32_bytes offset
-kind_bytes Top = 5 ∷ []
+kind_bytes (Pc offset) = kind_tag (Pc offset) ∷ u32_bytes offset
+kind_bytes k = kind_tag k ∷ []
 
 unfoldable pub row_bytes : KindRow → List ℕ
 row_bytes r = u32_bytes r.offset ++ flat_map kind_bytes r.kinds

@@ -1,5 +1,5 @@
 //! What stands in the lists of a component file: each kind of item, as it is read.
-ghost use Rattle.std.specs.Prelude.{◌≡◌, Option, None, option_map};
+ghost use Rattle.std.specs.Prelude.{◌≡◌, Option, None, option_map, IfOk};
 ghost use Rattle.std.specs.Option.{option_copied};
 ghost use Rattle.readers.specs.Readers.{Reader};
 ghost use Rattle.cap_words.specs.Reading.{Input};
@@ -14,7 +14,7 @@ use crate::component::{Export, Import, Kind, KindRow};
 use crate::fault::FileFault;
 use crate::fields;
 use cap_words::{Cursor, Items, Word};
-use std::alloc::Global;
+use std::alloc::{AllocError, Global};
 
 // An item of a list. Some lists have an order, so an item is told the one before it.
 pub(crate) trait Listed: Drop {
@@ -27,12 +27,10 @@ pub(crate) trait Listed: Drop {
             (next_item (option_copied before.entry) bytes.old) };
 }
 
-// A name, in memory of its own.
-#[tactic(auto, unfolding(readers::specs::Readers::telling))]
-pub(crate) fn name(alloc: Global, bytes: &mut Cursor<'_>) -> Result<Items<u8>, FileFault>
-    ensures { GivesUnlessRefused is_refusal result bytes.new (field next_name bytes.old) }
+// A text, in memory of its own.
+pub(crate) fn owned(alloc: Global, text: &[u8]) -> Result<Items<u8>, AllocError>
+    ensures { IfOk result (λ t. t ≡ text.now) }
 {
-    let text = fields::name(bytes)?;
     Ok(Items::of(Vec::from_slice(alloc, text)?))
 }
 
@@ -59,12 +57,14 @@ impl Listed for Import {
         bytes: &mut Cursor<'_>,
     ) -> Result<Import, FileFault> {
         let at = bytes.at();
-        let part = name(alloc, bytes)?;
-        let name = name(alloc, bytes)?;
+        let part = fields::name(bytes)?;
+        let name = fields::name(bytes)?;
         let slot = fields::offset(bytes)?;
         if before.is_some_and(|b| slot <= b.slot) {
             return Err(FileFault::Order(at));
         }
+        let part = owned(alloc, part)?;
+        let name = owned(alloc, name)?;
         Ok(Import { part, name, slot })
     }
 }
@@ -95,12 +95,13 @@ impl Listed for Export {
         bytes: &mut Cursor<'_>,
     ) -> Result<Export, FileFault> {
         let at = bytes.at();
-        let name = name(alloc, bytes)?;
-        if !rises(before, name.as_slice()) {
+        let name = fields::name(bytes)?;
+        if !rises(before, name) {
             return Err(FileFault::Order(at));
         }
         let offset = fields::offset(bytes)?;
         let shared = fields::flag(bytes)?;
+        let name = owned(alloc, name)?;
         Ok(Export {
             name,
             offset,

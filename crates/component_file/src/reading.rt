@@ -1,10 +1,11 @@
 //! Components from bytes.
 ghost use Rattle.std.specs.Prelude.{◌≡◌, ◌<◌, ◌^◌, ◌⊎◌, length, IfOk, Ok, Err};
-ghost use Rattle.component_file.specs.declared.fault.FileFault.TheVariants.{NoMemory};
+ghost use Rattle.component_file.specs.declared.fault.FileFault.TheVariants.{NoMemory, Trailing};
 ghost use Rattle.component_file.specs.Spelling.{SpellsComponent};
 ghost use Rattle.component_file.specs.declared.component.ComponentFields.{ComponentFields};
 ghost use Rattle.component_file.specs.Fault.{is_refusal};
 ghost use Rattle.readers.specs.Answers.{GivesUnlessRefused, AnswersUnlessRefused};
+ghost use Rattle.readers.specs.Places.{finished};
 ghost use Rattle.component_file.specs.Reading.{field, next_header, version_meant, next_words};
 ghost use Rattle.component_file.specs.Reading.{decoded};
 ghost use Rattle.component_file.specs.Parts.{next_head, next_memory, next_calls, next_declared};
@@ -12,8 +13,8 @@ ghost use Rattle.component_file.specs.Parts.{joined, next_parts};
 
 use crate::component::{Area, Component, ComponentFields, Export, Import, KindRow};
 use crate::fault::FileFault;
-use crate::fields::{address, optional, stretch};
-use crate::listed::{long_list, name, short_list};
+use crate::fields::{address, name, optional, stretch};
+use crate::listed::{long_list, owned, short_list};
 use crate::{
     FIXED_VERSION, MOST_EXPORTS, MOST_IMPORTS, MOST_ROWS, MOST_SITES, MOST_WORDS, MOVABLE_VERSION,
 };
@@ -68,20 +69,18 @@ fn read_head(alloc: Global, bytes: &mut Cursor<'_>) -> Result<Head, FileFault>
     ensures { GivesUnlessRefused is_refusal result bytes.new (next_head bytes.old) }
 {
     let movable = header(bytes)?;
-    let name = name(alloc, bytes)?;
+    let name = name(bytes)?;
     let stack_base = address(bytes)?;
     let closure = address(bytes)?;
+    let (first, seals) = stretch(bytes)?;
     let (base, count) = stretch(bytes)?;
-    let seals = SealRange::new(base, count);
-    let (base, count) = stretch(bytes)?;
-    let linear = Area { base, count };
     Ok(Head {
         movable,
-        name,
+        name: owned(alloc, name)?,
         stack_base,
         closure,
-        seals,
-        linear,
+        seals: SealRange::new(first, seals),
+        linear: Area { base, count },
     })
 }
 
@@ -190,6 +189,17 @@ fn component(alloc: Global, bytes: &mut Cursor<'_>) -> Result<ComponentFields, F
     Ok(joined(head, memory, calls, declared))
 }
 
+// What was read, where nothing follows it.
+fn at_end<T: Drop>(read: T, bytes: &Cursor<'_>) -> Result<T, FileFault>
+    ensures { result ≡ finished Trailing (Ok (read, bytes.now)) }
+{
+    if bytes.is_at_end() {
+        Ok(read)
+    } else {
+        Err(FileFault::Trailing(bytes.at()))
+    }
+}
+
 // The component of all the bytes.
 #[tactic(auto, using(crate::proofs::Parts::decoded_parts))]
 fn whole(alloc: Global, bytes: &[u8]) -> Result<ComponentFields, FileFault>
@@ -198,11 +208,7 @@ fn whole(alloc: Global, bytes: &[u8]) -> Result<ComponentFields, FileFault>
 {
     let mut cursor = Cursor::of(bytes);
     let component = component(alloc, &mut cursor)?;
-    if cursor.is_at_end() {
-        Ok(component)
-    } else {
-        Err(FileFault::Trailing(cursor.at()))
-    }
+    at_end(component, &cursor)
 }
 
 /// The component that the bytes spell, all of them, or their first fault from left to right. Where
