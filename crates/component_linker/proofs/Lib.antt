@@ -1,2 +1,3 @@
+pub mod RuleTests
 pub mod SitesInOrder
 pub mod LaidOut

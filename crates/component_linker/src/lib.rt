@@ -2,14 +2,12 @@
 #![tactic(auto)]
 
 mod grant;
-mod imports;
 mod laying;
 mod linking;
 mod machine;
 mod memory;
 mod names;
 mod owners;
-mod pairs;
 mod part;
 mod parts;
 mod placed;

@@ -1,6 +1,6 @@
 //! Linking.
-ghost use Rattle.std.specs.Prelude.{◌≡◌, ◌<◌, ◌^◌, ℕ, List, length, map, slice_get, Some, None, Ok, OnOk};
-ghost use Rattle.component_check.specs.Verdict.{check_from, kept_or};
+ghost use Rattle.std.specs.Prelude.{◌≡◌, ◌<◌, ◌^◌, ℕ, List, length, map, slice_get, Some, None, OnOk};
+ghost use Rattle.component_check.specs.Verdict.{check_from};
 ghost use Rattle.linked_starts.specs.Pairs.{by_part, first_in, IsFirstBrokenIn};
 ghost use Rattle.linked_starts.specs.Links.{l10, rules_l, rules_of_link, number_of, rule_at};
 ghost use Rattle.lcm_machine.specs.Run.{Run};
@@ -45,28 +45,37 @@ fn told(tried: u8, at: PartPlace) -> RuleAt
     }
 }
 
-// Goes on where a rule has no broken place.
-fn kept(tried: u8, at: Option<PartPlace>) -> Result<(), RuleAt>
-    ensures { result ≡ kept_or rule_at tried at (Ok tt) }
-{
-    match at {
-        None => Ok(()),
-        Some(at) => Err(told(tried, at)),
-    }
-}
-
 fn try_rules(parts: &PlacedParts, stack: u32) -> Result<(), RuleAt>
     ensures { result ≡ check_from rule_at 2 (map by_part (rules_l parts.now stack)) }
 {
-    kept(2, LinkRule::L1.first(parts, stack))?;
-    kept(3, LinkRule::L2.first(parts, stack))?;
-    kept(4, LinkRule::L3.first(parts, stack))?;
-    kept(5, LinkRule::L4.first(parts, stack))?;
-    kept(6, LinkRule::L5.first(parts, stack))?;
-    kept(7, LinkRule::L6.first(parts, stack))?;
-    kept(8, LinkRule::L7.first(parts, stack))?;
-    kept(9, LinkRule::L8.first(parts, stack))?;
-    kept(10, LinkRule::L9.first(parts, stack))
+    if let Some(at) = LinkRule::L1.first(parts, stack) {
+        return Err(told(2, at));
+    }
+    if let Some(at) = LinkRule::L2.first(parts, stack) {
+        return Err(told(3, at));
+    }
+    if let Some(at) = LinkRule::L3.first(parts, stack) {
+        return Err(told(4, at));
+    }
+    if let Some(at) = LinkRule::L4.first(parts, stack) {
+        return Err(told(5, at));
+    }
+    if let Some(at) = LinkRule::L5.first(parts, stack) {
+        return Err(told(6, at));
+    }
+    if let Some(at) = LinkRule::L6.first(parts, stack) {
+        return Err(told(7, at));
+    }
+    if let Some(at) = LinkRule::L7.first(parts, stack) {
+        return Err(told(8, at));
+    }
+    if let Some(at) = LinkRule::L8.first(parts, stack) {
+        return Err(told(9, at));
+    }
+    match LinkRule::L9.first(parts, stack) {
+        Some(at) => Err(told(10, at)),
+        None => Ok(()),
+    }
 }
 
 // The first of the rules L1 to L9 that parts with room break, in the first part and at the first place

@@ -3,8 +3,6 @@ ghost use Rattle.std.specs.Prelude.{◌≡◌, ◌≤◌, IfOk};
 ghost use Rattle.cap_words.specs.declared.Word.TheVariants.{Mem};
 ghost use Rattle.lcm_machine.specs.declared.Place.TheVariants.{R};
 ghost use Rattle.lcm_machine.specs.Row.{put};
-ghost use Rattle.lcm_machine.specs.Regions.{AreApart, HeldOnce};
-ghost use Rattle.linked_starts.specs.Regions.{regions_of};
 ghost use Rattle.linked_starts.specs.Start.{registered, IsStart};
 ghost use Rattle.linked_starts.specs.Linked.{Kept, Linked};
 
@@ -37,19 +35,13 @@ fn set_registers(state: &mut LcmState, main: &Exported<'_>, grant: StackGrant)
 }
 
 /// The machine at the start of parts that are linked, with a stack of this size.
-///
-/// Each memory capability in it, sealed or not, lies in one region, and is linear exactly where
-/// that region is; and no two places have capabilities over one address of a linear region. What
-/// [`LcmState::run`] ensures carries both on: so it is in every state that runs reach.
 pub(crate) fn machine(
     alloc: Global,
     parts: &PlacedParts<'_>,
     size: u32,
 ) -> Result<LcmState, AllocError>
     requires { Linked parts.now size }
-    ensures start { IfOk result (IsStart parts.now size) }
-    ensures regions { AreApart (regions_of parts.now size) }
-    ensures held_once { IfOk result (λ s. HeldOnce (λ w. w) (regions_of parts.now size) s.maps) }
+    ensures { IfOk result (IsStart parts.now size) }
 {
     let Some(main) = main_of(parts) else {
         unreachable!();

@@ -1,13 +1,9 @@
 //! Rule L1: regions don't overlap, nor touch.
-ghost use Rattle.std.specs.Prelude.{◌≡◌, ◌<◌, ◌≤◌, ℕ, take, length, slice_index_or, None};
+ghost use Rattle.std.specs.Prelude.{◌≡◌, ◌<◌, ◌≤◌, take, length, slice_index_or, None};
 ghost use Rattle.std.specs.List.{list_any};
-ghost use Rattle.component_check.specs.Places.{first_place};
-ghost use Rattle.linked_starts.specs.Regions.{stack_span};
-ghost use Rattle.linked_starts.specs.Links.{near, near_part, near_before, l1};
+ghost use Rattle.linked_starts.specs.Links.{near, near_before};
 
-use crate::pairs::once;
 use crate::placed::PlacedParts;
-use component_check::first_place;
 use lcm_machine::Span;
 
 // Whether no address is between two spans, or they share one.
@@ -29,8 +25,13 @@ fn near_any(spans: &[Option<Span>], s: Option<Span>) -> bool
     spans.iter().any(|t| near(s, *t))
 }
 
-// Whether a span is near one of the first parts or one of its own part's.
-fn near_before(parts: &PlacedParts, count: usize, own: &[Option<Span>], s: Option<Span>) -> bool
+/// Whether a span is near one of the first parts or one of its own part's.
+pub(crate) fn near_before(
+    parts: &PlacedParts,
+    count: usize,
+    own: &[Option<Span>],
+    s: Option<Span>,
+) -> bool
     requires { count ≤ length parts.now }
     ensures { result ≡ near_before (take count parts.now) own.now s }
 {
@@ -42,24 +43,17 @@ fn near_before(parts: &PlacedParts, count: usize, own: &[Option<Span>], s: Optio
     near_any(own, s)
 }
 
-// Whether the span of an index is near one of the first parts or one before it in its own part.
-fn breaks(parts: &PlacedParts, count: usize, spans: &[Option<Span>], k: usize) -> bool
+/// Whether the span of an index is near one of the first parts or one before it in its own part.
+pub(crate) fn comes_near(
+    parts: &PlacedParts,
+    count: usize,
+    spans: &[Option<Span>],
+    k: usize,
+) -> bool
     requires in_parts { count ≤ length parts.now }
     requires in_part { k < length spans.now }
     ensures { result
         ≡ near_before (take count parts.now) (take k spans.now) (slice_index_or spans.now k None) }
 {
     near_before(parts, count, &spans[..k], spans[k])
-}
-
-/// The first region of a part that is near one before it; 0 at the number of parts, where the stack is.
-pub(crate) fn l1_within(parts: &PlacedParts, stack: u32, i: usize) -> Option<u32>
-    requires { i ≤ length parts.now }
-    ensures { result ≡ first_place ((l1 parts.now stack).within i) }
-{
-    if i == parts.len() {
-        return once(near_before(parts, i, &[], parts.stack_span(stack)), 0);
-    }
-    let spans = parts.part(i).spans();
-    first_place(3, |k| breaks(parts, i, &spans, k))
 }

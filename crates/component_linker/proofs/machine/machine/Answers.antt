@@ -1,21 +1,16 @@
--- The machine is the start, and so holds its linear memory once.
 use Rattle.std.proofs.Common.{sym, ap, ◌∙◌}
 use Rattle.lcm_machine.specs.declared.cells.Span.{Span}
 use Rattle.component_linker.specs.declared.grant.StackGrant.{StackGrant}
-use Rattle.linked_starts.specs.Regions.{regions_of}
 use Rattle.linked_starts.specs.Start.{registered}
-use Rattle.linked_starts.proofs.Offers.{apart_all, main_kept, started, started_once}
+use Rattle.linked_starts.proofs.Offers.{main_kept, started}
 use Rattle.component_linker.proofs.machine.machine.Goals as goal
 
 pub set_registers-requires-clause-kept : goal.set_registers-requires-clause-kept
 set_registers-requires-clause-kept c =
     main_kept c.args.parts.now c.in-Some.main c.requires.closed (sym c.main_of.ensures ∙ c.in-Some.is)
 
-pub returns-in_err-state-clause-regions : goal.returns-in_err-state-clause-regions
-returns-in_err-state-clause-regions c = apart_all (regions_of c.args.parts.now c.args.size) c.requires.apart
-
-pub returns-clause-start : goal.returns-clause-start
-returns-clause-start c =
+pub returns : goal.returns
+returns c =
     started c.args.parts.now c.args.size c.in-Some.main c.in_ok-state.state c.set_registers.new.state
     c.stack_of.result (sym c.main_of.ensures ∙ c.in-Some.is)
     c.in_ok-state.ensures.cells c.in_ok-state.ensures.regs c.in_ok-state.ensures.spans
@@ -24,10 +19,3 @@ returns-clause-start c =
     ∙ ap (λ (s : Span).
     record c.in_ok-state.state { maps = registered c.in_ok-state.state.maps c.in-Some.main s })
     (ap (λ (g : StackGrant). g.stack) c.of-grant.ensures))
-
-pub returns-clause-regions : goal.returns-clause-regions
-returns-clause-regions c = apart_all (regions_of c.args.parts.now c.args.size) c.requires.apart
-
-pub returns-clause-held_once : goal.returns-clause-held_once
-returns-clause-held_once c =
-    started_once c.args.parts.now c.args.size c.set_registers.new.state c.requires (returns-clause-start c)

@@ -14,6 +14,3 @@ of-requires c =
     are_laid c.args.parts.now c.requires.closed c.in_ok-owners.owners c.in_ok-owners.ensures
     (in_order c.args.parts.now c.in_ok-sites.sites c.requires.closed
     (separate c.args.parts.now c.args.size c.requires.closed c.requires.apart) c.in_ok-sites.ensures)
-
-pub returns-clause-held_once : goal.returns-clause-held_once
-returns-clause-held_once c = rw c.of.ensures c.in_ok-state.ensures.held_once
