@@ -34,21 +34,12 @@ use lcm_isa::{Instr, encode};
 use std::alloc::{AllocError, Global};
 use std::marker::Model;
 
-/// What the lines of a text have made so far. A contract sees what [`DraftParts`] has, and the last item.
+/// What the lines of a text have made so far.
 ///
 /// It must be spent, as the references must.
 pub struct Draft<'a> {
-    last: Option<ItemKind>,
-    header: TextHeader,
-    labels: Labels<'a>,
-    references: References<'a>,
-    code: Vec<Word>,
-    data_words: Vec<Word>,
-    tables: Tables,
-}
-
-/// The parts of a draft.
-pub struct DraftParts<'a> {
+    /// The last item.
+    pub last: Option<ItemKind>,
     /// What the single items said.
     pub header: TextHeader,
     /// The labels.
@@ -93,37 +84,6 @@ impl<'a> Draft<'a> {
             code: Vec::new(alloc),
             data_words: Vec::new(alloc),
             tables: Tables::new(alloc),
-        }
-    }
-
-    /// Its parts.
-    pub fn into_parts(self) -> DraftParts<'a>
-        ensures { self.entry ≡ record {
-          last = self.entry.last;
-          header = result.header;
-          labels = result.labels;
-          references = result.references;
-          code = result.code.items;
-          data_words = result.data_words.items;
-          tables = tables_seen result.tables;
-        } }
-    {
-        let Draft {
-            last: _,
-            header,
-            labels,
-            references,
-            code,
-            data_words,
-            tables,
-        } = self;
-        DraftParts {
-            header,
-            labels,
-            references,
-            code,
-            data_words,
-            tables,
         }
     }
 

@@ -4,8 +4,8 @@ ghost use Rattle.text_scan.specs.Grammar.{Placed};
 ghost use Rattle.readers.specs.Answers.{AnswersAs, AnswersUnlessRefused};
 ghost use Rattle.asm_fields.specs.Fault.{is_refusal};
 ghost use Rattle.asm_fields.specs.Fields.{InText, seen};
-ghost use Rattle.assembler.specs.Draft.{nothing};
-ghost use Rattle.assembler.specs.Whole.{is_newline, line_or_none, lines_of, drafted, draft_of_text};
+ghost use Rattle.assembler.specs.Whole.{is_newline, line_or_none, lines_of, drafted, ended_all};
+ghost use Rattle.assembler.specs.Whole.{draft_of_text};
 ghost use Rattle.assembler.specs.Whole.{MakesLine};
 
 use crate::draft::Draft;
@@ -67,24 +67,23 @@ fn take_lines<'a>(
     take_line(alloc, draft, text, line.as_slice(), text.len() as u32)
 }
 
-// The draft that all lines make, whether or not the text may end after them.
-fn draft_of_lines<'a>(
+// Takes all lines, after which the text must be able to end.
+fn take_text<'a>(
     alloc: Global,
+    draft: &mut Draft<'a>,
     text: &'a [u8],
     tokens: &[Token],
-) -> Result<Draft<'a>, AsmFault>
+) -> Result<(), AsmFault>
     requires slices { InText text.now tokens.now }
     requires short { length text.now < 2 ^ 32 }
-    ensures { AnswersUnlessRefused is_refusal result
-        (drafted nothing (lines_of (map (seen text.now) tokens.now) (length text.now))) }
+    ensures { AnswersAs is_refusal (λ _. draft.new) result (ended_all (length text.now)
+        (drafted draft.old (lines_of (map (seen text.now) tokens.now) (length text.now)))) }
 {
-    let mut draft = Draft::new(alloc);
-    match take_lines(alloc, &mut draft, text, tokens) {
-        Ok(()) => Ok(draft),
-        Err(fault) => {
-            draft.give_up();
-            Err(fault)
-        }
+    take_lines(alloc, draft, text, tokens)?;
+    if draft.may_be_whole() {
+        Ok(())
+    } else {
+        Err(AsmFault::Section(text.len() as u32))
     }
 }
 
@@ -99,11 +98,12 @@ pub fn draft_of<'a>(alloc: Global, text: &'a [u8], tokens: &[Token]) -> Result<D
     requires placed { Placed 0 (length text.now) tokens.now }
     ensures { AnswersUnlessRefused is_refusal result (draft_of_text text.now tokens.now) }
 {
-    let draft = draft_of_lines(alloc, text, tokens)?;
-    if draft.may_be_whole() {
-        Ok(draft)
-    } else {
-        draft.give_up();
-        Err(AsmFault::Section(text.len() as u32))
+    let mut draft = Draft::new(alloc);
+    match take_text(alloc, &mut draft, text, tokens) {
+        Ok(()) => Ok(draft),
+        Err(fault) => {
+            draft.give_up();
+            Err(fault)
+        }
     }
 }

@@ -6,7 +6,7 @@ ghost use Rattle.readers.specs.Answers.{AnswersUnlessRefused};
 ghost use Rattle.asm_fields.specs.Fault.{is_refusal};
 ghost use Rattle.assembler.specs.Assembled.{finished, assembled};
 
-use crate::draft::{Draft, DraftParts};
+use crate::draft::Draft;
 use crate::lines::draft_of;
 use asm_fields::AsmFault;
 use cap_words::Items;
@@ -21,14 +21,15 @@ fn component_of(draft: Draft<'_>) -> Result<ComponentFields, AsmFault>
     requires few { length draft.code ≤ MOST_WORDS }
     ensures { result ≡ finished draft.entry }
 {
-    let DraftParts {
+    let Draft {
+        last: _,
         header,
         labels,
         references,
         mut code,
         data_words,
         tables,
-    } = draft.into_parts();
+    } = draft;
     if let Err(missing) = references.resolve(&labels, &mut code) {
         return Err(AsmFault::LabelMissing(missing.at));
     }
