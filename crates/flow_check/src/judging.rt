@@ -87,7 +87,7 @@ fn int_into(row: Row, r: Reg, may: bool) -> Flow
 }
 
 #[tactic(auto, unfolding(call_sequence::specs::Flow::flow, call_sequence::specs::Flow::ask))]
-fn flow_move(at: u32, row: Row, r1: Reg, r2: Reg) -> Flow
+fn flow_copy(at: u32, row: Row, r1: Reg, r2: Reg) -> Flow
     ensures { result ≡ flow (Instr.Move r1 (Operand.R r2)) at row }
 {
     if is_pc(r1) {
@@ -100,11 +100,11 @@ fn flow_move(at: u32, row: Row, r1: Reg, r2: Reg) -> Flow
 }
 
 #[tactic(auto, unfolding(call_sequence::specs::Flow::flow, call_sequence::specs::Flow::ask))]
-fn flow_set(at: u32, row: Row, r1: Reg, n: Operand) -> Flow
+fn flow_move(at: u32, row: Row, r1: Reg, n: Operand) -> Flow
     ensures { result ≡ flow (Instr.Move r1 n) at row }
 {
     match n {
-        Operand::R(r2) => flow_move(at, row, r1, r2),
+        Operand::R(r2) => flow_copy(at, row, r1, r2),
         Operand::Imm(_) => int_into(row, r1, true),
     }
 }
@@ -260,7 +260,7 @@ pub(crate) fn flow_at(instr: Instr, at: u32, row: Row) -> Flow
         Instr::Lt(r1, r2, n) | Instr::Plus(r1, r2, n) | Instr::Minus(r1, r2, n) => {
             int_into(row, r1, seen(at, &row, r2) && seen_operand(at, &row, n))
         }
-        Instr::Move(r1, n) => flow_set(at, row, r1, n),
+        Instr::Move(r1, n) => flow_move(at, row, r1, n),
         Instr::Store(r1, r2) => flow_store(at, row, r1, r2),
         Instr::Load(r1, r2) => flow_load(at, row, r1, r2),
         Instr::Cca(r1, n) => flow_cca(at, row, r1, n),
