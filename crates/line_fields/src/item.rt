@@ -19,7 +19,7 @@ fn owned(alloc: Global, text: &[u8]) -> Result<Items<u8>, AllocError>
     Ok(Items::of(Vec::from_slice(alloc, text)?))
 }
 
-// A part's name and another.
+// The name of a part and that of an entry of it, in memory of their own.
 fn owned_pair(alloc: Global, part: &[u8], name: &[u8]) -> Result<(Items<u8>, Items<u8>), AllocError>
     ensures { IfOk result (λ p. (p.0 ≡ part.now) × (p.1 ≡ name.now)) }
 {
