@@ -22,7 +22,7 @@ ghost use Rattle.lcm_isa.specs.Texts.{reg_name, mnemonic_of};
 ///
 /// `Pc` is the program counter, `Stk` the stack capability and `Dat` the register `data`. The
 /// names of the others say how the calling convention uses them.
-#[derive(Clone, Copy, PartialEq)]
+#[derive(Clone, Copy)]
 pub enum Reg {
     Pc,
     Rcode,
