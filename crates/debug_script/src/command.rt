@@ -7,7 +7,7 @@ use lcm_isa::Reg;
 use line_fields::{behind, number_in};
 
 /// A command of a script.
-#[derive(Clone, Copy, PartialEq)]
+#[derive(Clone, Copy)]
 pub enum DebugCommand {
     /// `f N`: so many steps forward.
     Forward(u32),

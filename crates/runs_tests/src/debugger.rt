@@ -48,7 +48,7 @@ fn stops_at(rt: &impl Abort, alloc: Global, number: u32, before: &str) -> Result
     let mut out = MemSink::new(alloc)?;
     out.fail_at(number);
     let end = replied(rt, alloc, "halt", "r g0\nc 99\nf 1\n", &mut out)?;
-    Ok(end == Err(DebugFault::WriteFault) && out.bytes() == before.as_bytes())
+    Ok(matches!(end, Err(DebugFault::WriteFault)) && out.bytes() == before.as_bytes())
 }
 
 #[test]
@@ -63,8 +63,8 @@ fn a_write_that_fails_stops_the_script(rt: HostRuntime) -> Result<(), Fail> {
 fn goes_two_steps_back(rt: &impl Abort, alloc: Global) -> Result<(), AllocError> {
     let start = start_of(rt, alloc, "move g1 pc\njmp g1")?;
     let mut debugger = Debugger::make(alloc, start, 2)?;
-    assert_eq!(rt; debugger.forward(), Step::Went);
-    assert_eq!(rt; debugger.go(2), Stop::Spent);
+    assert!(rt; matches!(debugger.forward(), Step::Went));
+    assert!(rt; matches!(debugger.go(2), Stop::Spent));
     assert_eq!(rt; debugger.state().count(), 3);
     assert_eq!(rt;
         (debugger.back(), debugger.back(), debugger.back()),
@@ -74,7 +74,7 @@ fn goes_two_steps_back(rt: &impl Abort, alloc: Global) -> Result<(), AllocError>
         (debugger.state().count(), debugger.state().pc_at()),
         (1, 101)
     );
-    assert_eq!(rt; debugger.go(9), Stop::Spent);
+    assert!(rt; matches!(debugger.go(9), Stop::Spent));
     assert_eq!(rt; (debugger.go_back(9), debugger.go_back(9)), (2, 0));
     assert_eq!(rt; debugger.state().count(), 8);
     debugger.close();
@@ -92,17 +92,15 @@ fn ends_and_goes_back(rt: &impl Abort, alloc: Global) -> Result<(), AllocError> 
     let start = start_of(rt, alloc, "move g1 2\nhalt")?;
     let mut debugger = Debugger::make(alloc, start, 65_536)?;
     assert!(rt; debugger.stop_at(101));
-    assert_eq!(rt; debugger.go(9), Stop::Break);
+    assert!(rt; matches!(debugger.go(9), Stop::Break));
     assert!(rt; debugger.clear(101));
-    assert_eq!(rt; debugger.forward(), Step::Halted);
-    assert_eq!(rt; debugger.forward(), Step::Halted);
-    assert_eq!(rt; debugger.go(0), Stop::Ended(Step::Halted));
+    assert!(rt; matches!(debugger.forward(), Step::Halted));
+    assert!(rt; matches!(debugger.forward(), Step::Halted));
+    assert!(rt; matches!(debugger.go(0), Stop::Ended(Step::Halted)));
     assert!(rt; debugger.back());
-    assert_eq!(rt;
-        (debugger.state().count(), debugger.state().ended()),
-        (1, None)
-    );
-    assert_eq!(rt; debugger.go(0), Stop::Spent);
+    assert_eq!(rt; debugger.state().count(), 1);
+    assert!(rt; debugger.state().ended().is_none());
+    assert!(rt; matches!(debugger.go(0), Stop::Spent));
     assert_eq!(rt; debugger.go_back(5), 1);
     debugger.close();
     Ok(())
@@ -116,18 +114,20 @@ fn an_end_is_gone_back_from(rt: HostRuntime) -> Result<(), Fail> {
 
 #[test]
 fn commands_are_those_of_their_lines(rt: HostRuntime) -> Result<(), Fail> {
-    let wanted = [
-        DebugCommand::Forward(7),
-        DebugCommand::Back(8),
-        DebugCommand::StopAt(9),
-        DebugCommand::Clear(10),
-        DebugCommand::Cell(11),
-        DebugCommand::Register(Reg::G1),
-    ];
     let text = "f 7\nb 8\nstop 9\nclear 10\nc 11\nr g1\n";
     match script_of(rt.alloc(), text.as_bytes()) {
         Ok(script) => {
-            let same = script.commands() == wanted.as_slice();
+            let same = matches!(
+                script.commands(),
+                [
+                    DebugCommand::Forward(7),
+                    DebugCommand::Back(8),
+                    DebugCommand::StopAt(9),
+                    DebugCommand::Clear(10),
+                    DebugCommand::Cell(11),
+                    DebugCommand::Register(Reg::G1),
+                ]
+            );
             assert!(rt; same);
         }
         Err(fault) => panic!(rt; "{fault}"),

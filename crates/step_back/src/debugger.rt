@@ -17,7 +17,7 @@ use std::marker::Model;
 pub const MOST_DEPTH: u32 = 65_536;
 
 /// Why a debugger went no further.
-#[derive(Clone, Copy, Debug, PartialEq, Eq)]
+#[derive(Clone, Copy)]
 pub enum Stop {
     /// pc came to a breakpoint.
     Break,
