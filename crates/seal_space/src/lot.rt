@@ -89,7 +89,7 @@ impl SealToken {
 }
 
 /// The seal of a site, which is a call in trusted code with its return point.
-#[derive(Clone, Copy, Debug, PartialEq, Eq)]
+#[derive(Clone, Copy)]
 pub struct SiteSeal {
     /// The seal.
     pub seal: u32,
