@@ -10,7 +10,7 @@ use std::fmt;
 /// Why a text has no tokens: the first fault from left to right, or that memory was refused. A place
 /// is that of a byte of the text, counted from 0. The place of a line that is too long is that of its
 /// first byte too many; of two faults at one place it is the later one.
-#[derive(Clone, Copy, Debug, PartialEq, Eq)]
+#[derive(Clone, Copy, Debug)]
 pub enum ScanFault {
     /// No token begins with the byte at this place.
     BadByte(u32),

@@ -1,7 +1,7 @@
 //! What a text is made of.
 
 /// What a token is.
-#[derive(Clone, Copy, Default, PartialEq, Eq)]
+#[derive(Clone, Copy, Default, PartialEq)]
 pub enum TokenKind {
     /// A run of `a` to `z`, `0` to `9` and `_` that doesn't begin with a digit.
     Name,
