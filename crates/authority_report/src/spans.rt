@@ -9,7 +9,7 @@ use cap_words::{Items, LAST_PLACE};
 use std::alloc::{AllocError, Global};
 
 // What may be done at a place.
-#[derive(Clone, Copy, PartialEq, Eq)]
+#[derive(Clone, Copy, PartialEq)]
 struct Rights {
     read: bool,
     write: bool,
@@ -18,7 +18,7 @@ struct Rights {
 
 /// A span of places with the same rights, of which there is at least one. `base` and `end` are its first
 /// and its last place.
-#[derive(Clone, Copy, Debug, PartialEq, Eq)]
+#[derive(Clone, Copy)]
 pub struct ReachSpan {
     pub base: u32,
     pub end: u32,

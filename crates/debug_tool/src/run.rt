@@ -15,7 +15,7 @@ use std::alloc::{AllocError, Global};
 use step_back::{Debugger, MOST_DEPTH};
 
 /// Why replies were not all written.
-#[derive(Clone, Copy, PartialEq, Eq)]
+#[derive(Clone, Copy)]
 pub enum DebugFault {
     /// A write failed.
     WriteFault,

@@ -38,7 +38,7 @@ pub enum Place {
 }
 
 /// Why a step failed.
-#[derive(Clone, Copy, PartialEq, Eq, Debug)]
+#[derive(Clone, Copy, PartialEq)]
 pub enum FailCause {
     /// pc isn't a normal memory capability with rx or rwx.
     F1,
@@ -72,7 +72,7 @@ pub enum FailCause {
 
 /// What a step came to. A failure says its cause and pc's address, or -1 where pc holds no memory
 /// capability.
-#[derive(Clone, Copy, PartialEq, Eq, Debug)]
+#[derive(Clone, Copy, PartialEq)]
 pub enum Step {
     Went,
     Halted,

@@ -3,7 +3,7 @@ use cap_words::{Items, SealRange};
 use lcm_machine::Span;
 
 /// A call that a trusted part declares, wherever it leads.
-#[derive(Clone, Copy, Debug, PartialEq, Eq)]
+#[derive(Clone, Copy)]
 pub struct Site {
     /// The part, by its place among the parts.
     pub part: u32,

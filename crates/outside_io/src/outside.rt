@@ -7,7 +7,7 @@ use std::error::Error;
 use std::fmt;
 
 /// A call to the outside failed. The object that was called has counted it.
-#[derive(Debug, Clone, Copy, PartialEq, Eq)]
+#[derive(Debug, Clone, Copy)]
 pub struct Failed;
 
 impl fmt::Display for Failed {

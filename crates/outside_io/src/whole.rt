@@ -14,7 +14,7 @@ use std::fmt;
 const PIECE: usize = 16384;
 
 /// Why a whole file did not come.
-#[derive(Debug, Clone, Copy, PartialEq, Eq)]
+#[derive(Debug, Clone, Copy)]
 pub enum ReadEnd {
     /// A read failed.
     Fault,

@@ -9,7 +9,7 @@ use std::fmt;
 
 /// Why a text is no trace of a run: the number of the first line that spoils it, counted from 1, or that
 /// memory was refused. Of two faults of one line it is the one that stands first here.
-#[derive(Clone, Copy, Debug, PartialEq, Eq)]
+#[derive(Clone, Copy, Debug)]
 pub enum AuditFault {
     /// The line has none of the forms, or stands where none of its form can.
     Form(u64),

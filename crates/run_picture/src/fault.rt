@@ -10,7 +10,7 @@ use std::error::Error;
 use std::fmt;
 
 /// Why a text isn't drawn.
-#[derive(Clone, Copy, Debug, PartialEq, Eq)]
+#[derive(Clone, Copy, Debug)]
 pub enum DrawFault {
     /// It has more than 4,194,304 bytes or 16,384 lines.
     TooLong,

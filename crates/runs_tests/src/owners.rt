@@ -3,7 +3,7 @@
 ghost use Rattle.authority_report.specs.Entered.{IsLinked};
 
 use crate::parts::started;
-use authority_report::{Reach, ReachSpan, report};
+use authority_report::{Reach, report};
 use component_linker::{Owner, Start};
 use lcm_isa::Reg;
 use std::alloc::{AllocError, Global};
@@ -107,21 +107,11 @@ fn start_is(rt: &impl Abort, start: &Start) {
 
 // The code is the first of three spans, beside the data and the stack; and the seal in the literal.
 fn reach_is(rt: &impl Abort, reach: &Reach) {
-    let is_code_first = matches!(
-        reach.spans.as_slice(),
-        [
-            ReachSpan {
-                base: 4096,
-                end: 4147,
-                read: true,
-                write: false,
-                run: true,
-            },
-            _,
-            _,
-        ]
-    );
-    assert!(rt; is_code_first);
+    let [code, _, _] = reach.spans.as_slice() else {
+        panic!(rt; "not three spans");
+    };
+    assert_eq!(rt; (code.base, code.end), (4096, 4147));
+    assert!(rt; code.read && !code.write && code.run);
     assert_eq!(rt; reach.seals.as_slice().len(), 1);
     for range in reach.seals.as_slice() {
         assert_eq!(rt; (range.base(), range.count()), (11, 1));

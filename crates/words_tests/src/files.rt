@@ -45,7 +45,7 @@ fn second_call_fails(rt: &impl Abort, files: &mut MemFiles) -> Result<(), AllocE
         files.put("b", b"y"),
         files.put("b", b"y"),
     );
-    assert_eq!(rt; calls, (Ok(1), Err(Failed), Ok(())));
+    assert!(rt; matches!(calls, (Ok(1), Err(Failed), Ok(()))));
     let counts = files.counts();
     assert_eq!(rt;
         (counts.reads(), counts.puts(), counts.failed_puts()),
@@ -64,7 +64,7 @@ fn the_set_call_fails_once(rt: HostRuntime) -> Result<(), Fail> {
 fn second_write_fails(rt: &impl Abort, sink: &mut MemSink) {
     sink.fail_at(2);
     let writes = (sink.write(b"ab"), sink.write(b"z"), sink.write(b"c"));
-    assert_eq!(rt; writes, (Ok(()), Err(Failed), Ok(())));
+    assert!(rt; matches!(writes, (Ok(()), Err(Failed), Ok(()))));
     assert_eq!(rt; sink.bytes(), b"abc".as_slice());
     assert_eq!(rt; (sink.writes(), sink.faults()), (3, 1));
 }
@@ -100,12 +100,14 @@ fn length_reserved(rt: &impl Abort, alloc: Global) -> Result<usize, Fail> {
 #[test]
 fn a_whole_file_is_read_up_to_the_limit(rt: HostRuntime) -> Result<(), Fail> {
     let alloc = rt.alloc();
-    assert_eq!(rt; length_read(alloc, 0, 0)?, (Ok(0), 1));
-    assert_eq!(rt; length_read(alloc, 1, 0)?, (Err(ReadEnd::TooLong), 1));
-    assert_eq!(rt; length_read(alloc, 40_000, 40_000)?, (Ok(40_000), 4));
-    assert_eq!(rt;
-        length_read(alloc, 40_000, 39_999)?,
-        (Err(ReadEnd::TooLong), 3)
+    assert!(rt; matches!(length_read(alloc, 0, 0)?, (Ok(0), 1)));
+    assert!(rt; matches!(length_read(alloc, 1, 0)?, (Err(ReadEnd::TooLong), 1)));
+    assert!(rt; matches!(length_read(alloc, 40_000, 40_000)?, (Ok(40_000), 4)));
+    assert!(rt;
+        matches!(
+            length_read(alloc, 40_000, 39_999)?,
+            (Err(ReadEnd::TooLong), 3)
+        )
     );
     assert_eq!(rt; length_reserved(&rt, alloc)?, 5);
     Ok(())
@@ -172,7 +174,7 @@ fn tells_what_is_gone<R: Abort + rt::Files>(
     requires { IsFileName path.now }
 {
     let end = read_whole(alloc, files, path, 5).err();
-    assert_eq!(rt; end, Some(ReadEnd::Fault));
+    assert!(rt; matches!(end, Some(ReadEnd::Fault)));
     assert_eq!(rt; files.counts().last_failed_read(), path);
     assert_eq!(rt; files.counts().reads(), 4);
 }
@@ -242,7 +244,7 @@ fn takes_what_fits(
     holds(rt, paper, "abcde")?;
     sink.write(b"f")?;
     holds(rt, paper, "abcdef")?;
-    assert_eq!(rt; sink.write(b"ghi"), Err(Failed));
+    assert!(rt; matches!(sink.write(b"ghi"), Err(Failed)));
     assert_eq!(rt; (sink.writes(), sink.faults()), (3, 1));
     holds(rt, paper, "abcdefgh")
 }
@@ -267,7 +269,7 @@ fn a_line_goes_to_the_standard_output(rt: HostRuntime) -> Result<(), Fail> {
 fn a_reserved_sink_takes_what_fits(rt: HostRuntime) -> Result<(), Fail> {
     let mut sink = SafeSink::<4>::reserve(rt.alloc())?;
     let writes = (sink.write(b"abc"), sink.write(b"de"));
-    assert_eq!(rt; writes, (Ok(()), Err(Failed)));
+    assert!(rt; matches!(writes, (Ok(()), Err(Failed))));
     assert_eq!(rt; sink.bytes(), b"abcd".as_slice());
     Ok(())
 }
