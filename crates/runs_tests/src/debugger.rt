@@ -112,24 +112,23 @@ fn an_end_is_gone_back_from(rt: HostRuntime) -> Result<(), Fail> {
     Ok(())
 }
 
+fn are_as_written(rt: &impl Abort, commands: &[DebugCommand]) {
+    let [forward, back, stop, clear, cell, register] = commands else {
+        panic!(rt; "not six commands");
+    };
+    assert!(rt; matches!(forward, DebugCommand::Forward(7)));
+    assert!(rt; matches!(back, DebugCommand::Back(8)));
+    assert!(rt; matches!(stop, DebugCommand::StopAt(9)));
+    assert!(rt; matches!(clear, DebugCommand::Clear(10)));
+    assert!(rt; matches!(cell, DebugCommand::Cell(11)));
+    assert!(rt; matches!(register, DebugCommand::Register(Reg::G1)));
+}
+
 #[test]
 fn commands_are_those_of_their_lines(rt: HostRuntime) -> Result<(), Fail> {
     let text = "f 7\nb 8\nstop 9\nclear 10\nc 11\nr g1\n";
     match script_of(rt.alloc(), text.as_bytes()) {
-        Ok(script) => {
-            let same = matches!(
-                script.commands(),
-                [
-                    DebugCommand::Forward(7),
-                    DebugCommand::Back(8),
-                    DebugCommand::StopAt(9),
-                    DebugCommand::Clear(10),
-                    DebugCommand::Cell(11),
-                    DebugCommand::Register(Reg::G1),
-                ]
-            );
-            assert!(rt; same);
-        }
+        Ok(script) => are_as_written(&rt, script.commands()),
         Err(fault) => panic!(rt; "{fault}"),
     }
     Ok(())
