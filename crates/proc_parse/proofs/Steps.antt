@@ -18,16 +18,16 @@ use Rattle.proc_grammar.specs.Lexemes.{Meaning, adding, sign, square, round, end
 use Rattle.proc_grammar.specs.Lexemes.{curly, end_curly}
 use Rattle.proc_grammar.specs.Lexemes.{Lexeme, word, token_word, words_of}
 use Rattle.proc_grammar.specs.Makes.{Actions}
-use Rattle.proc_grammar.specs.Grammar.{one_more, operated, sum_of, room_in_body}
+use Rattle.proc_grammar.specs.Grammar.{one_more, operated, sum_of}
 use Rattle.proc_grammar.specs.Reader.{Input, Reader, tells, many, one, expected, case_token}
 use Rattle.proc_grammar.specs.Reading.{full, another_term, next_term, inner_expr, next_expr, expr_with}
 use Rattle.proc_grammar.specs.Reading.{next_index, next_args, behind_name, of_index, of_call, next_stmts}
 use Rattle.proc_grammar.specs.Reading.{next_block, next_sum, next_name, name_term, some_args, arg_value}
-use Rattle.proc_grammar.specs.Reading.{stmts_with, inner_stmts, next_proc, next_module, next_header}
-use Rattle.proc_grammar.specs.Reading.{next_import, next_global}
+use Rattle.proc_grammar.specs.Reading.{stmts_with, inner_stmts}
 use Rattle.proc_parse.specs.Answers.{GivesAs, Gives, left_by}
 use Rattle.proc_parse.specs.Loops.{with_front, in_all, item_on, behind_some, listed}
-use Rattle.proc_parse.specs.Loops.{terms_behind, bracketed, fitting_name, procs_list, fields_read}
+use Rattle.proc_parse.specs.Loops.{terms_behind, bracketed}
+use Rattle.proc_parse.specs.Parts.{fitting_name}
 
 pub large : 600 ≤ full
 unfolding full
@@ -44,6 +44,33 @@ fails_map (Expected at) read all h e = h e
 fails_map (Range at) read all h e = h e
 fails_map (TooMany at) read all h e = h e
 fails_map NoMemory read all h e = tt
+
+-- ---- one reader after another
+
+-- the first was read
+pub read_on : {A B : Type 0} {q : Result (A × Input) ParseFault} (f : A → Reader B)
+    {all : Result (B × Input) ParseFault} {x : A} {j : Input} → all ≡ goes_on q f → q ≡ Ok (x, j) → all ≡ f x j
+read_on f first reads = first ∙ ap (λ p. goes_on p f) reads
+
+-- it wasn't
+pub fails_on : {A B : Type 0} (q : Result (A × Input) ParseFault) (f : A → Reader B)
+    {all : Result (B × Input) ParseFault} (e : ParseFault) → all ≡ goes_on q f → Fails e q → Fails e all
+fails_on q f {all} e first fails = fails_map e q all (λ h. first ∙ ap (λ p. goes_on p f) h) fails
+
+-- one reader in a part, and then what the rest of the part and of the whole is
+pub within : {A B C : Type 0} (q : Result (A × Input) ParseFault) (f : A → Reader B) (g : B → Reader C)
+    {h : A → Reader C} → ((x : A) (i : Input) → goes_on (f x i) g ≡ h x i) → goes_on (goes_on q f) g ≡
+    goes_on q h
+within (Ok x) f g e = e x.0 x.1
+within (Err d) f g e = refl
+
+-- a part by itself is tested as it is before what follows
+pub fit_by : {A B : Type 0} (q : Result (A × Input) ParseFault) (fits : Bool) (fault : A → ParseFault)
+    (f : A → Reader B) → goes_on q (λ x. holds fits (fault x) >>= λ u. f x)
+    ≡ goes_on (goes_on q (λ x. holds fits (fault x) >>= λ u. done x)) f
+fit_by (Ok x) true fault f = refl
+fit_by (Ok x) false fault f = refl
+fit_by (Err d) fits fault f = refl
 
 -- ---- words that stand only where there are tokens
 
@@ -102,12 +129,40 @@ module _ {A B : Type 0} (m : Meaning A) (f : A → Reader B) (r : Reader B) (i k
   unfolding case_next
   case_none none same = ap (λ q. going q f r i) none ∙ ap r (sym same)
 
+-- how it goes on after a token that was taken, whatever it is, and where it wasn't
+module _ {A B : Type 0} (m : Meaning A) (f r : Reader B) (i k : Input) where
+  pub case_taken : (o : Option A) → o ≡ next_means m i → is_some o ≡ true → k ≡ left_by o i
+      → case_next m (λ x. f) r i ≡ f k
+  case_taken None means is left = absurd cc
+  case_taken (Some x) means is left = case_there m (λ y. f) r i k x (sym means) left
+
+  pub case_left : (o : Option A) → o ≡ next_means m i → is_some o ≡ false → k ≡ left_by o i
+      → case_next m (λ x. f) r i ≡ r k
+  case_left None means is left = case_none m (λ y. f) r i k (sym means) left
+  case_left (Some x) means is left = absurd cc
+
 -- what was made, unless memory was refused
 pub unless_refused : {A : Type 0} (made : Result A ParseFault) (x : A) (left : Input)
     (read : Result (A × Input) ParseFault) → IfOk made (λ y. y ≡ x) → IfErr made (λ e. e ≡ NoMemory)
     → read ≡ Ok (x, left) → Gives made left read
 unless_refused (Ok y) x left read is fails reads = reads ∙ ap (λ z. Ok (z, left)) (sym is)
 unless_refused (Err e) x left read is fails reads = subst (λ f. Fails f read) (sym fails) tt
+
+-- what goes on after a token, where it was taken, and where it wasn't
+module _ {A B : Type 0} (m : Meaning A) (i k : Input) where
+  pub was_taken : (o : Option A) → o ≡ next_means m i → is_some o ≡ true → k ≡ left_by o i
+      → (is_there (next_means m i) ≡ true) × ((g : Reader B) → (one m >>= λ z. g) i ≡ g k)
+  unfolding readers.one case_next
+  was_taken None means is left = absurd cc
+  was_taken (Some x) means is left = (
+    ap is_there (sym means),
+    λ g. ap (λ q. goes_on (going q done expected i) (λ z. g)) (sym means) ∙ ap g (sym left),
+  )
+
+pub was_left : {A : Type 0} (m : Meaning A) (i k : Input) (o : Option A) → o ≡ next_means m i
+    → is_some o ≡ false → k ≡ left_by o i → (is_there (next_means m i) ≡ false) × (k ≡ i)
+was_left m i k None means is left = (ap is_there (sym means), left)
+was_left m i k (Some x) means is left = absurd cc
 
 -- ---- lists
 
@@ -275,37 +330,32 @@ module _ {Q A B : Type 0} (begins : Meaning B) (next : Q → A → Q) (r : Q →
         i)
         (λ e. listed_is q i ∙ ap (λ p. goes_on p close) e) fails
 
-    pub listed_open : (q : Q) (i j k : Input) (v : List A) (f : ParseFault)
-        → item_on begins next r item full q i ≡ Ok (v, j) → k ≡ j → Fails f (one (sign end_round) k)
-        → Fails f (listed begins next r item q i)
-    unfolding close
-    listed_open q i j k v f reads same fails =
-        fails_map f (one (sign end_round) k) (listed begins next r item q i) (λ e. listed_is q i
-        ∙ ap (λ p. goes_on p close) reads
-        ∙ ap (λ p. goes_on p (λ z. done v)) (ap (one (sign end_round)) (sym same) ∙ e)) fails
+    -- the last item of a loop was read, and no other stands next
+    module _ (q0 : Q) (i0 : Input) (front : List A) (q : Q) (i : Input) (x : A) (j k : Input) (o : Option B)
+        (v : List A) (told : behind_some begins next r item front q i ≡ item_on begins next r item full
+        q0 i0)
+        (reads : item q i ≡ Ok (x, j)) (means : o ≡ next_means begins j) (none : is_some o ≡ false)
+        (left : k ≡ left_by o j) (whole : v ≡ front ++ x ∷ []) where
+      ended : (item_on begins next r item full q0 i0 ≡ Ok (v, j)) × (k ≡ j)
+      ended =
+          let stays = was_left begins j k o means none left in (
+            some_end front q i x j (item_on begins next r item full q0 i0) v told reads stays.0 whole,
+            stays.1,
+          )
 
-    pub listed_shut : (q : Q) (i j k l : Input) (v : List A) (u : ℕ)
-        → item_on begins next r item full q i ≡ Ok (v, j) → k ≡ j → one (sign end_round) k ≡ Ok (u, l)
-        → listed begins next r item q i ≡ Ok (v, l)
-    unfolding close
-    listed_shut q i j k l v u reads same closes = listed_is q i ∙ ap (λ p. goes_on p close) reads
-        ∙ ap (λ p. goes_on p (λ z. done v)) (ap (one (sign end_round)) (sym same) ∙ closes)
+      pub listed_open : (f : ParseFault) → Fails f (one (sign end_round) k)
+          → Fails f (listed begins next r item q0 i0)
+      unfolding close
+      listed_open f fails =
+          fails_map f (one (sign end_round) k) (listed begins next r item q0 i0) (λ e. listed_is q0 i0
+          ∙ ap (λ p. goes_on p close) ended.0
+          ∙ ap (λ p. goes_on p (λ z. done v)) (ap (one (sign end_round)) (sym ended.1) ∙ e)) fails
 
--- what goes on after a token, where it was taken, and where it wasn't
-module _ {A B : Type 0} (m : Meaning A) (i k : Input) where
-  pub was_taken : (o : Option A) → o ≡ next_means m i → is_some o ≡ true → k ≡ left_by o i
-      → (is_there (next_means m i) ≡ true) × ((g : Reader B) → (one m >>= λ z. g) i ≡ g k)
-  unfolding readers.one case_next
-  was_taken None means is left = absurd cc
-  was_taken (Some x) means is left = (
-    ap is_there (sym means),
-    λ g. ap (λ q. goes_on (going q done expected i) (λ z. g)) (sym means) ∙ ap g (sym left),
-  )
-
-pub was_left : {A : Type 0} (m : Meaning A) (i k : Input) (o : Option A) → o ≡ next_means m i
-    → is_some o ≡ false → k ≡ left_by o i → (is_there (next_means m i) ≡ false) × (k ≡ i)
-was_left m i k None means is left = (ap is_there (sym means), left)
-was_left m i k (Some x) means is left = absurd cc
+      pub listed_shut : (l : Input) (u : ℕ) → one (sign end_round) k ≡ Ok (u, l)
+          → listed begins next r item q0 i0 ≡ Ok (v, l)
+      unfolding close
+      listed_shut l u closes = listed_is q0 i0 ∙ ap (λ p. goes_on p close) ended.0
+          ∙ ap (λ p. goes_on p (λ z. done v)) (ap (one (sign end_round)) (sym ended.1) ∙ closes)
 
 -- a bracket may be opened
 opens : (room : ℕ) → 0 < room → nat_lt 0 room ≡ true
@@ -510,43 +560,19 @@ module _ {E A S P V R M : Type 0} (T : Actions E A S P V R M) where
 
   -- ---- after a name
 
-  fitted_by : (fits : Bool) (q : Result (Name × Input) ParseFault) (f : Name → Reader E) (x : Name) (j :
-      Input)
-      → goes_on q (λ y. holds fits (TooMany y.at) >>= λ u. done y) ≡ Ok (x, j)
-      → goes_on q (λ y. holds fits (TooMany y.at) >>= λ u. f y) ≡ f x j
-  fitted_by true (Ok y) f x j e =
-      let both : (y.0, y.1) ≡ (x, j) = cc in
-      ap (λ (p : Name × Input). f p.0 p.1) both
-  fitted_by false (Ok y) f x j e = absurd cc
-  fitted_by true (Err d) f x j e = absurd cc
-  fitted_by false (Err d) f x j e = absurd cc
-
-  unfit_by : (fits : Bool) (q : Result (Name × Input) ParseFault) (f : Name → Reader E) (d : ParseFault)
-      → Fails d (goes_on q (λ y. holds fits (TooMany y.at) >>= λ u. done y))
-      → Fails d (goes_on q (λ y. holds fits (TooMany y.at) >>= λ u. f y))
-  unfit_by true (Ok y) f d h = fails_map d (let r : Result (Name × Input) ParseFault = Ok (y.0, y.1) in r)
-      (f y.0 y.1) (λ k. absurd cc) h
-  unfit_by false (Ok y) f d h =
-      fails_map d (let r : Result (Name × Input) ParseFault = Err (TooMany y.0.at) in r)
-      (let r : Result (E × Input) ParseFault = Err (TooMany y.0.at) in r) (λ k. cc) h
-  unfit_by true (Err g) f d h = fails_map d (let r : Result (Name × Input) ParseFault = Err g in r)
-      (let r : Result (E × Input) ParseFault = Err g in r) (λ k. cc) h
-  unfit_by false (Err g) f d h = fails_map d (let r : Result (Name × Input) ParseFault = Err g in r)
-      (let r : Result (E × Input) ParseFault = Err g in r) (λ k. cc) h
-
   module _ (room : ℕ) where
     pub unfit : (fits : Bool) (i : Input) (d : ParseFault) → Fails d (fitting_name T fits i)
         → Fails d (name_term T true full room (inner_expr T true full room) fits i)
     unfolding fitting_name name_term
-    unfit fits i d h = unfit_by fits (next_name (words_of T.tokens) true i)
-        (behind_name T true full room (inner_expr T true full room)) d h
+    unfit fits i d h = fails_on _ _ _ (fit_by (next_name (words_of T.tokens) true i) fits (λ x. TooMany x.at)
+        (behind_name T true full room (inner_expr T true full room))) h
 
     module _ (fits : Bool) (x : Name) (h i : Input) (named : fitting_name T fits h ≡ Ok (x, i)) where
       fitted : name_term T true full room (inner_expr T true full room) fits h
           ≡ behind_name T true full room (inner_expr T true full room) x i
       unfolding fitting_name name_term
-      fitted = fitted_by fits (next_name (words_of T.tokens) true h)
-          (behind_name T true full room (inner_expr T true full room)) x i named
+      fitted = read_on _ (fit_by (next_name (words_of T.tokens) true h) fits (λ y. TooMany y.at)
+          (behind_name T true full room (inner_expr T true full room))) named
 
       module _ (k : Input) (at : ℕ) (there : next_means (sign square) i ≡ Some at) (left : k ≡ behind i) where
         at_index : name_term T true full room (inner_expr T true full room) fits h
@@ -641,37 +667,3 @@ module _ {E A S P V R M : Type 0} (T : Actions E A S P V R M) where
     value_bad f fails = fails_map f (expr_with T true full (room - 1)
         (inner_expr T true full (room - 1)) (nat_lt used MOST_REGISTERS) i) _
         (λ h. value_is ∙ ap (λ q. goes_on q (λ y. done (T.value y))) h) fails
-
-  -- ---- modules
-
-  goes_on_same : {X Y : Type 0} (q : Result (X × Input) ParseFault) (f g : X → Reader Y)
-      → ((a : X) (j : Input) → f a j ≡ g a j) → goes_on q f ≡ goes_on q g
-  goes_on_same (Ok x) f g h = h x.0 x.1
-  goes_on_same (Err e) f g h = refl
-
-  front_same : {X Y : Type 0} (x : X) (read : Result (List X × Input) ParseFault) (g : List X → Y)
-      → goes_on read (λ xs. done (g (x ∷ xs))) ≡ goes_on (goes_on read (λ xs. done (x ∷ xs))) (λ v. done (g
-      v))
-  front_same x (Ok y) g = refl
-  front_same x (Err e) g = refl
-
-  procs_same : {Y : Type 0} (q : Result (R × Input) ParseFault) (g : List R → Y)
-      → let next = next_proc T true full room_in_body in
-      goes_on q (λ first. many full a_proc one_more next 1 >>= λ procs. done (g (first ∷ procs)))
-      ≡ goes_on (goes_on q (λ first. many full a_proc one_more next 1 >>= λ procs. done (first ∷ procs)))
-      (λ v. done (g v))
-  procs_same (Ok x) g =
-      front_same x.0 (many full a_proc one_more (next_proc T true full room_in_body) 1 x.1) g
-  procs_same (Err e) g = refl
-
-  pub module_is : (i : Input) → next_module T true full room_in_body i ≡ fields_read T i
-  unfolding next_module fields_read procs_list item_on
-  module_is i =
-      let more_imports = many full (word (codes "import")) one_more (next_import
-      (words_of T.tokens) true) 0 in
-      let more_globals = many full (word (codes "global")) one_more (next_global
-      (words_of T.tokens) true) 0 in
-      goes_on_same (next_header (words_of T.tokens) true i) _ _ (λ h i1.
-      goes_on_same (more_imports i1) _ _ (λ imports i2.
-      goes_on_same (more_globals i2) _ _ (λ globals i3.
-      procs_same (next_proc T true full room_in_body 0 i3) (T.module_of h imports globals))))

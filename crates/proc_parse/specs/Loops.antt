@@ -58,22 +58,6 @@ module _ {E A S P V R M : Type 0} (T : Actions E A S P V R M) where
     _ ← one (sign end)
     done e
 
-  -- a name, where it fits
-  unfoldable pub fitting_name : Bool → Reader Name
-  fitting_name fits = do
-    x ← next_name (words_of T.tokens) true
-    _ ← holds fits (TooMany x.at)
-    done x
-
   unfoldable pub procs_list : Reader (List R)
   procs_list =
       item_on a_proc one_more (next_proc T true full room_in_body) (next_proc T true full room_in_body) full 0
-
-  -- a module, its procedures read as one list
-  unfoldable pub fields_read : Reader M
-  fields_read = do
-    header ← next_header (words_of T.tokens) true
-    imports ← many full (word (codes "import")) one_more (next_import (words_of T.tokens) true) 0
-    globals ← many full (word (codes "global")) one_more (next_global (words_of T.tokens) true) 0
-    procs ← procs_list
-    done (T.module_of header imports globals procs)

@@ -1,7 +1,8 @@
 //! What is left of the tokens.
 ghost use Rattle.std.specs.Prelude.{◌≡◌, ◌==◌, ◌<◌, ◌≤◌, nat_le, true, map, length, option_map, IfOk};
-ghost use Rattle.std.specs.Prelude.{Some, IfSome, is_some};
+ghost use Rattle.std.specs.Prelude.{Some, IfSome, is_some, OnOk};
 ghost use Rattle.proc_parse.specs.Answers.{InText, GivesAs, Gives, left_by, text_at};
+ghost use Rattle.proc_parse.specs.Parts.{fitting_word, fitting_name};
 ghost use Rattle.phrases.specs.Reading.{next_means, behind, is_there};
 ghost use Rattle.proc_grammar.specs.Lexemes.{seen, word, a_name, a_number, sign, adding, comparing};
 ghost use Rattle.proc_grammar.specs.Lexemes.{a_start, start_in, a_proc, a_local, words_of, token_word};
@@ -215,6 +216,19 @@ impl<'a, 'b> TokenCursor<'a, 'b> {
         taken.ok_or(ParseFault::Expected(self.place()))
     }
 
+    /// The word, which unless it `fits` is one too many, and its place.
+    #[tactic(auto, unfolding(crate::specs::Parts::fitting_word))]
+    pub fn fitting_word(&mut self, wanted: &[u8], fits: bool) -> Result<u32, ParseFault>
+        ensures exact { Gives result self.new (fitting_word wanted.now fits self.old) }
+        ensures within { OnOk result (fits ≡ true) }
+    {
+        let at = self.word(wanted)?;
+        if !fits {
+            return Err(ParseFault::TooMany(at));
+        }
+        Ok(at)
+    }
+
     // The name that stands next, and its place.
     #[tactic(auto, unfolding(proc_grammar::specs::Lexemes::a_name))]
     fn at_name<L: Language>(&self) -> Option<(&'a [u8], u32)>
@@ -258,6 +272,23 @@ impl<'a, 'b> TokenCursor<'a, 'b> {
         }
         let text = Items::of(Vec::from_slice(alloc, text)?);
         Ok(Name { text, at })
+    }
+
+    /// A name, which unless it `fits` is one too many.
+    #[tactic(auto, unfolding(crate::specs::Parts::fitting_name))]
+    pub fn fitting_name<L: Language>(
+        &mut self,
+        alloc: Global,
+        fits: bool,
+    ) -> Result<Name, ParseFault>
+        ensures exact { Gives result self.new (fitting_name L.made fits self.old) }
+        ensures within { OnOk result (fits ≡ true) }
+    {
+        let name = self.name::<L>(alloc)?;
+        if !fits {
+            return Err(ParseFault::TooMany(name.at));
+        }
+        Ok(name)
     }
 
     // Whether `+` or `-` stands next.

@@ -7,7 +7,7 @@ ghost use Rattle.proc_language.specs.declared.TheConstants.{MOST_REGISTERS};
 ghost use Rattle.proc_grammar.specs.Grammar.{operated};
 ghost use Rattle.proc_grammar.specs.Reading.{full, next_expr, inner_expr, next_sum, next_term};
 ghost use Rattle.proc_grammar.specs.Reading.{next_args, next_arg, token_arg, expr_with, name_term};
-ghost use Rattle.proc_parse.specs.Loops.{bracketed, fitting_name};
+ghost use Rattle.proc_parse.specs.Loops.{bracketed};
 ghost use Rattle.proc_grammar.specs.Reading.{number_term, arg_proc};
 ghost use Rattle.proc_grammar.specs.Reader.{Input};
 
@@ -157,23 +157,6 @@ pub(crate) fn bracketed<L: Language>(
     Ok(e)
 }
 
-// A name, which unless it `fits` is one too many.
-#[tactic(auto, unfolding(crate::specs::Loops::fitting_name))]
-fn fitting_name<L: Language>(
-    alloc: Global,
-    tokens: &mut TokenCursor<'_, '_>,
-    fits: bool,
-) -> Result<Name, ParseFault>
-    ensures exact { Gives result tokens.new (fitting_name L.made fits tokens.old) }
-    ensures within { OnOk result (fits ≡ true) }
-{
-    let name = tokens.name::<L>(alloc)?;
-    if !fits {
-        return Err(ParseFault::TooMany(name.at));
-    }
-    Ok(name)
-}
-
 // A variable, an element or a call.
 #[cycle(expr)]
 #[tactic(auto, unfolding(proc_grammar::specs::Reading::name_term))]
@@ -187,7 +170,7 @@ fn name_term<L: Language>(
         (name_term L.made true full room (inner_expr L.made true full room) fits tokens.old) }
     ensures within { OnOk result (fits ≡ true) }
 {
-    let name = fitting_name::<L>(alloc, tokens, fits)?;
+    let name = tokens.fitting_name::<L>(alloc, fits)?;
     if let Some(at) = tokens.take_sign(b'[') {
         let index = bracketed::<L>(alloc, tokens, room, true, at, b']')?;
         return element::<L>(alloc, name, index);

@@ -1,6 +1,7 @@
 //! Imports, globals and the header.
 ghost use Rattle.std.specs.Prelude.{◌≡◌, true, nat_le, ◌<◌, ◌≤◌, codes, IfOk, OnOk, Ok};
 ghost use Rattle.proc_parse.specs.Answers.{GivesAs, Gives};
+ghost use Rattle.proc_parse.specs.Parts.{imported, global_form, header_numbers};
 ghost use Rattle.proc_language.specs.declared.TheConstants.{MOST_ITEMS};
 ghost use Rattle.proc_grammar.specs.Grammar.{is_initial, is_length, is_return_count, signed, one_more};
 ghost use Rattle.proc_grammar.specs.Lexemes.{word, words_of};
@@ -12,7 +13,7 @@ ghost use Rattle.proc_grammar.specs.Reading.{next_import, next_global, next_head
 use crate::cursor::TokenCursor;
 use cap_words::LAST_PLACE;
 use proc_grammar::{Language, ModuleHeader, ParseFault};
-use proc_language::{Global, Import, LONGEST_ARRAY, MOST_ITEMS, MOST_REGISTERS, MOST_SEALS};
+use proc_language::{Global, Import, LONGEST_ARRAY, MOST_ITEMS, MOST_REGISTERS, MOST_SEALS, Name};
 use std::alloc::Global as Heap;
 
 // 2^63, the first number above those of 64 bits with a sign.
@@ -52,8 +53,28 @@ pub fn globals<L: Language>(
     Ok(globals)
 }
 
+// What an import calls.
+struct ImportTarget {
+    name: Name,
+    arity: u32,
+}
+
+// What stands behind the dot of an import.
+#[tactic(auto, unfolding(crate::specs::Parts::imported))]
+fn imported<L: Language>(
+    alloc: Heap,
+    tokens: &mut TokenCursor<'_, '_>,
+) -> Result<ImportTarget, ParseFault>
+    ensures { Gives result tokens.new (imported (words_of L.made.tokens) tokens.old) }
+{
+    let name = tokens.name::<L>(alloc)?;
+    tokens.sign(b'/')?;
+    let arity = tokens.up_to(MOST_REGISTERS)?;
+    tokens.sign(b';')?;
+    Ok(ImportTarget { name, arity })
+}
+
 /// The import after so many.
-#[tactic(auto, unfolding(proc_grammar::specs::Reading::next_import))]
 pub fn import<L: Language>(
     alloc: Heap,
     tokens: &mut TokenCursor<'_, '_>,
@@ -62,16 +83,10 @@ pub fn import<L: Language>(
     ensures exact { Gives result tokens.new (next_import (words_of L.made.tokens) true count tokens.old) }
     ensures few { OnOk result (count < MOST_ITEMS) }
 {
-    let at = tokens.word(b"import")?;
-    if count >= MOST_ITEMS {
-        return Err(ParseFault::TooMany(at));
-    }
+    let at = tokens.fitting_word(b"import", count < MOST_ITEMS)?;
     let part = tokens.name::<L>(alloc)?;
     tokens.sign(b'.')?;
-    let name = tokens.name::<L>(alloc)?;
-    tokens.sign(b'/')?;
-    let arity = tokens.up_to(MOST_REGISTERS)?;
-    tokens.sign(b';')?;
+    let ImportTarget { name, arity } = imported::<L>(alloc, tokens)?;
     Ok(Import {
         at,
         part,
@@ -166,8 +181,18 @@ fn initial(tokens: &mut TokenCursor<'_, '_>) -> Result<Option<i64>, ParseFault>
     Ok(Some(signed(negative, number)))
 }
 
+// What stands behind the name of a global: its length and its first value, where they are told.
+#[tactic(auto, unfolding(crate::specs::Parts::global_form))]
+fn global_form(tokens: &mut TokenCursor<'_, '_>) -> Result<(Option<u32>, Option<i64>), ParseFault>
+    ensures { Gives result tokens.new (global_form tokens.old) }
+{
+    let length = length(tokens)?;
+    let initial = initial(tokens)?;
+    tokens.sign(b';')?;
+    Ok((length, initial))
+}
+
 /// The global after so many.
-#[tactic(auto, unfolding(proc_grammar::specs::Reading::next_global))]
 fn global<L: Language>(
     alloc: Heap,
     tokens: &mut TokenCursor<'_, '_>,
@@ -176,14 +201,9 @@ fn global<L: Language>(
     ensures exact { Gives result tokens.new (next_global (words_of L.made.tokens) true count tokens.old) }
     ensures few { OnOk result (count < MOST_ITEMS) }
 {
-    let at = tokens.word(b"global")?;
-    if count >= MOST_ITEMS {
-        return Err(ParseFault::TooMany(at));
-    }
+    let at = tokens.fitting_word(b"global", count < MOST_ITEMS)?;
     let name = tokens.name::<L>(alloc)?;
-    let length = length(tokens)?;
-    let initial = initial(tokens)?;
-    tokens.sign(b';')?;
+    let (length, initial) = global_form(tokens)?;
     Ok(Global {
         at,
         name,
@@ -221,16 +241,21 @@ fn movable(tokens: &mut TokenCursor<'_, '_>) -> bool
     tokens.take_word(b"movable").is_some()
 }
 
-/// What stands before the items.
-#[tactic(auto, unfolding(proc_grammar::specs::Reading::next_header))]
-pub fn header<L: Language>(
-    alloc: Heap,
-    tokens: &mut TokenCursor<'_, '_>,
-) -> Result<ModuleHeader, ParseFault>
-    ensures { Gives result tokens.new (next_header (words_of L.made.tokens) true tokens.old) }
+// What stands behind the name of a header.
+struct HeaderNumbers {
+    code: u32,
+    data_base: u32,
+    closure: u32,
+    returns: u32,
+    return_count: u32,
+    stack: u32,
+    movable: bool,
+}
+
+#[tactic(auto, unfolding(crate::specs::Parts::header_numbers))]
+fn header_numbers(tokens: &mut TokenCursor<'_, '_>) -> Result<HeaderNumbers, ParseFault>
+    ensures { Gives result tokens.new (header_numbers tokens.old) }
 {
-    let at = tokens.word(b"module")?;
-    let name = tokens.name::<L>(alloc)?;
     let code = field(tokens, b"code")?;
     let data_base = field(tokens, b"data")?;
     let closure = field(tokens, b"closure")?;
@@ -239,6 +264,36 @@ pub fn header<L: Language>(
     let stack = field(tokens, b"stack")?;
     let movable = movable(tokens);
     tokens.sign(b';')?;
+    Ok(HeaderNumbers {
+        code,
+        data_base,
+        closure,
+        returns,
+        return_count,
+        stack,
+        movable,
+    })
+}
+
+/// What stands before the items.
+pub fn header<L: Language>(
+    alloc: Heap,
+    tokens: &mut TokenCursor<'_, '_>,
+) -> Result<ModuleHeader, ParseFault>
+    ensures { Gives result tokens.new (next_header (words_of L.made.tokens) true tokens.old) }
+{
+    let at = tokens.word(b"module")?;
+    let name = tokens.name::<L>(alloc)?;
+    let numbers = header_numbers(tokens)?;
+    let HeaderNumbers {
+        code,
+        data_base,
+        closure,
+        returns,
+        return_count,
+        stack,
+        movable,
+    } = numbers;
     Ok(ModuleHeader {
         at,
         name,

@@ -2,6 +2,7 @@
 ghost use Rattle.std.specs.Prelude.{◌≡◌, true, codes, ◌<◌, ◌≤◌, ◌+◌, IfOk, OnOk, Ok, sum_by, is_some};
 ghost use Rattle.proc_parse.specs.Answers.{GivesAs, Gives};
 ghost use Rattle.proc_parse.specs.Loops.{procs_list};
+ghost use Rattle.proc_parse.specs.Parts.{proc_inner};
 ghost use Rattle.proc_language.specs.declared.TheConstants.{MOST_ITEMS, MOST_REGISTERS, MOST_LOCALS};
 ghost use Rattle.proc_language.specs.declared.TheConstants.{MOST_TOKENS};
 ghost use Rattle.proc_grammar.specs.Lexemes.{a_local};
@@ -45,7 +46,6 @@ fn callback<L: Language>(
 }
 
 // A parameter that is no token, after others that take so many registers.
-#[tactic(auto, unfolding(proc_grammar::specs::Reading::plain_param, phrases::specs::Reading::case_next))]
 fn plain_param<L: Language>(
     alloc: Global,
     tokens: &mut TokenCursor<'_, '_>,
@@ -56,10 +56,7 @@ fn plain_param<L: Language>(
     ensures slots { IfOk result (λ p. used + L.made.param_registers p ≤ MOST_REGISTERS) }
     ensures tokens { IfOk result (λ p. L.made.param_tokens p ≡ 0) }
 {
-    let name = tokens.name::<L>(alloc)?;
-    if used >= MOST_REGISTERS {
-        return Err(ParseFault::TooMany(name.at));
-    }
+    let name = tokens.fitting_name::<L>(alloc, used < MOST_REGISTERS)?;
     if tokens.take_sign(b'/').is_some() {
         return callback::<L>(tokens, name, used);
     }
@@ -67,7 +64,6 @@ fn plain_param<L: Language>(
 }
 
 // A parameter that is a token, after `token` and so many other tokens.
-#[tactic(auto, unfolding(proc_grammar::specs::Reading::token_param))]
 fn token_param<L: Language>(
     alloc: Global,
     tokens: &mut TokenCursor<'_, '_>,
@@ -79,10 +75,7 @@ fn token_param<L: Language>(
     ensures slots { IfOk result (λ p. L.made.param_registers p ≡ 0) }
     ensures tokens { IfOk result (λ p. held + L.made.param_tokens p ≤ MOST_TOKENS) }
 {
-    let name = tokens.name::<L>(alloc)?;
-    if held >= MOST_TOKENS {
-        return Err(ParseFault::TooMany(name.at));
-    }
+    let name = tokens.fitting_name::<L>(alloc, held < MOST_TOKENS)?;
     Ok(L::token_param_of(name).unwrap())
 }
 
@@ -165,7 +158,6 @@ fn params<L: Language>(
 }
 
 // A local that is no token, after so many.
-#[tactic(auto, unfolding(proc_grammar::specs::Reading::plain_local))]
 fn plain_local<L: Language>(
     alloc: Global,
     tokens: &mut TokenCursor<'_, '_>,
@@ -175,17 +167,13 @@ fn plain_local<L: Language>(
     ensures slots { IfOk result (λ x. count + L.made.local_count x ≤ MOST_LOCALS) }
     ensures tokens { IfOk result (λ x. L.made.local_tokens x ≡ 0) }
 {
-    let at = tokens.word(b"local")?;
-    if count >= MOST_LOCALS {
-        return Err(ParseFault::TooMany(at));
-    }
+    tokens.fitting_word(b"local", count < MOST_LOCALS)?;
     let name = tokens.name::<L>(alloc)?;
     tokens.sign(b';')?;
     Ok(L::local_of(name))
 }
 
 // A local that is a token, after `token` and so many other tokens.
-#[tactic(auto, unfolding(proc_grammar::specs::Reading::token_local))]
 fn token_local<L: Language>(
     alloc: Global,
     tokens: &mut TokenCursor<'_, '_>,
@@ -197,10 +185,7 @@ fn token_local<L: Language>(
     ensures slots { IfOk result (λ x. L.made.local_count x ≡ 0) }
     ensures tokens { IfOk result (λ x. held + L.made.local_tokens x ≤ MOST_TOKENS) }
 {
-    let name = tokens.name::<L>(alloc)?;
-    if held >= MOST_TOKENS {
-        return Err(ParseFault::TooMany(name.at));
-    }
+    let name = tokens.fitting_name::<L>(alloc, held < MOST_TOKENS)?;
     tokens.sign(b';')?;
     Ok(L::token_local_of(name).unwrap())
 }
@@ -257,8 +242,32 @@ fn locals<L: Language>(
     Ok(locals)
 }
 
+// What stands in the brackets of a procedure, and the place of the closing one.
+struct ProcInner<V: Drop, S: Drop> {
+    locals: Items<V>,
+    body: Items<S>,
+    end: u32,
+}
+
+// The brackets of a procedure whose parameters are so many tokens.
+#[tactic(auto, unfolding(crate::specs::Parts::proc_inner))]
+fn proc_inner<L: Language>(
+    alloc: Global,
+    tokens: &mut TokenCursor<'_, '_>,
+    held: u32,
+) -> Result<ProcInner<L::Local, L::Stmt>, ParseFault>
+    requires { held ≤ MOST_TOKENS }
+    ensures { GivesAs (λ p. ((p.locals, p.body), p.end)) result tokens.new
+        (proc_inner L.made held tokens.old) }
+{
+    tokens.sign(b'{')?;
+    let locals = Items::of(locals::<L>(alloc, tokens, held)?);
+    let body = Items::of(whole_body::<L>(alloc, tokens, MOST_BRACKETS - 1)?);
+    let end = tokens.sign(b'}')?;
+    Ok(ProcInner { locals, body, end })
+}
+
 // A procedure after its `proc`.
-#[tactic(auto, unfolding(proc_grammar::specs::Reading::proc_behind, proc_grammar::specs::Reading::next_locals))]
 fn behind_proc<L: Language>(
     alloc: Global,
     tokens: &mut TokenCursor<'_, '_>,
@@ -268,20 +277,13 @@ fn behind_proc<L: Language>(
     ensures { Gives result tokens.new (proc_behind L.made true full room_in_body at shared tokens.old) }
 {
     let name = tokens.name::<L>(alloc)?;
-    let params = params::<L>(alloc, tokens)?;
-    tokens.sign(b'{')?;
-    let locals = Items::of(locals::<L>(alloc, tokens, params.tokens)?);
-    let body = Items::of(whole_body::<L>(alloc, tokens, MOST_BRACKETS - 1)?);
-    let end = tokens.sign(b'}')?;
-    Ok(L::proc_of(
-        at,
-        end,
-        shared,
-        name,
-        Items::of(params.params),
-        locals,
-        body,
-    ))
+    let ParamList {
+        params,
+        tokens: held,
+    } = params::<L>(alloc, tokens)?;
+    let ProcInner { locals, body, end } = proc_inner::<L>(alloc, tokens, held)?;
+    let params = Items::of(params);
+    Ok(L::proc_of(at, end, shared, name, params, locals, body))
 }
 
 // The procedure after so many.
@@ -301,10 +303,7 @@ fn proc<L: Language>(
         tokens.word(b"proc")?;
         return behind_proc::<L>(alloc, tokens, at, true);
     }
-    let at = tokens.word(b"proc")?;
-    if count >= MOST_ITEMS {
-        return Err(ParseFault::TooMany(at));
-    }
+    let at = tokens.fitting_word(b"proc", count < MOST_ITEMS)?;
     behind_proc::<L>(alloc, tokens, at, false)
 }
 

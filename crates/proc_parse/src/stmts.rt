@@ -1,10 +1,11 @@
 //! Statements.
-ghost use Rattle.std.specs.Prelude.{◌≡◌, true, ◌<◌, Ok, is_some};
+ghost use Rattle.std.specs.Prelude.{◌≡◌, true, ◌<◌, Ok, is_some, if◌then◌else◌};
 ghost use Rattle.proc_parse.specs.Answers.{GivesAs, Gives, GivesBy};
+ghost use Rattle.proc_parse.specs.Parts.{ended_value};
 ghost use Rattle.proc_grammar.specs.Reading.{full, next_stmts, inner_stmts, stmts_with, next_stmt};
 ghost use Rattle.proc_grammar.specs.Reading.{plain_stmt};
 ghost use Rattle.proc_grammar.specs.Reading.{next_block, if_behind, while_behind};
-ghost use Rattle.proc_grammar.specs.Reading.{return_behind, halt_behind, behind_target, set_behind};
+ghost use Rattle.proc_grammar.specs.Reading.{return_behind, halt_behind, set_behind};
 ghost use Rattle.proc_grammar.specs.Reading.{token_behind};
 ghost use Rattle.proc_grammar.specs.Reading.{set_at_behind, calls_behind, name_stmt};
 
@@ -56,44 +57,34 @@ fn stmt<L: Language>(
         (next_stmt L.made true full room (inner_stmts L.made true full room) tokens.old) }
 {
     if let Some(at) = tokens.take_token_word::<L>(b"make") {
-        return make_stmt::<L>(alloc, tokens, at);
+        return token_stmt::<L>(alloc, tokens, at, true);
     }
     if let Some(at) = tokens.take_token_word::<L>(b"spend") {
-        return spend_stmt::<L>(alloc, tokens, at);
+        return token_stmt::<L>(alloc, tokens, at, false);
     }
     plain_stmt::<L>(alloc, tokens, room)
 }
 
-// After `make`.
+// After `make` or `spend`: a token is filled, or spent.
 #[tactic(auto, unfolding(proc_grammar::specs::Reading::token_behind))]
-fn make_stmt<L: Language>(
+fn token_stmt<L: Language>(
     alloc: Global,
     tokens: &mut TokenCursor<'_, '_>,
     at: u32,
+    fills: bool,
 ) -> Result<L::Stmt, ParseFault>
     requires { is_some L.made.tokens ≡ true }
     ensures { GivesBy L.made.tokens result tokens.new
-        (λ makes. token_behind L.made true full makes.make at tokens.old) }
+        (λ makes. token_behind L.made true full (if fills then makes.make else makes.spend) at tokens.old) }
 {
     let name = tokens.name::<L>(alloc)?;
     let end = tokens.sign(b';')?;
-    Ok(L::make_of(at, end, name).unwrap())
-}
-
-// After `spend`.
-#[tactic(auto, unfolding(proc_grammar::specs::Reading::token_behind))]
-fn spend_stmt<L: Language>(
-    alloc: Global,
-    tokens: &mut TokenCursor<'_, '_>,
-    at: u32,
-) -> Result<L::Stmt, ParseFault>
-    requires { is_some L.made.tokens ≡ true }
-    ensures { GivesBy L.made.tokens result tokens.new
-        (λ makes. token_behind L.made true full makes.spend at tokens.old) }
-{
-    let name = tokens.name::<L>(alloc)?;
-    let end = tokens.sign(b';')?;
-    Ok(L::spend_of(at, end, name).unwrap())
+    let made = if fills {
+        L::make_of(at, end, name)
+    } else {
+        L::spend_of(at, end, name)
+    };
+    Ok(made.unwrap())
 }
 
 // A statement that has to do with no token.
@@ -149,7 +140,6 @@ fn block<L: Language>(
 }
 
 #[cycle(stmt)]
-#[tactic(auto, unfolding(proc_grammar::specs::Reading::if_behind, proc_grammar::specs::Reading::next_else, phrases::specs::Reading::case_next))]
 fn if_stmt<L: Language>(
     alloc: Global,
     tokens: &mut TokenCursor<'_, '_>,
@@ -169,7 +159,6 @@ fn if_stmt<L: Language>(
 }
 
 #[cycle(stmt)]
-#[tactic(auto, unfolding(proc_grammar::specs::Reading::while_behind))]
 fn while_stmt<L: Language>(
     alloc: Global,
     tokens: &mut TokenCursor<'_, '_>,
@@ -184,7 +173,25 @@ fn while_stmt<L: Language>(
     Ok(L::while_of(at, body.end, condition, body.stmts))
 }
 
-#[tactic(auto, unfolding(proc_grammar::specs::Reading::return_behind))]
+// An expression, and the place of the semicolon that ends it.
+struct Ended<E: Drop> {
+    value: E,
+    end: u32,
+}
+
+#[tactic(auto, unfolding(crate::specs::Parts::ended_value))]
+fn ended_value<L: Language>(
+    alloc: Global,
+    tokens: &mut TokenCursor<'_, '_>,
+    room: u32,
+) -> Result<Ended<L::Expr>, ParseFault>
+    ensures { GivesAs (λ v. (v.value, v.end)) result tokens.new (ended_value L.made room tokens.old) }
+{
+    let value = whole::<L>(alloc, tokens, room)?;
+    let end = tokens.sign(b';')?;
+    Ok(Ended { value, end })
+}
+
 fn return_stmt<L: Language>(
     alloc: Global,
     tokens: &mut TokenCursor<'_, '_>,
@@ -194,12 +201,10 @@ fn return_stmt<L: Language>(
     ensures { Gives result tokens.new
         (return_behind L.made true full room (inner_stmts L.made true full room) at tokens.old) }
 {
-    let value = whole::<L>(alloc, tokens, room)?;
-    let end = tokens.sign(b';')?;
+    let Ended { value, end } = ended_value::<L>(alloc, tokens, room)?;
     Ok(L::return_of(at, end, value))
 }
 
-#[tactic(auto, unfolding(proc_grammar::specs::Reading::halt_behind))]
 fn halt_stmt<L: Language>(
     alloc: Global,
     tokens: &mut TokenCursor<'_, '_>,
@@ -209,12 +214,12 @@ fn halt_stmt<L: Language>(
     ensures { Gives result tokens.new
         (halt_behind L.made true full room (inner_stmts L.made true full room) at tokens.old) }
 {
-    let value = whole::<L>(alloc, tokens, room)?;
-    let end = tokens.sign(b';')?;
+    let Ended { value, end } = ended_value::<L>(alloc, tokens, room)?;
     Ok(L::halt_of(at, end, value))
 }
 
-#[tactic(auto, unfolding(proc_grammar::specs::Reading::name_stmt))]
+// A statement that begins with a name.
+#[tactic(auto, unfolding(proc_grammar::specs::Reading::name_stmt, proc_grammar::specs::Reading::behind_target, phrases::specs::Reading::case_next))]
 fn name_stmt<L: Language>(
     alloc: Global,
     tokens: &mut TokenCursor<'_, '_>,
@@ -224,19 +229,6 @@ fn name_stmt<L: Language>(
         (name_stmt L.made true full room (inner_stmts L.made true full room) tokens.old) }
 {
     let name = tokens.name::<L>(alloc)?;
-    behind_target::<L>(alloc, tokens, room, name)
-}
-
-#[tactic(auto, unfolding(proc_grammar::specs::Reading::behind_target, phrases::specs::Reading::case_next))]
-fn behind_target<L: Language>(
-    alloc: Global,
-    tokens: &mut TokenCursor<'_, '_>,
-    room: u32,
-    name: Name,
-) -> Result<L::Stmt, ParseFault>
-    ensures { Gives result tokens.new
-        (behind_target L.made true full room (inner_stmts L.made true full room) name tokens.old) }
-{
     if tokens.take_sign(b'=').is_some() {
         return set::<L>(alloc, tokens, room, name);
     }
@@ -247,7 +239,6 @@ fn behind_target<L: Language>(
     call::<L>(alloc, tokens, room, name, bracket)
 }
 
-#[tactic(auto, unfolding(proc_grammar::specs::Reading::set_behind))]
 fn set<L: Language>(
     alloc: Global,
     tokens: &mut TokenCursor<'_, '_>,
@@ -258,12 +249,10 @@ fn set<L: Language>(
         (set_behind L.made true full room (inner_stmts L.made true full room) name tokens.old) }
 {
     let at = name.at;
-    let value = whole::<L>(alloc, tokens, room)?;
-    let end = tokens.sign(b';')?;
+    let Ended { value, end } = ended_value::<L>(alloc, tokens, room)?;
     Ok(L::set_of(at, end, name, value))
 }
 
-#[tactic(auto, unfolding(proc_grammar::specs::Reading::set_at_behind, proc_grammar::specs::Reading::next_index, crate::specs::Loops::bracketed))]
 fn set_at<L: Language>(
     alloc: Global,
     tokens: &mut TokenCursor<'_, '_>,
@@ -278,8 +267,7 @@ fn set_at<L: Language>(
     let at = name.at;
     let index = bracketed::<L>(alloc, tokens, room, true, bracket, b']')?;
     tokens.sign(b'=')?;
-    let value = whole::<L>(alloc, tokens, room)?;
-    let end = tokens.sign(b';')?;
+    let Ended { value, end } = ended_value::<L>(alloc, tokens, room)?;
     Ok(L::set_at_of(at, end, name, index, value))
 }
 

@@ -18,8 +18,8 @@ use Rattle.proc_parse.proofs.Steps.{name_index, name_call}
 use Rattle.proc_parse.proofs.Steps.{name_index_bad, name_call_bad, name_var, unless_refused}
 use Rattle.proc_parse.proofs.Steps.{of_token, of_none}
 use Rattle.proc_parse.proofs.Steps.{case_there, case_none, args_some, some_begin}
-use Rattle.proc_parse.proofs.Steps.{some_step, some_fault, some_end}
-use Rattle.proc_parse.proofs.Steps.{listed_fault, listed_open, listed_shut, was_taken, was_left}
+use Rattle.proc_parse.proofs.Steps.{some_step, some_fault}
+use Rattle.proc_parse.proofs.Steps.{listed_fault, listed_open, listed_shut, was_taken}
 use Rattle.proc_parse.proofs.exprs.+expr.Goals as goal
 
 pub sum-returns-in-None-clause-exact : goal.sum-returns-in-None-clause-exact
@@ -98,7 +98,7 @@ name_term-returns-in_err-index-clause-exact g n c =
     let p = err_from_is_err_and c.from_residual-in_err-index.result c.from_residual-in_err-index.ensures.1 in
     rw (p.1, p.2) (name_index_bad g.L.Language.made c.args.room c.args.fits c.in_ok-name.name
     c.args.tokens.now
-    c.fitting_name.new.tokens c.in_ok-name.ensures.exact c.take_sign.new.self c.in-Some.at (sym
+    c.fitting_name.new.self c.in_ok-name.ensures.exact c.take_sign.new.self c.in-Some.at (sym
     c.in-Some.ensures.value) c.in-Some.ensures.left
     c.in_err-index.field-0.0 c.in_err-index.ensures.exact)
 
@@ -108,7 +108,7 @@ name_term-returns-in-Some-clause-exact g n c =
     c.in_ok-index.index)
     c.bracketed.new.tokens _ c.element.ensures.ok c.element.ensures.fails
     (name_index g.L.Language.made c.args.room c.args.fits c.in_ok-name.name c.args.tokens.now
-    c.fitting_name.new.tokens c.in_ok-name.ensures.exact
+    c.fitting_name.new.self c.in_ok-name.ensures.exact
     c.take_sign.new.self c.in-Some.at (sym c.in-Some.ensures.value) c.in-Some.ensures.left
     c.bracketed.new.tokens c.in_ok-index.index c.in_ok-index.ensures.exact)
 
@@ -116,7 +116,7 @@ pub name_term-returns-in_err-args-clause-exact : goal.name_term-returns-in_err-a
 name_term-returns-in_err-args-clause-exact g n c =
     let p = err_from_is_err_and c.from_residual-in_err-args.result c.from_residual-in_err-args.ensures.1 in
     rw (p.1, p.2) (name_call_bad g.L.Language.made c.args.room c.args.fits c.in_ok-name.name c.args.tokens.now
-    c.fitting_name.new.tokens c.in_ok-name.ensures.exact c.take_sign.new.self (sym
+    c.fitting_name.new.self c.in_ok-name.ensures.exact c.take_sign.new.self (sym
     c.in_default.ensures.value) c.in_default.ensures.left c.take_sign-2.new.self
     c.in-Some-take_sign.at (sym c.in-Some-take_sign.ensures.value) c.in-Some-take_sign.ensures.left
     c.in_err-args.field-0.0 c.in_err-args.ensures)
@@ -124,7 +124,7 @@ name_term-returns-in_err-args-clause-exact g n c =
 pub name_term-returns-in-Some-take_sign-clause-exact : goal.name_term-returns-in-Some-take_sign-clause-exact
 name_term-returns-in-Some-take_sign-clause-exact g n c =
     name_call g.L.Language.made c.args.room c.args.fits c.in_ok-name.name c.args.tokens.now
-    c.fitting_name.new.tokens c.in_ok-name.ensures.exact
+    c.fitting_name.new.self c.in_ok-name.ensures.exact
     c.take_sign.new.self (sym c.in_default.ensures.value) c.in_default.ensures.left c.take_sign-2.new.self
     c.in-Some-take_sign.at (sym c.in-Some-take_sign.ensures.value) c.in-Some-take_sign.ensures.left
     c.args-in-Some-take_sign.new.tokens c.in_ok-args.field-0.items c.of-args.result c.call_of.result
@@ -133,7 +133,7 @@ name_term-returns-in-Some-take_sign-clause-exact g n c =
 pub name_term-returns-clause-exact : goal.name_term-returns-clause-exact
 name_term-returns-clause-exact g n c =
     name_var g.L.Language.made c.args.room c.args.fits c.in_ok-name.name c.args.tokens.now
-    c.fitting_name.new.tokens c.in_ok-name.ensures.exact
+    c.fitting_name.new.self c.in_ok-name.ensures.exact
     c.take_sign.new.self (sym c.in_default.ensures.value) c.in_default.ensures.left c.take_sign-2.new.self
     c.var_of.result (sym c.in_default-take_sign.ensures.value) c.in_default-take_sign.ensures.left
     c.var_of.ensures
@@ -216,16 +216,13 @@ args-returns-in_err-sign g n c =
     let begun = args_some g.L.Language.made c.args.room c.args.at c.args.tokens.now c.take_sign.new.self
     c.take_sign.result lt c.take_sign.ensures.value (sym c.is_some.ensures ∙ c.if-is_some.false)
     c.take_sign.ensures.left in
-    let left = was_left (sign comma) c.arg.new.tokens c.take_sign-in-loop-args.new.self
-    c.take_sign-in-loop-args.result c.take_sign-in-loop-args.ensures.value
-    (c.is_none.ensures ∙ ap not c.if-is_none.true) c.take_sign-in-loop-args.ensures.left in
-    let ended = some_end (sign comma) (behind_arg g.L.Language.made) another item c.loop-args.args.items
-    c.loop-args.used c.loop-args.tokens c.in_ok-next.next c.arg.new.tokens _ c.push.new.self.items
-    c.loop-args.invariant.told c.in_ok-next.ensures.exact left.0 c.in_ok-push.ensures.items in
-    rw (p.1, p.2) (subst (Fails c.in_err-sign.field-0.0) (sym begun) (listed_open
-    (sign comma) (behind_arg g.L.Language.made) another item 0 c.take_sign.new.self c.arg.new.tokens
-    c.take_sign-in-loop-args.new.self c.push.new.self.items c.in_err-sign.field-0.0 ended left.1
-    c.in_err-sign.ensures))
+    rw (p.1, p.2) (subst (Fails c.in_err-sign.field-0.0) (sym begun) (listed_open (sign comma)
+    (behind_arg g.L.Language.made) another item 0 c.take_sign.new.self
+    c.loop-args.args.items c.loop-args.used c.loop-args.tokens c.in_ok-next.next c.arg.new.tokens
+    c.take_sign-in-loop-args.new.self c.take_sign-in-loop-args.result c.push.new.self.items
+    c.loop-args.invariant.told c.in_ok-next.ensures.exact c.take_sign-in-loop-args.ensures.value
+    (c.is_none.ensures ∙ ap not c.if-is_none.true) c.take_sign-in-loop-args.ensures.left
+    c.in_ok-push.ensures.items c.in_err-sign.field-0.0 c.in_err-sign.ensures))
 
 pub args-returns-then-is_none : goal.args-returns-then-is_none
 unfolding some_args
@@ -237,15 +234,12 @@ args-returns-then-is_none g n c =
     let begun = args_some g.L.Language.made c.args.room c.args.at c.args.tokens.now c.take_sign.new.self
     c.take_sign.result lt c.take_sign.ensures.value (sym c.is_some.ensures ∙ c.if-is_some.false)
     c.take_sign.ensures.left in
-    let left = was_left (sign comma) c.arg.new.tokens c.take_sign-in-loop-args.new.self
-    c.take_sign-in-loop-args.result c.take_sign-in-loop-args.ensures.value
-    (c.is_none.ensures ∙ ap not c.if-is_none.true) c.take_sign-in-loop-args.ensures.left in
-    let ended = some_end (sign comma) (behind_arg g.L.Language.made) another item c.loop-args.args.items
-    c.loop-args.used c.loop-args.tokens c.in_ok-next.next c.arg.new.tokens _ c.push.new.self.items
-    c.loop-args.invariant.told c.in_ok-next.ensures.exact left.0 c.in_ok-push.ensures.items in
     begun ∙ listed_shut (sign comma) (behind_arg g.L.Language.made) another item 0 c.take_sign.new.self
-    c.arg.new.tokens c.take_sign-in-loop-args.new.self c.sign.new.self c.push.new.self.items _ ended left.1
-    c.in_ok-sign.ensures
+    c.loop-args.args.items c.loop-args.used c.loop-args.tokens c.in_ok-next.next c.arg.new.tokens
+    c.take_sign-in-loop-args.new.self c.take_sign-in-loop-args.result c.push.new.self.items
+    c.loop-args.invariant.told c.in_ok-next.ensures.exact c.take_sign-in-loop-args.ensures.value
+    (c.is_none.ensures ∙ ap not c.if-is_none.true) c.take_sign-in-loop-args.ensures.left
+    c.in_ok-push.ensures.items c.sign.new.self _ c.in_ok-sign.ensures
 
 pub arg-returns-in-Some-clause-exact : goal.arg-returns-in-Some-clause-exact
 unfolding next_arg

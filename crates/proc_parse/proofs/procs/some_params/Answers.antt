@@ -8,7 +8,7 @@ use Rattle.proc_grammar.specs.Grammar.{behind_param, none_taken, Taken}
 use Rattle.proc_grammar.specs.Lexemes.{sign, comma}
 use Rattle.proc_grammar.specs.Reading.{full, another_param, next_param, some_params}
 use Rattle.proc_parse.specs.Answers.{AreFew}
-use Rattle.proc_parse.proofs.Steps.{full_is, some_begin, some_step, some_fault, some_end, was_taken, was_left}
+use Rattle.proc_parse.proofs.Steps.{full_is, some_begin, some_step, some_fault, was_taken}
 use Rattle.proc_parse.proofs.Steps.{listed_fault, listed_open, listed_shut}
 use Rattle.proc_parse.proofs.procs.some_params.Goals as goal
 
@@ -76,32 +76,23 @@ pub returns-in_err-sign-clause-exact : goal.returns-in_err-sign-clause-exact
 unfolding some_params
 returns-in_err-sign-clause-exact g c =
     let p = err_from_is_err_and c.from_residual-in_err-sign.result c.from_residual-in_err-sign.ensures.1 in
-    let another = another_param g.L.Language.made true full in
-    let item = next_param g.L.Language.made true full in
-    let left = was_left (sign comma) c.param.new.tokens c.take_sign.new.self c.take_sign.result
-    c.take_sign.ensures.value (c.is_none.ensures ∙ ap not c.if-is_none.true) c.take_sign.ensures.left in
-    let ended = some_end (sign comma) (behind_param g.L.Language.made) another item
-    c.loop-params.params.items c.loop-params.used c.loop-params.tokens c.in_ok-next.next c.param.new.tokens _
-    c.push.new.self.items c.loop-params.invariant.told c.in_ok-next.ensures.exact left.0
-    c.in_ok-push.ensures.items in
-    rw (p.1, p.2) (listed_open (sign comma) (behind_param g.L.Language.made) another item none_taken
-    c.args.tokens.now c.param.new.tokens c.take_sign.new.self c.push.new.self.items c.in_err-sign.field-0.0
-    ended left.1 c.in_err-sign.ensures)
+    rw (p.1, p.2) (listed_open (sign comma) (behind_param g.L.Language.made)
+    (another_param g.L.Language.made true full) (next_param g.L.Language.made true full) none_taken
+    c.args.tokens.now c.loop-params.params.items c.loop-params.used c.loop-params.tokens c.in_ok-next.next
+    c.param.new.tokens c.take_sign.new.self c.take_sign.result c.push.new.self.items
+    c.loop-params.invariant.told c.in_ok-next.ensures.exact c.take_sign.ensures.value
+    (c.is_none.ensures ∙ ap not c.if-is_none.true) c.take_sign.ensures.left c.in_ok-push.ensures.items
+    c.in_err-sign.field-0.0 c.in_err-sign.ensures)
 
 pub returns-then-is_none-clause-exact : goal.returns-then-is_none-clause-exact
 unfolding some_params
-returns-then-is_none-clause-exact g c =
-    let another = another_param g.L.Language.made true full in
-    let item = next_param g.L.Language.made true full in
-    let left = was_left (sign comma) c.param.new.tokens c.take_sign.new.self c.take_sign.result
-    c.take_sign.ensures.value (c.is_none.ensures ∙ ap not c.if-is_none.true) c.take_sign.ensures.left in
-    let ended = some_end (sign comma) (behind_param g.L.Language.made) another item
-    c.loop-params.params.items c.loop-params.used c.loop-params.tokens c.in_ok-next.next c.param.new.tokens _
-    c.push.new.self.items c.loop-params.invariant.told c.in_ok-next.ensures.exact left.0
-    c.in_ok-push.ensures.items in
-    listed_shut (sign comma) (behind_param g.L.Language.made) another item none_taken c.args.tokens.now
-    c.param.new.tokens c.take_sign.new.self c.sign.new.self c.push.new.self.items _ ended left.1
-    c.in_ok-sign.ensures
+returns-then-is_none-clause-exact g c = listed_shut (sign comma) (behind_param g.L.Language.made)
+    (another_param g.L.Language.made true full) (next_param g.L.Language.made true full) none_taken
+    c.args.tokens.now c.loop-params.params.items c.loop-params.used c.loop-params.tokens c.in_ok-next.next
+    c.param.new.tokens c.take_sign.new.self c.take_sign.result c.push.new.self.items
+    c.loop-params.invariant.told c.in_ok-next.ensures.exact c.take_sign.ensures.value
+    (c.is_none.ensures ∙ ap not c.if-is_none.true) c.take_sign.ensures.left c.in_ok-push.ensures.items
+    c.sign.new.self _ c.in_ok-sign.ensures
 
 pub returns-then-is_none-clause-count : goal.returns-then-is_none-clause-count
 returns-then-is_none-clause-count g c =

@@ -1,15 +1,17 @@
 use Rattle.std.proofs.Common.{◌≡◌, ◌∙◌, ◌<◌, ℕ, List, Result, Ok, refl, sym, ap, arith, true, length, ◌∷◌, []}
 use Rattle.std.proofs.Common.{length-append}
-use Rattle.std.specs.Prelude.{codes}
+use Rattle.std.specs.Prelude.{codes, not}
+use Rattle.readers.specs.Readers.{done}
 use Rattle.std.proofs.lemmas.Result.{err_from_is_err_and}
 use Rattle.proc_grammar.specs.Reading.{full, next_stmt, inner_stmts, stmts_with, token_behind, plain_stmt}
-use Rattle.proc_grammar.specs.Lexemes.{a_start}
+use Rattle.proc_grammar.specs.Reading.{if_behind, else_behind, next_else, while_behind}
+use Rattle.proc_grammar.specs.Lexemes.{a_start, word}
 use Rattle.proc_grammar.specs.Makes.{TokenActions}
 use Rattle.proc_grammar.specs.Reader.{case_token, Input}
 use Rattle.proc_grammar.specs.declared.fault.ParseFault.{ParseFault}
 use Rattle.proc_parse.proofs.Steps.{full_is, all_begin, all_step, all_fault, all_end, block_bad}
 use Rattle.proc_parse.proofs.Steps.{block_open, block_shut}
-use Rattle.proc_parse.proofs.Steps.{of_token, of_none}
+use Rattle.proc_parse.proofs.Steps.{of_token, of_none, read_on, fails_on, case_taken, case_left}
 use Rattle.proc_parse.proofs.stmts.+stmt.Goals as goal
 
 -- a block whose statements were put into a list
@@ -96,9 +98,10 @@ stmt-returns-in-Some g n c =
     let plain = plain_stmt g.L.Language.made true full c.args.room
     (inner_stmts g.L.Language.made true full c.args.room) in
     let others = case_token g.L.Language.made.tokens (codes "spend") spends plain in
-    of_token (codes "make") makes others c.args.tokens.now (λ x. x) c.make_stmt.result c.make_stmt.new.tokens
+    of_token (codes "make") makes others c.args.tokens.now (λ x. x) c.token_stmt.result
+    c.token_stmt.new.tokens
     g.L.Language.made.tokens _ c.take_token_word.new.self (sym c.in-Some.ensures.value)
-    c.in-Some.ensures.left c.make_stmt.ensures
+    c.in-Some.ensures.left c.token_stmt.ensures
 
 pub stmt-returns-in-Some-take_token_word : goal.stmt-returns-in-Some-take_token_word
 unfolding next_stmt
@@ -108,13 +111,15 @@ stmt-returns-in-Some-take_token_word g n c =
     let plain = plain_stmt g.L.Language.made true full c.args.room
     (inner_stmts g.L.Language.made true full c.args.room) in
     let others = case_token g.L.Language.made.tokens (codes "spend") spends plain in
-    of_none (codes "make") makes others c.args.tokens.now (λ x. x) c.spend_stmt.result c.spend_stmt.new.tokens
+    of_none (codes "make") makes others c.args.tokens.now (λ x. x)
+    c.token_stmt-in-Some-take_token_word.result c.token_stmt-in-Some-take_token_word.new.tokens
     g.L.Language.made.tokens c.take_token_word.new.self (sym c.in_default.ensures.value)
     c.in_default.ensures.left
-    (of_token (codes "spend") spends plain c.take_token_word.new.self (λ x. x) c.spend_stmt.result
-    c.spend_stmt.new.tokens g.L.Language.made.tokens _ c.take_token_word-2.new.self
+    (of_token (codes "spend") spends plain c.take_token_word.new.self (λ x. x)
+    c.token_stmt-in-Some-take_token_word.result
+    c.token_stmt-in-Some-take_token_word.new.tokens g.L.Language.made.tokens _ c.take_token_word-2.new.self
     (sym c.in-Some-take_token_word.ensures.value) c.in-Some-take_token_word.ensures.left
-    c.spend_stmt.ensures)
+    c.token_stmt-in-Some-take_token_word.ensures)
 
 pub stmt-returns : goal.stmt-returns
 unfolding next_stmt
@@ -131,3 +136,76 @@ stmt-returns g n c =
     c.plain_stmt.new.tokens g.L.Language.made.tokens c.take_token_word-2.new.self
     (sym c.in_default-take_token_word.ensures.value) c.in_default-take_token_word.ensures.left
     c.plain_stmt.ensures)
+
+pub if_stmt-returns-in_err-condition : goal.if_stmt-returns-in_err-condition
+unfolding if_behind
+if_stmt-returns-in_err-condition g n c =
+    let p = err_from_is_err_and c.from_residual.result c.from_residual.ensures.1 in
+    rw (p.1, p.2) (fails_on _ _ _ refl c.in_err-condition.ensures)
+
+pub if_stmt-returns-in_err-body : goal.if_stmt-returns-in_err-body
+unfolding if_behind
+if_stmt-returns-in_err-body g n c =
+    let p = err_from_is_err_and c.from_residual-in_err-body.result c.from_residual-in_err-body.ensures.1 in
+    rw (p.1, p.2) (fails_on _ _ _ (read_on _ refl c.in_ok-condition.ensures) c.in_err-body.ensures)
+
+pub if_stmt-returns-then-is_none : goal.if_stmt-returns-then-is_none
+unfolding if_behind next_else
+if_stmt-returns-then-is_none g n c =
+    let made = g.L.Language.made in
+    let inner = inner_stmts made true full c.args.room in
+    let e = c.in_ok-condition.condition in
+    let body = c.in_ok-body.body in
+    read_on _ (read_on _ refl c.in_ok-condition.ensures) c.in_ok-body.ensures
+    ∙ case_left (word (codes "else")) (else_behind made true full c.args.room inner c.args.at e body.stmts)
+    (done (made.if_then c.args.at body.end e body.stmts)) c.block.new.tokens c.take_word.new.self
+    c.take_word.result c.take_word.ensures.value (c.is_none.ensures ∙ ap not c.if-is_none.true)
+    c.take_word.ensures.left
+    ∙ ap (λ s. Ok (s, c.take_word.new.self)) (sym c.if_then_of.ensures)
+
+pub if_stmt-returns-in_err-other : goal.if_stmt-returns-in_err-other
+unfolding if_behind next_else
+if_stmt-returns-in_err-other g n c =
+    let p = err_from_is_err_and c.from_residual-in_err-other.result
+    c.from_residual-in_err-other.ensures.1 in
+    let made = g.L.Language.made in
+    let inner = inner_stmts made true full c.args.room in
+    let e = c.in_ok-condition.condition in
+    let body = c.in_ok-body.body in
+    rw (p.1, p.2) (fails_on _ _ _ (read_on _ (read_on _ refl c.in_ok-condition.ensures) c.in_ok-body.ensures
+    ∙ case_taken (word (codes "else")) (else_behind made true full c.args.room inner c.args.at e body.stmts)
+    (done (made.if_then c.args.at body.end e body.stmts)) c.block.new.tokens c.take_word.new.self
+    c.take_word.result c.take_word.ensures.value (c.is_none.ensures ∙ ap not c.if-is_none.false)
+    c.take_word.ensures.left) c.in_err-other.ensures)
+
+pub if_stmt-returns : goal.if_stmt-returns
+unfolding if_behind next_else
+if_stmt-returns g n c =
+    let made = g.L.Language.made in
+    let inner = inner_stmts made true full c.args.room in
+    let e = c.in_ok-condition.condition in
+    let body = c.in_ok-body.body in
+    read_on _ (read_on _ (read_on _ refl c.in_ok-condition.ensures) c.in_ok-body.ensures
+    ∙ case_taken (word (codes "else")) (else_behind made true full c.args.room inner c.args.at e body.stmts)
+    (done (made.if_then c.args.at body.end e body.stmts)) c.block.new.tokens c.take_word.new.self
+    c.take_word.result c.take_word.ensures.value (c.is_none.ensures ∙ ap not c.if-is_none.false)
+    c.take_word.ensures.left) c.in_ok-other.ensures
+    ∙ ap (λ s. Ok (s, c.block-2.new.tokens)) (sym c.if_else_of.ensures)
+
+pub while_stmt-returns-in_err-condition : goal.while_stmt-returns-in_err-condition
+unfolding while_behind
+while_stmt-returns-in_err-condition g n c =
+    let p = err_from_is_err_and c.from_residual.result c.from_residual.ensures.1 in
+    rw (p.1, p.2) (fails_on _ _ _ refl c.in_err-condition.ensures)
+
+pub while_stmt-returns-in_err-body : goal.while_stmt-returns-in_err-body
+unfolding while_behind
+while_stmt-returns-in_err-body g n c =
+    let p = err_from_is_err_and c.from_residual-in_err-body.result c.from_residual-in_err-body.ensures.1 in
+    rw (p.1, p.2) (fails_on _ _ _ (read_on _ refl c.in_ok-condition.ensures) c.in_err-body.ensures)
+
+pub while_stmt-returns : goal.while_stmt-returns
+unfolding while_behind
+while_stmt-returns g n c =
+    read_on _ (read_on _ refl c.in_ok-condition.ensures) c.in_ok-body.ensures
+    ∙ ap (λ s. Ok (s, c.block.new.tokens)) (sym c.while_of.ensures)

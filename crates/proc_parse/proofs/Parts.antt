@@ -1,0 +1,192 @@
+-- What the grammar reads step by step, read in parts.
+use Rattle.std.proofs.Common.{
+  ◌≡◌,
+  ◌∙◌,
+  Bool,
+  true,
+  false,
+  ℕ,
+  List,
+  ◌∷◌,
+  Option,
+  Some,
+  None,
+  Result,
+  Ok,
+  Err,
+  refl,
+  sym,
+  ap,
+}
+use Rattle.std.specs.Prelude.{nat_lt, codes, option_map, sum_by}
+use Rattle.readers.specs.Readers.{◌>>=◌, goes_on, done}
+use Rattle.phrases.specs.Reading.{case_next}
+use Rattle.proc_language.specs.declared.TheConstants.{MOST_ITEMS, MOST_REGISTERS, MOST_LOCALS, MOST_TOKENS}
+use Rattle.proc_language.specs.declared.tree.Name.{Name}
+use Rattle.proc_grammar.specs.declared.fault.ParseFault.{ParseFault}
+use Rattle.proc_grammar.specs.declared.fault.ParseFault.TheVariants.{TooMany}
+use Rattle.proc_grammar.specs.Lexemes.{word, words_of, sign, dot, slash, semicolon, curly, end_curly}
+use Rattle.proc_grammar.specs.Lexemes.{a_local, a_proc}
+use Rattle.proc_grammar.specs.Makes.{Actions, TokenActions}
+use Rattle.proc_grammar.specs.Grammar.{is_arity, is_return_count, behind_local, one_more, room_in_body}
+use Rattle.proc_grammar.specs.Reader.{Input, Reader, one, many}
+use Rattle.proc_grammar.specs.Reading.{full, next_name, next_num, next_length, next_initial, next_field}
+use Rattle.proc_grammar.specs.Reading.{next_movable, next_import, next_global, next_header, next_local}
+use Rattle.proc_grammar.specs.Reading.{next_params, next_locals, next_expr, next_stmts, next_proc}
+use Rattle.proc_grammar.specs.Reading.{plain_param, token_param, arity_behind, plain_local, token_local}
+use Rattle.proc_grammar.specs.Reading.{own_behind, proc_behind, next_module}
+use Rattle.proc_parse.specs.Loops.{item_on, procs_list}
+use Rattle.proc_parse.specs.Parts.{fitting_word, fitting_name, header_numbers, imported, global_form}
+use Rattle.proc_parse.specs.Parts.{ended_value, proc_inner}
+use Rattle.proc_parse.proofs.Steps.{within, fit_by}
+
+-- what is the same after any first part
+same_on : {A B : Type 0} (q : Result (A × Input) ParseFault) {f g : A → Reader B}
+    → ((x : A) (i : Input) → f x i ≡ g x i) → goes_on q f ≡ goes_on q g
+same_on (Ok x) e = e x.0 x.1
+same_on (Err d) e = refl
+
+-- what tokens make of a name
+pub made_by : {K X : Type 0} (f : K → X) (tokens : Option K) (k : K) (made : Option X) (x : X) → tokens ≡
+    Some k
+    → made ≡ option_map f tokens → made ≡ Some x → x ≡ f k
+made_by f None k made x e is there = absurd cc
+made_by f (Some m) k made x e is there = cc
+
+-- ---- items
+
+module _ (words : List (List ℕ)) where
+  pub import_is : (count : ℕ) (i : Input) → next_import words true count i
+      ≡ goes_on (fitting_word (codes "import") (nat_lt count MOST_ITEMS) i) (λ at. next_name words true
+      >>= λ part.
+      one (sign dot) >>= λ u. imported words >>= λ called.
+      done (record { at = at; part = part; name = called.name; arity = called.arity }))
+  unfolding next_import fitting_word imported
+  import_is count i =
+      fit_by (one (word (codes "import")) i) (nat_lt count MOST_ITEMS) TooMany _
+      ∙ same_on _ (λ at i.
+      same_on (next_name words true i) (λ part i.
+      same_on (one (sign dot) i) (λ u i. sym (
+      within (next_name words true i) _ _ (λ x i.
+      within (one (sign slash) i) _ _ (λ u i.
+      within (next_num true is_arity i) _ _ (λ arity i.
+      within (one (sign semicolon) i) _ _ (λ u i. refl))))))))
+
+  pub global_is : (count : ℕ) (i : Input) → next_global words true count i
+      ≡ goes_on (fitting_word (codes "global") (nat_lt count MOST_ITEMS) i) (λ at. next_name words true
+      >>= λ x.
+      global_form >>= λ form. done (record { at = at; name = x; length = form.0; initial = form.1 }))
+  unfolding next_global fitting_word global_form
+  global_is count i =
+      fit_by (one (word (codes "global")) i) (nat_lt count MOST_ITEMS) TooMany _
+      ∙ same_on _ (λ at i.
+      same_on (next_name words true i) (λ x i. sym (
+      within (next_length true i) _ _ (λ len i.
+      within (next_initial true i) _ _ (λ initial i.
+      within (one (sign semicolon) i) _ _ (λ u i. refl))))))
+
+  pub header_is : (i : Input) → next_header words true i
+      ≡ goes_on (one (word (codes "module")) i) (λ at. next_name words true >>= λ x. header_numbers >>= λ n.
+      done (record {
+        at = at;
+        name = x;
+        code = n.code;
+        data_base = n.data_base;
+        closure = n.closure;
+        returns = n.returns;
+        return_count = n.return_count;
+        stack = n.stack;
+        movable = n.movable;
+      }))
+  unfolding next_header header_numbers
+  header_is i =
+      same_on (one (word (codes "module")) i) (λ at i.
+      same_on (next_name words true i) (λ x i. sym (
+      within (next_field true (codes "code") i) _ _ (λ code i.
+      within (next_field true (codes "data") i) _ _ (λ data_base i.
+      within (next_field true (codes "closure") i) _ _ (λ closure i.
+      within (next_field true (codes "returns") i) _ _ (λ returns i.
+      within (next_num true (is_return_count returns) i) _ _ (λ return_count i.
+      within (next_field true (codes "stack") i) _ _ (λ stack i.
+      within (next_movable true i) _ _ (λ movable i.
+      within (one (sign semicolon) i) _ _ (λ u i. refl)))))))))))
+
+module _ {E A S P V R M : Type 0} (T : Actions E A S P V R M) where
+  -- ---- statements
+
+  pub ended_by : (made : ℕ → E → S) (room : ℕ) (i : Input)
+      → goes_on (next_expr T true full room true i) (λ e. one (sign semicolon) >>= λ end. done (made end e))
+      ≡ goes_on (ended_value T room i) (λ v. done (made v.1 v.0))
+  unfolding ended_value
+  ended_by made room i = sym (
+      within (next_expr T true full room true i) _ _ (λ e i.
+      within (one (sign semicolon) i) _ _ (λ end i. refl)))
+
+  -- ---- parameters and locals
+
+  pub param_is : (used : ℕ) (i : Input) → plain_param T true full used i
+      ≡ goes_on (fitting_name T (nat_lt used MOST_REGISTERS) i) (λ x.
+      case_next (sign slash) (λ at. arity_behind T true full x used) (done (T.param x)))
+  unfolding plain_param fitting_name
+  param_is used i =
+      fit_by (next_name (words_of T.tokens) true i) (nat_lt used MOST_REGISTERS) (λ x. TooMany x.at) _
+
+  pub token_param_is : (held : ℕ) (makes : TokenActions A S P V) (i : Input)
+      → token_param T true full held makes i
+      ≡ goes_on (fitting_name T (nat_lt held MOST_TOKENS) i) (λ x. done (makes.param x))
+  unfolding token_param fitting_name
+  token_param_is held makes i =
+      fit_by (next_name (words_of T.tokens) true i) (nat_lt held MOST_TOKENS) (λ x. TooMany x.at) _
+
+  pub local_is : (count : ℕ) (i : Input) → plain_local T true full count i
+      ≡ goes_on (fitting_word (codes "local") (nat_lt count MOST_LOCALS) i) (λ at.
+      next_name (words_of T.tokens) true >>= λ x. one (sign semicolon) >>= λ u. done (T.local x))
+  unfolding plain_local fitting_word
+  local_is count i = fit_by (one (word (codes "local")) i) (nat_lt count MOST_LOCALS) TooMany _
+
+  pub token_local_is : (held : ℕ) (makes : TokenActions A S P V) (i : Input)
+      → token_local T true full held makes i
+      ≡ goes_on (fitting_name T (nat_lt held MOST_TOKENS) i) (λ x.
+      one (sign semicolon) >>= λ u. done (makes.local x))
+  unfolding token_local fitting_name
+  token_local_is held makes i =
+      fit_by (next_name (words_of T.tokens) true i) (nat_lt held MOST_TOKENS) (λ x. TooMany x.at) _
+
+  pub own_is : (count : ℕ) (i : Input)
+      → (one (word (codes "proc")) >>= own_behind T true full room_in_body count) i
+      ≡ goes_on (fitting_word (codes "proc") (nat_lt count MOST_ITEMS) i) (λ at.
+      proc_behind T true full room_in_body at false)
+  unfolding fitting_word
+  own_is count i = fit_by (one (word (codes "proc")) i) (nat_lt count MOST_ITEMS) TooMany _
+
+  -- ---- procedures and modules
+
+  pub proc_is : (at : ℕ) (shared : Bool) (i : Input) → proc_behind T true full room_in_body at shared i
+      ≡ goes_on (next_name (words_of T.tokens) true i) (λ x. next_params T true full >>= λ params.
+      proc_inner T (sum_by T.param_tokens params) >>= λ p.
+      done (T.proc at p.1 shared x params p.0.0 p.0.1))
+  unfolding proc_behind next_locals proc_inner
+  proc_is at shared i =
+      same_on (next_name (words_of T.tokens) true i) (λ x i.
+      same_on (next_params T true full i) (λ params i. sym (
+      within (one (sign curly) i) _ _ (λ u i.
+      within (many full (a_local T.tokens) (behind_local T) (next_local T true full)
+      (record { slots = 0; tokens = sum_by T.param_tokens params }) i) _ _ (λ locals i.
+      within (next_stmts T true full room_in_body i) _ _ (λ body i.
+      within (one (sign end_curly) i) _ _ (λ end i. refl)))))))
+
+  pub module_is : (i : Input) → next_module T true full room_in_body i
+      ≡ goes_on (next_header (words_of T.tokens) true i) (λ header.
+      many full (word (codes "import")) one_more (next_import (words_of T.tokens) true) 0 >>= λ imports.
+      many full (word (codes "global")) one_more (next_global (words_of T.tokens) true) 0 >>= λ globals.
+      procs_list T >>= λ procs. done (T.module_of header imports globals procs))
+  unfolding next_module procs_list item_on
+  module_is i =
+      same_on (next_header (words_of T.tokens) true i) (λ header i.
+      same_on (many full (word (codes "import")) one_more (next_import (words_of T.tokens) true) 0 i) (λ
+      imports i.
+      same_on (many full (word (codes "global")) one_more (next_global (words_of T.tokens) true) 0 i) (λ
+      globals i.
+      sym (
+      within (next_proc T true full room_in_body 0 i) _ _ (λ first i.
+      within (many full a_proc one_more (next_proc T true full room_in_body) 1 i) _ _ (λ procs i. refl))))))
