@@ -45,6 +45,23 @@ fn guarded(
     Ok((c, Items::of(block(alloc, body)?)))
 }
 
+// A condition, what is done where it holds, and what is done where it doesn't.
+#[cycle(block)]
+fn branched(
+    alloc: Global,
+    c: &TokenExpr,
+    body: &[TokenStmt],
+    other: &[TokenStmt],
+) -> Result<(Expr, Items<Stmt>, Items<Stmt>), AllocError>
+    ensures { IfOk result (λ g. (g.0 ≡ erased_expr c.now)
+        × (block_of g.1 ≡ erased_block (token_block_of body.now))
+        × (block_of g.2 ≡ erased_block (token_block_of other.now))) }
+{
+    let (c, body) = guarded(alloc, c, body)?;
+    let other = Items::of(block(alloc, other)?);
+    Ok((c, body, other))
+}
+
 // What a statement is without tokens, if it is anything.
 #[cycle(block)]
 fn statement(alloc: Global, s: &TokenStmt) -> Result<Option<Stmt>, AllocError>
@@ -59,8 +76,7 @@ fn statement(alloc: Global, s: &TokenStmt) -> Result<Option<Stmt>, AllocError>
             StmtKind::If(c, body, None)
         }
         TokenStmtKind::If(c, body, Some(other)) => {
-            let (c, body) = guarded(alloc, c, body.as_slice())?;
-            let other = Items::of(block(alloc, other.as_slice())?);
+            let (c, body, other) = branched(alloc, c, body.as_slice(), other.as_slice())?;
             StmtKind::If(c, body, Some(other))
         }
         TokenStmtKind::While(c, body) => {
