@@ -18,27 +18,34 @@ use Rattle.std.proofs.Common.{
   sym,
   ap,
 }
-use Rattle.std.specs.Prelude.{nat_lt, codes, option_map, sum_by}
+use Rattle.std.specs.Prelude.{nat_lt, codes, option_map, sum_by, is_some}
 use Rattle.readers.specs.Readers.{◌>>=◌, goes_on, done}
-use Rattle.phrases.specs.Reading.{case_next}
+use Rattle.phrases.specs.Reading.{case_next, next_means, behind}
 use Rattle.proc_language.specs.declared.TheConstants.{MOST_ITEMS, MOST_REGISTERS, MOST_LOCALS, MOST_TOKENS}
 use Rattle.proc_language.specs.declared.tree.Name.{Name}
+use Rattle.proc_language.specs.declared.tree.Op.{Op}
 use Rattle.proc_grammar.specs.declared.fault.ParseFault.{ParseFault}
 use Rattle.proc_grammar.specs.declared.fault.ParseFault.TheVariants.{TooMany}
+use Rattle.proc_grammar.specs.Fault.{Fails}
 use Rattle.proc_grammar.specs.Lexemes.{word, words_of, sign, dot, slash, semicolon, curly, end_curly}
-use Rattle.proc_grammar.specs.Lexemes.{a_local, a_proc}
+use Rattle.proc_grammar.specs.Lexemes.{a_local, a_proc, comparing}
 use Rattle.proc_grammar.specs.Makes.{Actions, TokenActions}
-use Rattle.proc_grammar.specs.Grammar.{is_arity, is_return_count, behind_local, one_more, room_in_body}
+use Rattle.proc_grammar.specs.Grammar.{is_arity, is_return_count, behind_local, one_more, operated}
+use Rattle.proc_grammar.specs.Grammar.{room_in_body}
 use Rattle.proc_grammar.specs.Reader.{Input, Reader, one, many}
 use Rattle.proc_grammar.specs.Reading.{full, next_name, next_num, next_length, next_initial, next_field}
 use Rattle.proc_grammar.specs.Reading.{next_movable, next_import, next_global, next_header, next_local}
 use Rattle.proc_grammar.specs.Reading.{next_params, next_locals, next_expr, next_stmts, next_proc}
 use Rattle.proc_grammar.specs.Reading.{plain_param, token_param, arity_behind, plain_local, token_local}
+use Rattle.proc_grammar.specs.Reading.{next_block, inner_stmts, if_behind, next_else, else_behind}
+use Rattle.proc_grammar.specs.Reading.{next_sum, inner_expr, expr_with, next_comparison, compared_behind}
 use Rattle.proc_grammar.specs.Reading.{own_behind, proc_behind, next_module}
 use Rattle.proc_parse.specs.Loops.{item_on, procs_list}
 use Rattle.proc_parse.specs.Parts.{fitting_word, fitting_name, header_numbers, imported, global_form}
 use Rattle.proc_parse.specs.Parts.{ended_value, proc_inner}
-use Rattle.proc_parse.proofs.Steps.{within, fit_by}
+use Rattle.proc_parse.specs.Answers.{left_by}
+use Rattle.proc_parse.proofs.Steps.{within, fit_by, read_on, fails_on, case_taken, case_left}
+use Rattle.proc_parse.proofs.Steps.{case_there, case_none}
 
 -- what is the same after any first part
 same_on : {A B : Type 0} (q : Result (A × Input) ParseFault) {f g : A → Reader B}
@@ -112,6 +119,38 @@ module _ (words : List (List ℕ)) where
       within (one (sign semicolon) i) _ _ (λ u i. refl)))))))))))
 
 module _ {E A S P V R M : Type 0} (T : Actions E A S P V R M) where
+  -- ---- expressions
+
+  -- after a sum
+  module _ (room : ℕ) (fits : Bool) (i j k : Input) (left : E)
+      (summed : next_sum T true full room (inner_expr T true full room) fits i ≡ Ok (left, j)) where
+    pub sum_alone : next_means comparing j ≡ None → k ≡ j
+        → expr_with T true full room (inner_expr T true full room) fits i ≡ Ok (left, k)
+    unfolding expr_with next_comparison
+    sum_alone none same = read_on _ refl summed
+        ∙ case_none comparing (compared_behind T true full room (inner_expr T true full room) left) (done left)
+        j k none same
+
+    module _ (o : Op) (there : next_means comparing j ≡ Some o) (past : k ≡ behind j) where
+      right_on : expr_with T true full room (inner_expr T true full room) fits i
+          ≡ goes_on (next_sum T true full room (inner_expr T true full room) true k)
+          (λ right. done (operated T o left right))
+      unfolding expr_with next_comparison
+      right_on = read_on _ refl summed
+          ∙ case_there comparing (compared_behind T true full room (inner_expr T true full room) left) (done left)
+          j k o there past
+
+      pub right_bad : (f : ParseFault)
+          → Fails f (next_sum T true full room (inner_expr T true full room) true k)
+          → Fails f (expr_with T true full room (inner_expr T true full room) fits i)
+      right_bad f = fails_on _ _ f right_on
+
+      pub compared : (right : E) (l : Input)
+          → next_sum T true full room (inner_expr T true full room) true k ≡ Ok (right, l)
+          → expr_with T true full room (inner_expr T true full room) fits i
+          ≡ Ok (operated T o left right, l)
+      compared right l reads = read_on _ right_on reads
+
   -- ---- statements
 
   pub ended_by : (made : ℕ → E → S) (room : ℕ) (i : Input)
@@ -121,6 +160,47 @@ module _ {E A S P V R M : Type 0} (T : Actions E A S P V R M) where
   ended_by made room i = sym (
       within (next_expr T true full room true i) _ _ (λ e i.
       within (one (sign semicolon) i) _ _ (λ end i. refl)))
+
+  -- after the condition of an `if`, and after what stands in its brackets
+  module _ (room at : ℕ) (i j k : Input) (e : E) (body : List S) (end : ℕ)
+      (tested : next_expr T true full room true i ≡ Ok (e, j))
+      (guarded : next_block T true full room (inner_stmts T true full room) j ≡ Ok ((body, end), k)) where
+    if_on : if_behind T true full room (inner_stmts T true full room) at i
+        ≡ next_else T true full room (inner_stmts T true full room) at e body end k
+    unfolding if_behind
+    if_on =
+        let inner = inner_stmts T true full room in
+        ap (λ q. goes_on q (λ x. next_block T true full room inner >>= λ b.
+        next_else T true full room inner at x b.0 b.1)) tested
+        ∙ ap (λ q. goes_on q (λ b. next_else T true full room inner at e b.0 b.1)) guarded
+
+    module _ (l : Input) (o : Option ℕ) (means : o ≡ next_means (word (codes "else")) k) (left : l ≡ left_by o k)
+      where
+      pub if_alone : (s : S) → is_some o ≡ false → s ≡ T.if_then at end e body
+          → if_behind T true full room (inner_stmts T true full room) at i ≡ Ok (s, l)
+      unfolding next_else
+      if_alone s none made = if_on
+          ∙ case_left (word (codes "else")) (else_behind T true full room (inner_stmts T true full room) at e body)
+          (done (T.if_then at end e body)) k l o means none left ∙ ap (λ x. Ok (x, l)) (sym made)
+
+      other_on : is_some o ≡ true → if_behind T true full room (inner_stmts T true full room) at i
+          ≡ goes_on (next_block T true full room (inner_stmts T true full room) l)
+          (λ b. done (T.if_else at b.1 e body b.0))
+      unfolding next_else
+      other_on there = if_on
+          ∙ case_taken (word (codes "else")) (else_behind T true full room (inner_stmts T true full room) at e body)
+          (done (T.if_then at end e body)) k l o means there left
+
+      pub other_bad : (f : ParseFault) → is_some o ≡ true
+          → Fails f (next_block T true full room (inner_stmts T true full room) l)
+          → Fails f (if_behind T true full room (inner_stmts T true full room) at i)
+      other_bad f there = fails_on _ _ f (other_on there)
+
+      pub if_other : (other : List S) (last : ℕ) (m : Input) (s : S) → is_some o ≡ true
+          → next_block T true full room (inner_stmts T true full room) l ≡ Ok ((other, last), m)
+          → s ≡ T.if_else at last e body other
+          → if_behind T true full room (inner_stmts T true full room) at i ≡ Ok (s, m)
+      if_other other last m s there reads made = read_on _ (other_on there) reads ∙ ap (λ x. Ok (x, m)) (sym made)
 
   -- ---- parameters and locals
 

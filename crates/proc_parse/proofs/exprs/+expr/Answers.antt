@@ -6,7 +6,7 @@ use Rattle.std.proofs.lemmas.Result.{err_from_is_err_and}
 use Rattle.proc_grammar.specs.Fault.{Fails}
 use Rattle.proc_grammar.specs.Grammar.{behind_arg}
 use Rattle.proc_grammar.specs.Lexemes.{sign, comma, word}
-use Rattle.proc_grammar.specs.Reading.{full, inner_expr, another_arg, next_arg}
+use Rattle.proc_grammar.specs.Reading.{full, inner_expr, expr_with, another_arg, next_arg}
 use Rattle.proc_grammar.specs.Reading.{token_arg, plain_arg, arg_proc}
 use Rattle.proc_grammar.specs.Reading.{arg_value, some_args}
 use Rattle.proc_parse.specs.Answers.{GivesAs}
@@ -20,7 +20,31 @@ use Rattle.proc_parse.proofs.Steps.{of_token, of_none}
 use Rattle.proc_parse.proofs.Steps.{case_there, case_none, args_some, some_begin}
 use Rattle.proc_parse.proofs.Steps.{some_step, some_fault}
 use Rattle.proc_parse.proofs.Steps.{listed_fault, listed_open, listed_shut, was_taken}
+use Rattle.proc_parse.proofs.Steps.{fails_on}
+use Rattle.proc_parse.proofs.Parts.{right_bad, compared}
 use Rattle.proc_parse.proofs.exprs.+expr.Goals as goal
+
+pub expr-returns-in_err-left-clause-exact : goal.expr-returns-in_err-left-clause-exact
+unfolding expr_with
+expr-returns-in_err-left-clause-exact g n c =
+    let p = err_from_is_err_and c.from_residual.result c.from_residual.ensures.1 in
+    rw (p.1, p.2) (fails_on _ _ _ refl c.in_err-left.ensures.exact)
+
+pub expr-returns-in_err-right-clause-exact : goal.expr-returns-in_err-right-clause-exact
+expr-returns-in_err-right-clause-exact g n c =
+    let p = err_from_is_err_and c.from_residual-in_err-right.result c.from_residual-in_err-right.ensures.1 in
+    rw (p.1, p.2) (right_bad g.L.Language.made c.args.room c.args.fits c.args.tokens.now c.sum.new.tokens
+    c.take_comparing.new.self c.in_ok-left.left c.in_ok-left.ensures.exact
+    c.in-Some.op (sym c.in-Some.ensures.value) c.in-Some.ensures.left c.in_err-right.field-0.0
+    c.in_err-right.ensures.exact)
+
+pub expr-returns-clause-exact : goal.expr-returns-clause-exact
+expr-returns-clause-exact g n c =
+    unless_refused c.operation.result _ c.sum-2.new.tokens _ c.operation.ensures.ok c.operation.ensures.fails
+    (compared g.L.Language.made c.args.room c.args.fits c.args.tokens.now c.sum.new.tokens
+    c.take_comparing.new.self c.in_ok-left.left c.in_ok-left.ensures.exact c.in-Some.op
+    (sym c.in-Some.ensures.value) c.in-Some.ensures.left c.in_ok-right.right c.sum-2.new.tokens
+    c.in_ok-right.ensures.exact)
 
 pub sum-returns-in-None-clause-exact : goal.sum-returns-in-None-clause-exact
 sum-returns-in-None-clause-exact g n c =

@@ -1,17 +1,17 @@
 use Rattle.std.proofs.Common.{◌≡◌, ◌∙◌, ◌<◌, ℕ, List, Result, Ok, refl, sym, ap, arith, true, length, ◌∷◌, []}
 use Rattle.std.proofs.Common.{length-append}
 use Rattle.std.specs.Prelude.{codes, not}
-use Rattle.readers.specs.Readers.{done}
 use Rattle.std.proofs.lemmas.Result.{err_from_is_err_and}
 use Rattle.proc_grammar.specs.Reading.{full, next_stmt, inner_stmts, stmts_with, token_behind, plain_stmt}
-use Rattle.proc_grammar.specs.Reading.{if_behind, else_behind, next_else, while_behind}
-use Rattle.proc_grammar.specs.Lexemes.{a_start, word}
+use Rattle.proc_grammar.specs.Reading.{if_behind, while_behind}
+use Rattle.proc_grammar.specs.Lexemes.{a_start}
 use Rattle.proc_grammar.specs.Makes.{TokenActions}
 use Rattle.proc_grammar.specs.Reader.{case_token, Input}
 use Rattle.proc_grammar.specs.declared.fault.ParseFault.{ParseFault}
 use Rattle.proc_parse.proofs.Steps.{full_is, all_begin, all_step, all_fault, all_end, block_bad}
 use Rattle.proc_parse.proofs.Steps.{block_open, block_shut}
-use Rattle.proc_parse.proofs.Steps.{of_token, of_none, read_on, fails_on, case_taken, case_left}
+use Rattle.proc_parse.proofs.Steps.{of_token, of_none, read_on, fails_on}
+use Rattle.proc_parse.proofs.Parts.{if_alone, other_bad, if_other}
 use Rattle.proc_parse.proofs.stmts.+stmt.Goals as goal
 
 -- a block whose statements were put into a list
@@ -150,47 +150,30 @@ if_stmt-returns-in_err-body g n c =
     rw (p.1, p.2) (fails_on _ _ _ (read_on _ refl c.in_ok-condition.ensures) c.in_err-body.ensures)
 
 pub if_stmt-returns-then-is_none : goal.if_stmt-returns-then-is_none
-unfolding if_behind next_else
 if_stmt-returns-then-is_none g n c =
-    let made = g.L.Language.made in
-    let inner = inner_stmts made true full c.args.room in
-    let e = c.in_ok-condition.condition in
-    let body = c.in_ok-body.body in
-    read_on _ (read_on _ refl c.in_ok-condition.ensures) c.in_ok-body.ensures
-    ∙ case_left (word (codes "else")) (else_behind made true full c.args.room inner c.args.at e body.stmts)
-    (done (made.if_then c.args.at body.end e body.stmts)) c.block.new.tokens c.take_word.new.self
-    c.take_word.result c.take_word.ensures.value (c.is_none.ensures ∙ ap not c.if-is_none.true)
-    c.take_word.ensures.left
-    ∙ ap (λ s. Ok (s, c.take_word.new.self)) (sym c.if_then_of.ensures)
+    if_alone g.L.Language.made c.args.room c.args.at c.args.tokens.now c.whole.new.tokens
+    c.block.new.tokens c.in_ok-condition.condition c.in_ok-body.body.stmts c.in_ok-body.body.end
+    c.in_ok-condition.ensures c.in_ok-body.ensures c.take_word.new.self c.take_word.result
+    c.take_word.ensures.value c.take_word.ensures.left _
+    (c.is_none.ensures ∙ ap not c.if-is_none.true) c.if_then_of.ensures
 
 pub if_stmt-returns-in_err-other : goal.if_stmt-returns-in_err-other
-unfolding if_behind next_else
 if_stmt-returns-in_err-other g n c =
-    let p = err_from_is_err_and c.from_residual-in_err-other.result
-    c.from_residual-in_err-other.ensures.1 in
-    let made = g.L.Language.made in
-    let inner = inner_stmts made true full c.args.room in
-    let e = c.in_ok-condition.condition in
-    let body = c.in_ok-body.body in
-    rw (p.1, p.2) (fails_on _ _ _ (read_on _ (read_on _ refl c.in_ok-condition.ensures) c.in_ok-body.ensures
-    ∙ case_taken (word (codes "else")) (else_behind made true full c.args.room inner c.args.at e body.stmts)
-    (done (made.if_then c.args.at body.end e body.stmts)) c.block.new.tokens c.take_word.new.self
-    c.take_word.result c.take_word.ensures.value (c.is_none.ensures ∙ ap not c.if-is_none.false)
-    c.take_word.ensures.left) c.in_err-other.ensures)
+    let p = err_from_is_err_and c.from_residual-in_err-other.result c.from_residual-in_err-other.ensures.1 in
+    rw (p.1, p.2) (other_bad g.L.Language.made c.args.room c.args.at c.args.tokens.now c.whole.new.tokens
+    c.block.new.tokens c.in_ok-condition.condition c.in_ok-body.body.stmts c.in_ok-body.body.end
+    c.in_ok-condition.ensures c.in_ok-body.ensures c.take_word.new.self c.take_word.result
+    c.take_word.ensures.value c.take_word.ensures.left
+    c.in_err-other.field-0.0 (c.is_none.ensures ∙ ap not c.if-is_none.false) c.in_err-other.ensures)
 
 pub if_stmt-returns : goal.if_stmt-returns
-unfolding if_behind next_else
 if_stmt-returns g n c =
-    let made = g.L.Language.made in
-    let inner = inner_stmts made true full c.args.room in
-    let e = c.in_ok-condition.condition in
-    let body = c.in_ok-body.body in
-    read_on _ (read_on _ (read_on _ refl c.in_ok-condition.ensures) c.in_ok-body.ensures
-    ∙ case_taken (word (codes "else")) (else_behind made true full c.args.room inner c.args.at e body.stmts)
-    (done (made.if_then c.args.at body.end e body.stmts)) c.block.new.tokens c.take_word.new.self
-    c.take_word.result c.take_word.ensures.value (c.is_none.ensures ∙ ap not c.if-is_none.false)
-    c.take_word.ensures.left) c.in_ok-other.ensures
-    ∙ ap (λ s. Ok (s, c.block-2.new.tokens)) (sym c.if_else_of.ensures)
+    if_other g.L.Language.made c.args.room c.args.at c.args.tokens.now c.whole.new.tokens
+    c.block.new.tokens c.in_ok-condition.condition c.in_ok-body.body.stmts c.in_ok-body.body.end
+    c.in_ok-condition.ensures c.in_ok-body.ensures c.take_word.new.self c.take_word.result
+    c.take_word.ensures.value c.take_word.ensures.left
+    c.in_ok-other.other.stmts c.in_ok-other.other.end _ _ (c.is_none.ensures ∙ ap not c.if-is_none.false)
+    c.in_ok-other.ensures c.if_else_of.ensures
 
 pub while_stmt-returns-in_err-condition : goal.while_stmt-returns-in_err-condition
 unfolding while_behind
