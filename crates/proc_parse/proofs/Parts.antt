@@ -1,5 +1,6 @@
 -- What the grammar reads step by step, read in parts.
 use Rattle.std.proofs.Common.{
+  ◌<◌,
   ◌≡◌,
   ◌∙◌,
   Bool,
@@ -19,7 +20,8 @@ use Rattle.std.proofs.Common.{
   ap,
 }
 use Rattle.std.specs.Prelude.{nat_lt, codes, option_map, sum_by, is_some}
-use Rattle.readers.specs.Readers.{◌>>=◌, goes_on, done}
+use Rattle.std.proofs.lemmas.Bool.{lt-ltb}
+use Rattle.readers.specs.Readers.{◌>>=◌, goes_on, done, holds}
 use Rattle.phrases.specs.Reading.{case_next, next_means, behind}
 use Rattle.proc_language.specs.declared.TheConstants.{MOST_ITEMS, MOST_REGISTERS, MOST_LOCALS, MOST_TOKENS}
 use Rattle.proc_language.specs.declared.tree.Name.{Name}
@@ -28,7 +30,7 @@ use Rattle.proc_grammar.specs.declared.fault.ParseFault.{ParseFault}
 use Rattle.proc_grammar.specs.declared.fault.ParseFault.TheVariants.{TooMany}
 use Rattle.proc_grammar.specs.Fault.{Fails}
 use Rattle.proc_grammar.specs.Lexemes.{word, words_of, sign, dot, slash, semicolon, curly, end_curly}
-use Rattle.proc_grammar.specs.Lexemes.{a_local, a_proc, comparing}
+use Rattle.proc_grammar.specs.Lexemes.{a_local, a_proc, comparing, assign, square, round}
 use Rattle.proc_grammar.specs.Makes.{Actions, TokenActions}
 use Rattle.proc_grammar.specs.Grammar.{is_arity, is_return_count, behind_local, one_more, operated}
 use Rattle.proc_grammar.specs.Grammar.{room_in_body}
@@ -37,9 +39,10 @@ use Rattle.proc_grammar.specs.Reading.{full, next_name, next_num, next_length, n
 use Rattle.proc_grammar.specs.Reading.{next_movable, next_import, next_global, next_header, next_local}
 use Rattle.proc_grammar.specs.Reading.{next_params, next_locals, next_expr, next_stmts, next_proc}
 use Rattle.proc_grammar.specs.Reading.{plain_param, token_param, arity_behind, plain_local, token_local}
+use Rattle.proc_grammar.specs.Reading.{name_stmt, behind_target, set_behind, set_at_behind, calls_behind}
 use Rattle.proc_grammar.specs.Reading.{next_block, inner_stmts, if_behind, next_else, else_behind}
 use Rattle.proc_grammar.specs.Reading.{next_sum, inner_expr, expr_with, next_comparison, compared_behind}
-use Rattle.proc_grammar.specs.Reading.{own_behind, proc_behind, next_module}
+use Rattle.proc_grammar.specs.Reading.{shared_behind, own_behind, proc_behind, next_module}
 use Rattle.proc_parse.specs.Loops.{item_on, procs_list}
 use Rattle.proc_parse.specs.Parts.{fitting_word, fitting_name, header_numbers, imported, global_form}
 use Rattle.proc_parse.specs.Parts.{ended_value, proc_inner}
@@ -161,6 +164,39 @@ module _ {E A S P V R M : Type 0} (T : Actions E A S P V R M) where
       within (next_expr T true full room true i) _ _ (λ e i.
       within (one (sign semicolon) i) _ _ (λ end i. refl)))
 
+  -- a statement that begins with this name, by what stands behind it
+  module _ (room : ℕ) (i j : Input) (x : Name) (named : next_name (words_of T.tokens) true i ≡ Ok (x, j))
+      (k : Input) (o : Option ℕ) (means : o ≡ next_means (sign assign) j) (left : k ≡ left_by o j) where
+    others : Reader S
+    others = case_next (sign square) (set_at_behind T true full room (inner_stmts T true full room) x)
+        (one (sign round) >>= calls_behind T true full room (inner_stmts T true full room) x)
+
+    pub is_set : is_some o ≡ true → name_stmt T true full room (inner_stmts T true full room) i
+        ≡ set_behind T true full room (inner_stmts T true full room) x k
+    unfolding name_stmt behind_target others
+    is_set there = read_on _ refl named
+        ∙ case_taken (sign assign) (set_behind T true full room (inner_stmts T true full room) x) others
+        j k o means there left
+
+    not_set : is_some o ≡ false → name_stmt T true full room (inner_stmts T true full room) i ≡ others k
+    unfolding name_stmt behind_target others
+    not_set none = read_on _ refl named
+        ∙ case_left (sign assign) (set_behind T true full room (inner_stmts T true full room) x) others
+        j k o means none left
+
+    module _ (none : is_some o ≡ false) (l : Input) where
+      pub is_set_at : (at : ℕ) → next_means (sign square) k ≡ Some at → l ≡ behind k
+          → name_stmt T true full room (inner_stmts T true full room) i
+          ≡ set_at_behind T true full room (inner_stmts T true full room) x at l
+      unfolding others
+      is_set_at at there past = not_set none ∙ case_there (sign square) _ _ k l at there past
+
+      pub is_call : next_means (sign square) k ≡ None → l ≡ k
+          → name_stmt T true full room (inner_stmts T true full room) i
+          ≡ goes_on (one (sign round) l) (calls_behind T true full room (inner_stmts T true full room) x)
+      unfolding others
+      is_call nowhere same = not_set none ∙ case_none (sign square) _ _ k l nowhere same
+
   -- after the condition of an `if`, and after what stands in its brackets
   module _ (room at : ℕ) (i j k : Input) (e : E) (body : List S) (end : ℕ)
       (tested : next_expr T true full room true i ≡ Ok (e, j))
@@ -176,31 +212,31 @@ module _ {E A S P V R M : Type 0} (T : Actions E A S P V R M) where
 
     module _ (l : Input) (o : Option ℕ) (means : o ≡ next_means (word (codes "else")) k) (left : l ≡ left_by o k)
       where
-      pub if_alone : (s : S) → is_some o ≡ false → s ≡ T.if_then at end e body
-          → if_behind T true full room (inner_stmts T true full room) at i ≡ Ok (s, l)
-      unfolding next_else
-      if_alone s none made = if_on
-          ∙ case_left (word (codes "else")) (else_behind T true full room (inner_stmts T true full room) at e body)
-          (done (T.if_then at end e body)) k l o means none left ∙ ap (λ x. Ok (x, l)) (sym made)
+        pub if_alone : (s : S) → is_some o ≡ false → s ≡ T.if_then at end e body
+            → if_behind T true full room (inner_stmts T true full room) at i ≡ Ok (s, l)
+        unfolding next_else
+        if_alone s none made = if_on
+            ∙ case_left (word (codes "else")) (else_behind T true full room (inner_stmts T true full room) at e body)
+            (done (T.if_then at end e body)) k l o means none left ∙ ap (λ x. Ok (x, l)) (sym made)
 
-      other_on : is_some o ≡ true → if_behind T true full room (inner_stmts T true full room) at i
-          ≡ goes_on (next_block T true full room (inner_stmts T true full room) l)
-          (λ b. done (T.if_else at b.1 e body b.0))
-      unfolding next_else
-      other_on there = if_on
-          ∙ case_taken (word (codes "else")) (else_behind T true full room (inner_stmts T true full room) at e body)
-          (done (T.if_then at end e body)) k l o means there left
+        other_on : is_some o ≡ true → if_behind T true full room (inner_stmts T true full room) at i
+            ≡ goes_on (next_block T true full room (inner_stmts T true full room) l)
+            (λ b. done (T.if_else at b.1 e body b.0))
+        unfolding next_else
+        other_on there = if_on
+            ∙ case_taken (word (codes "else")) (else_behind T true full room (inner_stmts T true full room) at e body)
+            (done (T.if_then at end e body)) k l o means there left
 
-      pub other_bad : (f : ParseFault) → is_some o ≡ true
-          → Fails f (next_block T true full room (inner_stmts T true full room) l)
-          → Fails f (if_behind T true full room (inner_stmts T true full room) at i)
-      other_bad f there = fails_on _ _ f (other_on there)
+        pub other_bad : (f : ParseFault) → is_some o ≡ true
+            → Fails f (next_block T true full room (inner_stmts T true full room) l)
+            → Fails f (if_behind T true full room (inner_stmts T true full room) at i)
+        other_bad f there = fails_on _ _ f (other_on there)
 
-      pub if_other : (other : List S) (last : ℕ) (m : Input) (s : S) → is_some o ≡ true
-          → next_block T true full room (inner_stmts T true full room) l ≡ Ok ((other, last), m)
-          → s ≡ T.if_else at last e body other
-          → if_behind T true full room (inner_stmts T true full room) at i ≡ Ok (s, m)
-      if_other other last m s there reads made = read_on _ (other_on there) reads ∙ ap (λ x. Ok (x, m)) (sym made)
+        pub if_other : (other : List S) (last : ℕ) (m : Input) (s : S) → is_some o ≡ true
+            → next_block T true full room (inner_stmts T true full room) l ≡ Ok ((other, last), m)
+            → s ≡ T.if_else at last e body other
+            → if_behind T true full room (inner_stmts T true full room) at i ≡ Ok (s, m)
+        if_other other last m s there reads made = read_on _ (other_on there) reads ∙ ap (λ x. Ok (x, m)) (sym made)
 
   -- ---- parameters and locals
 
@@ -238,6 +274,12 @@ module _ {E A S P V R M : Type 0} (T : Actions E A S P V R M) where
       proc_behind T true full room_in_body at false)
   unfolding fitting_word
   own_is count i = fit_by (one (word (codes "proc")) i) (nat_lt count MOST_ITEMS) TooMany _
+
+  pub shared_on : (count at : ℕ) (i : Input) → count < MOST_ITEMS
+      → shared_behind T true full room_in_body count at i
+      ≡ goes_on (one (word (codes "proc")) i) (λ u. proc_behind T true full room_in_body at true)
+  shared_on count at i few = ap (λ b. goes_on (holds b (TooMany at) i) (λ u. one (word (codes "proc"))
+      >>= λ v. proc_behind T true full room_in_body at true)) (lt-ltb count MOST_ITEMS few)
 
   -- ---- procedures and modules
 

@@ -37,6 +37,16 @@ pub full_is : full ≡ 2 ^ 64
 unfolding full
 full_is = refl
 
+-- fewer than a word holds
+pub below_full : (n : ℕ) → n < 2 ^ 64 → n ≤ full
+unfolding full
+below_full n few = omega (arith, few)
+
+-- what lies in memory is fewer
+pub stored_few : {n len cap : ℕ} → (len ≡ n) × (len ≤ cap) → cap < 2 ^ 63 → n < full
+unfolding full
+stored_few ok small = omega (arith, ok.0, ok.1, small)
+
 pub fails_map : {A B : Type 0} (f : ParseFault) (read : Result A ParseFault) (all : Result B ParseFault)
     → (read ≡ Err f → all ≡ Err f) → Fails f read → Fails f all
 fails_map (Scan s) read all h e = h e

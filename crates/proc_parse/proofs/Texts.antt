@@ -1,5 +1,6 @@
 -- The tokens of a text that end no line, and what is read of them.
 use Rattle.std.proofs.Common.{◌≡◌, Bool, true, false, cond, ℕ, ◌+◌, ◌-◌, ◌≤◌, ◌<◌, map, List, [], ◌∷◌, ◌++◌}
+use Rattle.std.proofs.Common.{append_assoc, add-one, drop-cons, get_or}
 use Rattle.std.proofs.Common.{length, drop, Some, None, refl, sym, ap, ◌∙◌, arith, subst, inl, inr, ◌⊎◌}
 use Rattle.std.specs.Prelude.{Result, Ok, Err, IfOk, IfErr, IsOkAnd, All, slice_range}
 use Rattle.std.proofs.lemmas.List.{length-take}
@@ -26,6 +27,26 @@ use Rattle.proc_grammar.proofs.Offers.{found, only, one_module, expected_is, tol
 use Rattle.proc_parse.specs.Answers.{InText}
 use Rattle.proc_parse.specs.Texts.{proper, parsed_scan, parsed_text, Spells, Stops, Passes, IsFault}
 use Rattle.proc_parse.specs.Texts.{PassesBefore}
+
+-- one token more in the loop that drops the ends of lines
+module _ (tokens kept : List Token) (i : ℕ) (d : Token) (lt : i < length tokens)
+    (told : kept ++ proper (drop i tokens) ≡ proper tokens) where
+  here : drop i tokens ≡ get_or tokens i d ∷ drop (i + 1) tokens
+  here = rw (add-one, drop-cons tokens i d)
+
+  split_at : (b : Bool) → is_line_end (get_or tokens i d).kind ≡ b → kept
+      ++ cond b (proper (drop (i + 1) tokens)) (get_or tokens i d ∷ proper (drop (i + 1) tokens)) ≡ proper tokens
+  split_at b is =
+      ap (λ e. kept ++ cond e (proper (drop (i + 1) tokens)) (get_or tokens i d ∷ proper (drop (i + 1) tokens)))
+      (sym is) ∙ ap (λ l. kept ++ proper l) (sym here) ∙ told
+
+  pub token_kept : is_line_end (get_or tokens i d).kind ≡ false
+      → (kept ++ get_or tokens i d ∷ []) ++ proper (drop (i + 1) tokens) ≡ proper tokens
+  token_kept is = append_assoc kept (get_or tokens i d ∷ []) (proper (drop (i + 1) tokens)) ∙ split_at false is
+
+  pub token_left : is_line_end (get_or tokens i d).kind ≡ true
+      → kept ++ proper (drop (i + 1) tokens) ≡ proper tokens
+  token_left is = split_at true is
 
 map_cond : (text : List ℕ) (b : Bool) (t : Token) (xs ys : List Token)
     → map (seen text) (cond b xs (t ∷ ys)) ≡ cond b (map (seen text) xs) (seen text t ∷ map (seen text) ys)

@@ -219,7 +219,6 @@ fn halt_stmt<L: Language>(
 }
 
 // A statement that begins with a name.
-#[tactic(auto, unfolding(proc_grammar::specs::Reading::name_stmt, proc_grammar::specs::Reading::behind_target, phrases::specs::Reading::case_next))]
 fn name_stmt<L: Language>(
     alloc: Global,
     tokens: &mut TokenCursor<'_, '_>,

@@ -1,7 +1,6 @@
-use Rattle.std.proofs.Common.{◌∙◌, ◌≤◌, refl, sym, arith, length}
+use Rattle.std.proofs.Common.{◌∙◌, refl, sym, length}
 use Rattle.text_scan.specs.Tokens.{scanned}
-use Rattle.proc_grammar.specs.Reading.{full}
-use Rattle.proc_parse.proofs.Steps.{full_is}
+use Rattle.proc_parse.proofs.Steps.{below_full}
 use Rattle.proc_parse.proofs.Texts.{ok_tokens, one_module_spelled, spelled_read, read_spelled, spelled_proper}
 use Rattle.proc_parse.proofs.laws.spelled_texts_are_read.Goals as goal
 
@@ -13,8 +12,7 @@ returns-clause-one g c text m m' =
 
 pub returns-clause-read : goal.returns-clause-read
 returns-clause-read g c text m short =
-    let few : length text ≤ full = grind (arith, full_is, short) in
-    spelled_read g.L.Language.made text m few (c.tokens_are_pieces.ensures.placed text)
+    spelled_read g.L.Language.made text m (below_full (length text) short) (c.tokens_are_pieces.ensures.placed text)
     (c.tokens_are_pieces.ensures.spelled text)
     (λ tokens. (c.reading_keeps_the_grammar.ensures.tokens text tokens).0)
 

@@ -38,6 +38,6 @@ returns g c =
     read_on _ (read_on _ (read_on _ (proc_is g.L.Language.made c.args.at c.args.shared c.args.tokens.now)
     c.in_ok-name.ensures)
     c.in_ok-params.ensures.exact) inner
-    ∙ ap (λ r. Ok (r, c.proc_inner.new.tokens)) (ap (λ l. g.L.Language.made.proc c.args.at c.in_ok-locals.field-0.end
-    c.args.shared c.in_ok-name.name l c.in_ok-locals.field-0.locals c.in_ok-locals.field-0.body) (sym c.of-params.ensures)
-    ∙ sym c.proc_of.ensures)
+    ∙ ap (λ r. Ok (r, c.proc_inner.new.tokens)) (ap (λ l. g.L.Language.made.proc c.args.at
+    c.in_ok-locals.field-0.end c.args.shared c.in_ok-name.name l c.in_ok-locals.field-0.locals
+    c.in_ok-locals.field-0.body) (sym c.of-params.ensures) ∙ sym c.proc_of.ensures)

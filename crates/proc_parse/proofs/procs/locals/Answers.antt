@@ -5,7 +5,7 @@ use Rattle.proc_grammar.specs.Grammar.{behind_local}
 use Rattle.proc_grammar.specs.Lexemes.{a_local}
 use Rattle.proc_grammar.specs.Reading.{full, next_local}
 use Rattle.proc_parse.specs.Answers.{AreFew}
-use Rattle.proc_parse.proofs.Steps.{full_is, all_begin, all_step, all_fault, all_end}
+use Rattle.proc_parse.proofs.Steps.{stored_few, all_begin, all_step, all_fault, all_end}
 use Rattle.proc_parse.proofs.procs.locals.Goals as goal
 
 pub loop-alloc-init : goal.loop-alloc-init
@@ -22,19 +22,14 @@ returns-in_err-next g c =
     rw (p.1, p.2) (all_fault (a_local g.L.Language.made.tokens) (behind_local g.L.Language.made)
     (next_local g.L.Language.made true full) full c.loop-alloc.locals.items
     c.loop-alloc.used c.loop-alloc.tokens c.in_err-next.field-0.0 _ c.loop-alloc.invariant.told
-    (grind (arith, full_is, c.loop-alloc.locals.ok, c.loop-alloc.locals.small))
+    (stored_few c.loop-alloc.locals.ok c.loop-alloc.locals.small)
     (sym c.starts_local.ensures ∙ c.loop-alloc-test.true) c.in_err-next.ensures.exact)
 
 pub loop-alloc-smaller : goal.loop-alloc-smaller
 loop-alloc-smaller g c =
     let len = ap length c.in_ok-push.ensures.items ∙ length-append c.loop-alloc.locals.items
     (c.in_ok-next.next ∷ []) in
-    let few : length c.loop-alloc.locals.items < full = grind (
-      arith,
-      full_is,
-      c.loop-alloc.locals.ok,
-      c.loop-alloc.locals.small,
-    ) in
+    let few : length c.loop-alloc.locals.items < full = stored_few c.loop-alloc.locals.ok c.loop-alloc.locals.small in
     omega (arith, len, few)
 
 pub loop-alloc-preserved : goal.loop-alloc-preserved
@@ -45,7 +40,7 @@ loop-alloc-preserved g c =
           (next_local g.L.Language.made true full) full
           c.loop-alloc.locals.items c.loop-alloc.used c.loop-alloc.tokens c.in_ok-next.next
           c.local.new.tokens _ c.push.new.self.items _ c.loop-alloc.invariant.told
-          (grind (arith, full_is, c.loop-alloc.locals.ok, c.loop-alloc.locals.small))
+          (stored_few c.loop-alloc.locals.ok c.loop-alloc.locals.small)
           (sym c.starts_local.ensures ∙ c.loop-alloc-test.true) c.in_ok-next.ensures.exact
           c.in_ok-push.ensures.items takes;
       few = subst (AreFew MOST_LOCALS) (sym takes) c.in_ok-next.ensures.few;

@@ -19,8 +19,8 @@ returns-in_err-name-clause-exact g c =
 pub returns-in_err-sign-clause-exact : goal.returns-in_err-sign-clause-exact
 returns-in_err-sign-clause-exact g c =
     let p = err_from_is_err_and c.from_residual-in_err-sign.result c.from_residual-in_err-sign.ensures.1 in
-    rw (p.1, p.2) (fails_on _ _ _ (read_on _ (read_on _ (local_is g.L.Language.made c.args.count c.args.tokens.now)
-    c.in_ok-fitting_word.ensures.exact) c.in_ok-name.ensures) c.in_err-sign.ensures)
+    rw (p.1, p.2) (fails_on _ _ _ (read_on _ (read_on _ (local_is g.L.Language.made c.args.count
+    c.args.tokens.now) c.in_ok-fitting_word.ensures.exact) c.in_ok-name.ensures) c.in_err-sign.ensures)
 
 pub returns-clause-exact : goal.returns-clause-exact
 returns-clause-exact g c =

@@ -8,7 +8,7 @@ use Rattle.proc_grammar.specs.Grammar.{behind_param, none_taken, Taken}
 use Rattle.proc_grammar.specs.Lexemes.{sign, comma}
 use Rattle.proc_grammar.specs.Reading.{full, another_param, next_param, some_params}
 use Rattle.proc_parse.specs.Answers.{AreFew}
-use Rattle.proc_parse.proofs.Steps.{full_is, some_begin, some_step, some_fault, was_taken}
+use Rattle.proc_parse.proofs.Steps.{stored_few, some_begin, some_step, some_fault, was_taken}
 use Rattle.proc_parse.proofs.Steps.{listed_fault, listed_open, listed_shut}
 use Rattle.proc_parse.proofs.procs.some_params.Goals as goal
 
@@ -37,12 +37,7 @@ pub loop-params-smaller : goal.loop-params-smaller
 loop-params-smaller g c =
     let len = ap length c.in_ok-push.ensures.items ∙ length-append c.loop-params.params.items
     (c.in_ok-next.next ∷ []) in
-    let few : length c.loop-params.params.items < full = grind (
-      arith,
-      full_is,
-      c.loop-params.params.ok,
-      c.loop-params.params.small,
-    ) in
+    let few : length c.loop-params.params.items < full = stored_few c.loop-params.params.ok c.loop-params.params.small in
     omega (arith, len, few)
 
 pub loop-params-preserved : goal.loop-params-preserved
@@ -51,12 +46,7 @@ loop-params-preserved g c =
     let item = next_param g.L.Language.made true full in
     let next = c.in_ok-next.next in
     let takes = c.behind_param-used.ensures in
-    let few : length c.loop-params.params.items < full = grind (
-      arith,
-      full_is,
-      c.loop-params.params.ok,
-      c.loop-params.params.small,
-    ) in
+    let few : length c.loop-params.params.items < full = stored_few c.loop-params.params.ok c.loop-params.params.small in
     let there = was_taken (sign comma) c.param.new.tokens c.take_sign.new.self c.take_sign.result
     c.take_sign.ensures.value (c.is_none.ensures ∙ ap not c.if-is_none.false) c.take_sign.ensures.left in
     record {

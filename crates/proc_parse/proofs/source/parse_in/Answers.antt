@@ -6,7 +6,7 @@ use Rattle.proc_grammar.specs.Lexemes.{lexemes}
 use Rattle.proc_grammar.specs.Reading.{full, parsed}
 use Rattle.proc_parse.specs.Texts.{parsed_scan}
 use Rattle.proc_parse.proofs.Texts.{answer_found, answer_only, answer_fails, answer_stops}
-use Rattle.proc_parse.proofs.Steps.{full_is}
+use Rattle.proc_parse.proofs.Steps.{stored_few}
 use Rattle.proc_parse.proofs.source.parse_in.Goals as goal
 
 pub returns : goal.returns
@@ -18,12 +18,8 @@ returns g c =
     (parsed made full (lexemes text l) (length text))) c.as_slice.ensures.value
     c.parse_scanned.ensures in
     let has = c.in_ok-tokens.ensures.found in
-    let short : length tokens ≤ full = grind (
-      arith,
-      full_is,
-      c.in_ok-tokens.tokens.ok,
-      c.in_ok-tokens.tokens.small,
-    ) in
+    let few = stored_few c.in_ok-tokens.tokens.ok c.in_ok-tokens.tokens.small in
+    let short : length tokens ≤ full = omega (arith, few) in
     let one : (others : List Token) → HasTokens text others → tokens ≡ others = λ others there.
     elim (c.in_ok-tokens.ensures.only others there) [ inl e ↦ e | inr e ↦ absurd cc ] in
     record {

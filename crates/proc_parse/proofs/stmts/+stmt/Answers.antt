@@ -8,7 +8,7 @@ use Rattle.proc_grammar.specs.Lexemes.{a_start}
 use Rattle.proc_grammar.specs.Makes.{TokenActions}
 use Rattle.proc_grammar.specs.Reader.{case_token, Input}
 use Rattle.proc_grammar.specs.declared.fault.ParseFault.{ParseFault}
-use Rattle.proc_parse.proofs.Steps.{full_is, all_begin, all_step, all_fault, all_end, block_bad}
+use Rattle.proc_parse.proofs.Steps.{stored_few, all_begin, all_step, all_fault, all_end, block_bad}
 use Rattle.proc_parse.proofs.Steps.{block_open, block_shut}
 use Rattle.proc_parse.proofs.Steps.{of_token, of_none, read_on, fails_on}
 use Rattle.proc_parse.proofs.Parts.{if_alone, other_bad, if_other}
@@ -56,19 +56,14 @@ stmts-returns-in_err-next g n c =
     (inner_stmts g.L.Language.made true full c.args.room)) full c.loop-alloc.stmts.items tt
     c.loop-alloc.tokens
     c.in_err-next.field-0.0 _ c.loop-alloc.invariant
-    (grind (arith, full_is, c.loop-alloc.stmts.ok, c.loop-alloc.stmts.small))
+    (stored_few c.loop-alloc.stmts.ok c.loop-alloc.stmts.small)
     (sym c.starts_stmt.ensures ∙ c.loop-alloc-test.true) c.in_err-next.ensures)
 
 pub stmts-loop-alloc-smaller : goal.stmts-loop-alloc-smaller
 stmts-loop-alloc-smaller g n c =
     let len = ap length c.in_ok-push.ensures.items ∙ length-append c.loop-alloc.stmts.items
     (c.in_ok-next.next ∷ []) in
-    let few : length c.loop-alloc.stmts.items < full = grind (
-      arith,
-      full_is,
-      c.loop-alloc.stmts.ok,
-      c.loop-alloc.stmts.small,
-    ) in
+    let few = stored_few c.loop-alloc.stmts.ok c.loop-alloc.stmts.small in
     omega (arith, len, few)
 
 pub stmts-loop-alloc-preserved : goal.stmts-loop-alloc-preserved
@@ -78,7 +73,7 @@ stmts-loop-alloc-preserved g n c =
     (inner_stmts g.L.Language.made true full c.args.room)) full c.loop-alloc.stmts.items tt
     c.loop-alloc.tokens
     c.in_ok-next.next c.stmt.new.tokens _ c.push.new.self.items tt c.loop-alloc.invariant
-    (grind (arith, full_is, c.loop-alloc.stmts.ok, c.loop-alloc.stmts.small))
+    (stored_few c.loop-alloc.stmts.ok c.loop-alloc.stmts.small)
     (sym c.starts_stmt.ensures ∙ c.loop-alloc-test.true) c.in_ok-next.ensures
     c.in_ok-push.ensures.items refl
 

@@ -21,8 +21,10 @@ returns-in_err-sign g c =
 pub returns-in_err-value : goal.returns-in_err-value
 unfolding set_at_behind next_index bracketed
 returns-in_err-value g c =
-    let p = err_from_is_err_and c.from_residual-in_err-value.result c.from_residual-in_err-value.ensures.1 in
-    rw (p.1, p.2) (fails_on _ _ _ (read_on _ (read_on _ refl c.in_ok-index.ensures.exact) c.in_ok-sign.ensures ∙
+    let p = err_from_is_err_and c.from_residual-in_err-value.result
+    c.from_residual-in_err-value.ensures.1 in
+    rw (p.1, p.2) (fails_on _ _ _ (read_on _ (read_on _ refl c.in_ok-index.ensures.exact)
+    c.in_ok-sign.ensures ∙
     ended_by g.L.Language.made (λ end e. g.L.Language.made.set_at c.args.name.at end c.args.name
     c.in_ok-index.index e)
     c.args.room c.sign.new.self) c.in_err-value.ensures)
