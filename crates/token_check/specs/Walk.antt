@@ -105,6 +105,12 @@ module _ (tokens : List Name) where
     block_walk (stmt s b) None = Err (fault.Dead (first_place s))
     block_walk (stmt s b) (Some full) = walk_on (stmt_walk s full) (λ after. block_walk b after)
 
+  -- the sets after a condition, and after what it guards
+  abbrev pub guarded_walk : Expr → Block → Full → Walked (Full × FullAfter)
+  guarded_walk c a full =
+      walk_on (expr_walk c full) (λ tested.
+      walk_on (block_walk a (Some tested)) (λ after. Ok (tested, after)))
+
 -- a procedure begins with its token parameters full
 abbrev pub at_first : TokenProc → Full
 at_first p = params_full p.params 0 (none_full MOST_TOKENS)

@@ -4,7 +4,7 @@ ghost use Rattle.token_language.specs.View.{args_of};
 ghost use Rattle.token_language.specs.StmtView.{block_of};
 ghost use Rattle.token_language.specs.Tokens.{tokens_of};
 ghost use Rattle.token_check.specs.Walk.{expr_walk, args_walk, stmt_walk, block_walk, proc_walk, procs_walk};
-ghost use Rattle.token_check.specs.Walk.{module_walk, walk_on};
+ghost use Rattle.token_check.specs.Walk.{module_walk, walk_on, guarded_walk};
 ghost use Rattle.token_check.specs.Typing.{IsTyped};
 
 use crate::fault::TokenFault;
@@ -83,6 +83,21 @@ fn goes_on(walked: Result<Full, TokenFault>) -> Result<Option<Full>, TokenFault>
     Ok(Some(walked?))
 }
 
+// The tokens after a condition, and after what it guards.
+#[cycle(stmt)]
+fn guarded(
+    p: &TokenProc,
+    c: &TokenExpr,
+    body: &[TokenStmt],
+    full: Full,
+) -> Result<(Full, Option<Full>), TokenFault>
+    ensures { result ≡ guarded_walk (tokens_of p.now) c.now (block_of body.now) full }
+{
+    let tested = expr(p, c, full)?;
+    let after = block(p, body, Some(tested))?;
+    Ok((tested, after))
+}
+
 #[cycle(stmt)]
 fn statement(p: &TokenProc, s: &TokenStmt, full: Full) -> Result<Option<Full>, TokenFault>
     ensures { result ≡ stmt_walk (tokens_of p.now) s.now full }
@@ -95,19 +110,16 @@ fn statement(p: &TokenProc, s: &TokenStmt, full: Full) -> Result<Option<Full>, T
         }
         TokenStmtKind::Call(call) => goes_on(args(p, call.args.as_slice(), full)),
         TokenStmtKind::If(c, body, None) => {
-            let full = expr(p, c, full)?;
-            let after = block(p, body.as_slice(), Some(full))?;
-            joined(s.end, after, Some(full))
+            let (tested, after) = guarded(p, c, body.as_slice(), full)?;
+            joined(s.end, after, Some(tested))
         }
         TokenStmtKind::If(c, body, Some(other)) => {
-            let full = expr(p, c, full)?;
-            let after = block(p, body.as_slice(), Some(full))?;
-            let after_other = block(p, other.as_slice(), Some(full))?;
+            let (tested, after) = guarded(p, c, body.as_slice(), full)?;
+            let after_other = block(p, other.as_slice(), Some(tested))?;
             joined(s.end, after, after_other)
         }
         TokenStmtKind::While(c, body) => {
-            let tested = expr(p, c, full)?;
-            let after = block(p, body.as_slice(), Some(tested))?;
+            let (tested, after) = guarded(p, c, body.as_slice(), full)?;
             comes_back(s.end, full, tested, after)
         }
         TokenStmtKind::Return(e) | TokenStmtKind::Halt(e) => {

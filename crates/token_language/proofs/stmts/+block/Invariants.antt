@@ -12,7 +12,8 @@ abbrev pub decreases-guarded : goal.decreases-guarded
 decreases-guarded l = 3 * block_size (token_block_of l.body.now) + 1
 
 abbrev pub decreases-branched : goal.decreases-branched
-decreases-branched l = 3 * (block_size (token_block_of l.body.now) + block_size (token_block_of l.other.now)) + 2
+decreases-branched l =
+    3 * (block_size (token_block_of l.body.now) + block_size (token_block_of l.other.now)) + 2
 
 abbrev pub decreases-block : goal.decreases-block
 decreases-block l = 3 * block_size (token_block_of l.stmts.now)
