@@ -1,24 +1,5 @@
 -- What the grammar reads step by step, read in parts.
-use Rattle.std.proofs.Common.{
-  ◌<◌,
-  ◌≡◌,
-  ◌∙◌,
-  Bool,
-  true,
-  false,
-  ℕ,
-  List,
-  ◌∷◌,
-  Option,
-  Some,
-  None,
-  Result,
-  Ok,
-  Err,
-  refl,
-  sym,
-  ap,
-}
+use Rattle.std.proofs.Common.{◌<◌, ◌≡◌, ◌∙◌, Bool, true, false, ℕ, List, Option, Some, None, Result, Ok, Err, refl, sym, ap}
 use Rattle.std.specs.Prelude.{nat_lt, codes, option_map, sum_by, is_some}
 use Rattle.std.proofs.lemmas.Bool.{lt-ltb}
 use Rattle.readers.specs.Readers.{◌>>=◌, goes_on, done, holds}

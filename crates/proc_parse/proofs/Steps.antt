@@ -3,7 +3,7 @@ use Rattle.std.proofs.Common.{◌≡◌, Bool, true, false, ℕ, zero, suc, ◌+
 use Rattle.std.proofs.Common.{◌∷◌, ◌++◌, length, Option, Some, None, Result, Ok, Err, refl, sym, ap, subst}
 use Rattle.std.proofs.Common.{◌∙◌, append_assoc, arith, length-append, append-nil}
 use Rattle.std.proofs.lemmas.Bool.{lt-ltb}
-use Rattle.std.specs.Prelude.{nat_lt, codes, is_some, IfOk, IfErr}
+use Rattle.std.specs.Prelude.{nat_lt, is_some, IfOk, IfErr}
 use Rattle.proc_language.specs.declared.TheConstants.{MOST_TERMS, MOST_REGISTERS}
 use Rattle.proc_language.specs.declared.tree.Name.{Name}
 use Rattle.proc_language.specs.declared.tree.Op.{Op}
@@ -14,7 +14,7 @@ use Rattle.phrases.proofs.Offers.{many_stop, many_go, more_behind}
 use Rattle.proc_grammar.specs.declared.fault.ParseFault.{ParseFault}
 use Rattle.proc_grammar.specs.declared.fault.ParseFault.TheVariants.{Scan, Expected, Range, TooMany, NoMemory}
 use Rattle.proc_grammar.specs.Fault.{Fails}
-use Rattle.proc_grammar.specs.Lexemes.{Meaning, adding, sign, square, round, end_round, end_square, a_proc}
+use Rattle.proc_grammar.specs.Lexemes.{Meaning, adding, sign, square, round, end_round, end_square}
 use Rattle.proc_grammar.specs.Lexemes.{curly, end_curly}
 use Rattle.proc_grammar.specs.Lexemes.{Lexeme, word, token_word, words_of}
 use Rattle.proc_grammar.specs.Makes.{Actions}

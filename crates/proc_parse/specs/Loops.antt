@@ -1,15 +1,14 @@
 -- What is read after what was read before.
-use Rattle.std.specs.Prelude.{ℕ, ◌-◌, nat_lt, Bool, true, codes, length, List, [], ◌∷◌, ◌++◌, Result}
+use Rattle.std.specs.Prelude.{ℕ, ◌-◌, nat_lt, Bool, true, length, List, ◌∷◌, ◌++◌, Result}
 use Rattle.readers.specs.Readers.{◌>>=◌, goes_on, done, holds}
-use Rattle.proc_language.specs.declared.tree.Name.{Name}
 use Rattle.proc_grammar.specs.declared.fault.ParseFault.TheVariants.{TooMany}
 use Rattle.proc_grammar.specs.declared.fault.ParseFault.{ParseFault}
-use Rattle.proc_grammar.specs.Lexemes.{Meaning, adding, sign, end_round, a_proc, word, words_of}
+use Rattle.proc_grammar.specs.Lexemes.{Meaning, adding, sign, end_round, a_proc}
 use Rattle.proc_grammar.specs.Makes.{Actions}
 use Rattle.proc_grammar.specs.Grammar.{one_more, sum_of, room_in_body}
 use Rattle.proc_grammar.specs.Reader.{Input, Reader, one, many}
-use Rattle.proc_grammar.specs.Reading.{full, another_term, inner_expr, next_name}
-use Rattle.proc_grammar.specs.Reading.{next_proc, next_header, next_import, next_global}
+use Rattle.proc_grammar.specs.Reading.{full, another_term, inner_expr}
+use Rattle.proc_grammar.specs.Reading.{next_proc}
 
 -- items after others
 unfoldable pub with_front : {A : Type 0} → List A → Result (List A × Input) ParseFault

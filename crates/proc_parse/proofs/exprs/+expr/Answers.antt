@@ -195,7 +195,7 @@ pub args-loop-args-smaller : goal.args-loop-args-smaller
 args-loop-args-smaller g n c =
     let len = ap length c.in_ok-push.ensures.items ∙ length-append c.loop-args.args.items
     (c.in_ok-next.next ∷ []) in
-    let few : length c.loop-args.args.items < full = stored_few c.loop-args.args.ok c.loop-args.args.small in
+    let few = stored_few c.loop-args.args.ok c.loop-args.args.small in
     omega (arith, len, few)
 
 pub args-loop-args-preserved : goal.args-loop-args-preserved
@@ -204,7 +204,7 @@ args-loop-args-preserved g n c =
     let inner = inner_expr g.L.Language.made true full c.args.room in
     let another = another_arg g.L.Language.made true full c.args.room inner in
     let item = next_arg g.L.Language.made true full c.args.room inner in
-    let few : length c.loop-args.args.items < full = stored_few c.loop-args.args.ok c.loop-args.args.small in
+    let few = stored_few c.loop-args.args.ok c.loop-args.args.small in
     let takes = c.registers_of-used.ensures in
     let there = was_taken (sign comma) c.arg.new.tokens c.take_sign-in-loop-args.new.self
     c.take_sign-in-loop-args.result c.take_sign-in-loop-args.ensures.value

@@ -1,4 +1,4 @@
-use Rattle.std.proofs.Common.{◌∙◌, ◌<◌, sym, ap, arith, true, length, [], ◌∷◌, length-append, subst}
+use Rattle.std.proofs.Common.{◌∙◌, sym, ap, arith, true, length, [], ◌∷◌, length-append, subst}
 use Rattle.std.proofs.lemmas.Result.{err_from_is_err_and}
 use Rattle.proc_language.specs.declared.TheConstants.{MOST_LOCALS}
 use Rattle.proc_grammar.specs.Grammar.{behind_local}
@@ -29,7 +29,7 @@ pub loop-alloc-smaller : goal.loop-alloc-smaller
 loop-alloc-smaller g c =
     let len = ap length c.in_ok-push.ensures.items ∙ length-append c.loop-alloc.locals.items
     (c.in_ok-next.next ∷ []) in
-    let few : length c.loop-alloc.locals.items < full = stored_few c.loop-alloc.locals.ok c.loop-alloc.locals.small in
+    let few = stored_few c.loop-alloc.locals.ok c.loop-alloc.locals.small in
     omega (arith, len, few)
 
 pub loop-alloc-preserved : goal.loop-alloc-preserved

@@ -1,4 +1,4 @@
-use Rattle.std.proofs.Common.{◌∙◌, refl, sym, ap, Ok}
+use Rattle.std.proofs.Common.{refl}
 use Rattle.std.proofs.lemmas.Result.{err_from_is_err_and}
 use Rattle.proc_parse.specs.Parts.{proc_inner}
 use Rattle.proc_parse.proofs.Steps.{read_on, fails_on}

@@ -1,4 +1,4 @@
-use Rattle.std.proofs.Common.{◌∙◌, ◌<◌, ◌+◌, refl, sym, ap, subst, arith}
+use Rattle.std.proofs.Common.{◌∙◌, ◌+◌, refl, sym, ap, subst, arith}
 use Rattle.std.proofs.Common.{true, length, [], ◌∷◌, length-append}
 use Rattle.std.specs.Prelude.{not, sum_by}
 use Rattle.std.proofs.lemmas.List.Sums.{sum_by_push}
@@ -37,7 +37,7 @@ pub loop-params-smaller : goal.loop-params-smaller
 loop-params-smaller g c =
     let len = ap length c.in_ok-push.ensures.items ∙ length-append c.loop-params.params.items
     (c.in_ok-next.next ∷ []) in
-    let few : length c.loop-params.params.items < full = stored_few c.loop-params.params.ok c.loop-params.params.small in
+    let few = stored_few c.loop-params.params.ok c.loop-params.params.small in
     omega (arith, len, few)
 
 pub loop-params-preserved : goal.loop-params-preserved
@@ -46,7 +46,7 @@ loop-params-preserved g c =
     let item = next_param g.L.Language.made true full in
     let next = c.in_ok-next.next in
     let takes = c.behind_param-used.ensures in
-    let few : length c.loop-params.params.items < full = stored_few c.loop-params.params.ok c.loop-params.params.small in
+    let few = stored_few c.loop-params.params.ok c.loop-params.params.small in
     let there = was_taken (sign comma) c.param.new.tokens c.take_sign.new.self c.take_sign.result
     c.take_sign.ensures.value (c.is_none.ensures ∙ ap not c.if-is_none.false) c.take_sign.ensures.left in
     record {
