@@ -11,7 +11,7 @@ use Rattle.proc_grammar.specs.declared.fault.ParseFault.{ParseFault}
 use Rattle.proc_grammar.specs.declared.fault.ParseFault.TheVariants.{TooMany}
 use Rattle.proc_grammar.specs.Fault.{Fails}
 use Rattle.proc_grammar.specs.Lexemes.{word, words_of, sign, dot, slash, semicolon, curly, end_curly}
-use Rattle.proc_grammar.specs.Lexemes.{a_local, a_proc, comparing, assign, square, round}
+use Rattle.proc_grammar.specs.Lexemes.{a_local, a_proc, comparing, assign, square, round, end_square}
 use Rattle.proc_grammar.specs.Makes.{Actions, TokenActions}
 use Rattle.proc_grammar.specs.Grammar.{is_arity, is_return_count, behind_local, one_more, operated}
 use Rattle.proc_grammar.specs.Grammar.{room_in_body}
@@ -20,11 +20,11 @@ use Rattle.proc_grammar.specs.Reading.{full, next_name, next_num, next_length, n
 use Rattle.proc_grammar.specs.Reading.{next_movable, next_import, next_global, next_header, next_local}
 use Rattle.proc_grammar.specs.Reading.{next_params, next_locals, next_expr, next_stmts, next_proc}
 use Rattle.proc_grammar.specs.Reading.{plain_param, token_param, arity_behind, plain_local, token_local}
-use Rattle.proc_grammar.specs.Reading.{name_stmt, behind_target, set_behind, set_at_behind, calls_behind}
+use Rattle.proc_grammar.specs.Reading.{next_index, name_stmt, behind_target, set_behind, set_at_behind, calls_behind}
 use Rattle.proc_grammar.specs.Reading.{next_block, inner_stmts, if_behind, next_else, else_behind}
 use Rattle.proc_grammar.specs.Reading.{next_sum, inner_expr, expr_with, next_comparison, compared_behind}
 use Rattle.proc_grammar.specs.Reading.{shared_behind, own_behind, proc_behind, next_module}
-use Rattle.proc_parse.specs.Loops.{item_on, procs_list}
+use Rattle.proc_parse.specs.Loops.{item_on, procs_list, bracketed}
 use Rattle.proc_parse.specs.Parts.{fitting_word, fitting_name, header_numbers, imported, global_form}
 use Rattle.proc_parse.specs.Parts.{ended_value, proc_inner}
 use Rattle.proc_parse.specs.Answers.{left_by}
@@ -144,6 +144,15 @@ module _ {E A S P V R M : Type 0} (T : Actions E A S P V R M) where
   ended_by made room i = sym (
       within (next_expr T true full room true i) _ _ (λ e i.
       within (one (sign semicolon) i) _ _ (λ end i. refl)))
+
+  pub set_at_is : (room : ℕ) (x : Name) (at : ℕ) (i : Input)
+      → set_at_behind T true full room (inner_stmts T true full room) x at i
+      ≡ goes_on (bracketed T room true end_square at i) (λ index. one (sign assign) >>= λ u.
+      ended_value T room >>= λ v. done (T.set_at x.at v.1 x index v.0))
+  unfolding set_at_behind next_index bracketed
+  set_at_is room x at i =
+      same_on (bracketed T room true end_square at i) (λ index i.
+      same_on (one (sign assign) i) (λ u i. ended_by (λ end e. T.set_at x.at end x index e) room i))
 
   -- a statement that begins with this name, by what stands behind it
   module _ (room : ℕ) (i j : Input) (x : Name) (named : next_name (words_of T.tokens) true i ≡ Ok (x, j))

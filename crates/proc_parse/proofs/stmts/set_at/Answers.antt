@@ -1,39 +1,31 @@
-use Rattle.std.proofs.Common.{◌∙◌, refl, sym, ap, Ok}
+use Rattle.std.proofs.Common.{◌∙◌, sym, ap, Ok}
 use Rattle.std.proofs.lemmas.Result.{err_from_is_err_and}
-use Rattle.proc_grammar.specs.Reading.{set_at_behind, next_index}
-use Rattle.proc_parse.specs.Loops.{bracketed}
 use Rattle.proc_parse.proofs.Steps.{read_on, fails_on}
-use Rattle.proc_parse.proofs.Parts.{ended_by}
+use Rattle.proc_parse.proofs.Parts.{set_at_is}
 use Rattle.proc_parse.proofs.stmts.set_at.Goals as goal
 
 pub returns-in_err-index : goal.returns-in_err-index
-unfolding set_at_behind next_index bracketed
 returns-in_err-index g c =
     let p = err_from_is_err_and c.from_residual.result c.from_residual.ensures.1 in
-    rw (p.1, p.2) (fails_on _ _ _ refl c.in_err-index.ensures.exact)
+    rw (p.1, p.2) (fails_on _ _ _ (set_at_is g.L.Language.made c.args.room c.args.name
+    c.args.bracket c.args.tokens.now) c.in_err-index.ensures.exact)
 
 pub returns-in_err-sign : goal.returns-in_err-sign
-unfolding set_at_behind next_index bracketed
 returns-in_err-sign g c =
     let p = err_from_is_err_and c.from_residual-in_err-sign.result c.from_residual-in_err-sign.ensures.1 in
-    rw (p.1, p.2) (fails_on _ _ _ (read_on _ refl c.in_ok-index.ensures.exact) c.in_err-sign.ensures)
+    rw (p.1, p.2) (fails_on _ _ _ (read_on _ (set_at_is g.L.Language.made c.args.room c.args.name
+    c.args.bracket c.args.tokens.now) c.in_ok-index.ensures.exact) c.in_err-sign.ensures)
 
 pub returns-in_err-value : goal.returns-in_err-value
-unfolding set_at_behind next_index bracketed
 returns-in_err-value g c =
     let p = err_from_is_err_and c.from_residual-in_err-value.result
     c.from_residual-in_err-value.ensures.1 in
-    rw (p.1, p.2) (fails_on _ _ _ (read_on _ (read_on _ refl c.in_ok-index.ensures.exact)
-    c.in_ok-sign.ensures ∙
-    ended_by g.L.Language.made (λ end e. g.L.Language.made.set_at c.args.name.at end c.args.name
-    c.in_ok-index.index e)
-    c.args.room c.sign.new.self) c.in_err-value.ensures)
+    rw (p.1, p.2) (fails_on _ _ _ (read_on _ (read_on _ (set_at_is g.L.Language.made c.args.room
+    c.args.name c.args.bracket c.args.tokens.now) c.in_ok-index.ensures.exact)
+    c.in_ok-sign.ensures) c.in_err-value.ensures)
 
 pub returns : goal.returns
-unfolding set_at_behind next_index bracketed
 returns g c =
-    read_on _ (read_on _ (read_on _ refl c.in_ok-index.ensures.exact) c.in_ok-sign.ensures ∙ ended_by
-    g.L.Language.made (λ end e. g.L.Language.made.set_at c.args.name.at end c.args.name
-    c.in_ok-index.index e)
-    c.args.room c.sign.new.self)
-    c.in_ok-value.ensures ∙ ap (λ s. Ok (s, c.ended_value.new.tokens)) (sym c.set_at_of.ensures)
+    read_on _ (read_on _ (read_on _ (set_at_is g.L.Language.made c.args.room c.args.name
+    c.args.bracket c.args.tokens.now) c.in_ok-index.ensures.exact) c.in_ok-sign.ensures) c.in_ok-value.ensures
+    ∙ ap (λ s. Ok (s, c.ended_value.new.tokens)) (sym c.set_at_of.ensures)
