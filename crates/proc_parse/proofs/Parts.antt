@@ -1,5 +1,6 @@
 -- What the grammar reads step by step, read in parts.
-use Rattle.std.proofs.Common.{◌<◌, ◌≡◌, ◌∙◌, Bool, true, false, ℕ, List, Option, Some, None, Result, Ok, Err, refl, sym, ap}
+use Rattle.std.proofs.Common.{◌<◌, ◌≡◌, ◌∙◌, Bool, true, false, ℕ, List}
+use Rattle.std.proofs.Common.{Option, Some, None, Result, Ok, Err, refl, sym, ap}
 use Rattle.std.specs.Prelude.{nat_lt, codes, option_map, sum_by, is_some}
 use Rattle.std.proofs.lemmas.Bool.{lt-ltb}
 use Rattle.readers.specs.Readers.{◌>>=◌, goes_on, done, holds}
@@ -20,7 +21,8 @@ use Rattle.proc_grammar.specs.Reading.{full, next_name, next_num, next_length, n
 use Rattle.proc_grammar.specs.Reading.{next_movable, next_import, next_global, next_header, next_local}
 use Rattle.proc_grammar.specs.Reading.{next_params, next_locals, next_expr, next_stmts, next_proc}
 use Rattle.proc_grammar.specs.Reading.{plain_param, token_param, arity_behind, plain_local, token_local}
-use Rattle.proc_grammar.specs.Reading.{next_index, name_stmt, behind_target, set_behind, set_at_behind, calls_behind}
+use Rattle.proc_grammar.specs.Reading.{next_index, name_stmt, behind_target}
+use Rattle.proc_grammar.specs.Reading.{set_behind, set_at_behind, calls_behind}
 use Rattle.proc_grammar.specs.Reading.{next_block, inner_stmts, if_behind, next_else, else_behind}
 use Rattle.proc_grammar.specs.Reading.{next_sum, inner_expr, expr_with, next_comparison, compared_behind}
 use Rattle.proc_grammar.specs.Reading.{shared_behind, own_behind, proc_behind, next_module}
@@ -112,7 +114,8 @@ module _ {E A S P V R M : Type 0} (T : Actions E A S P V R M) where
         → expr_with T true full room (inner_expr T true full room) fits i ≡ Ok (left, k)
     unfolding expr_with next_comparison
     sum_alone none same = read_on _ refl summed
-        ∙ case_none comparing (compared_behind T true full room (inner_expr T true full room) left) (done left)
+        ∙ case_none comparing (compared_behind T true full room (inner_expr T true full room) left)
+        (done left)
         j k none same
 
     module _ (o : Op) (there : next_means comparing j ≡ Some o) (past : k ≡ behind j) where
@@ -121,7 +124,8 @@ module _ {E A S P V R M : Type 0} (T : Actions E A S P V R M) where
           (λ right. done (operated T o left right))
       unfolding expr_with next_comparison
       right_on = read_on _ refl summed
-          ∙ case_there comparing (compared_behind T true full room (inner_expr T true full room) left) (done left)
+          ∙ case_there comparing (compared_behind T true full room (inner_expr T true full room) left)
+          (done left)
           j k o there past
 
       pub right_bad : (f : ParseFault)
@@ -200,13 +204,15 @@ module _ {E A S P V R M : Type 0} (T : Actions E A S P V R M) where
         next_else T true full room inner at x b.0 b.1)) tested
         ∙ ap (λ q. goes_on q (λ b. next_else T true full room inner at e b.0 b.1)) guarded
 
-    module _ (l : Input) (o : Option ℕ) (means : o ≡ next_means (word (codes "else")) k) (left : l ≡ left_by o k)
+    module _ (l : Input) (o : Option ℕ) (means : o ≡ next_means (word (codes "else")) k)
+        (left : l ≡ left_by o k)
       where
         pub if_alone : (s : S) → is_some o ≡ false → s ≡ T.if_then at end e body
             → if_behind T true full room (inner_stmts T true full room) at i ≡ Ok (s, l)
         unfolding next_else
         if_alone s none made = if_on
-            ∙ case_left (word (codes "else")) (else_behind T true full room (inner_stmts T true full room) at e body)
+            ∙ case_left (word (codes "else")) (else_behind T true full room
+            (inner_stmts T true full room) at e body)
             (done (T.if_then at end e body)) k l o means none left ∙ ap (λ x. Ok (x, l)) (sym made)
 
         other_on : is_some o ≡ true → if_behind T true full room (inner_stmts T true full room) at i
@@ -214,7 +220,8 @@ module _ {E A S P V R M : Type 0} (T : Actions E A S P V R M) where
             (λ b. done (T.if_else at b.1 e body b.0))
         unfolding next_else
         other_on there = if_on
-            ∙ case_taken (word (codes "else")) (else_behind T true full room (inner_stmts T true full room) at e body)
+            ∙ case_taken (word (codes "else")) (else_behind T true full room
+            (inner_stmts T true full room) at e body)
             (done (T.if_then at end e body)) k l o means there left
 
         pub other_bad : (f : ParseFault) → is_some o ≡ true
@@ -226,7 +233,8 @@ module _ {E A S P V R M : Type 0} (T : Actions E A S P V R M) where
             → next_block T true full room (inner_stmts T true full room) l ≡ Ok ((other, last), m)
             → s ≡ T.if_else at last e body other
             → if_behind T true full room (inner_stmts T true full room) at i ≡ Ok (s, m)
-        if_other other last m s there reads made = read_on _ (other_on there) reads ∙ ap (λ x. Ok (x, m)) (sym made)
+        if_other other last m s there reads made = read_on _ (other_on there) reads
+            ∙ ap (λ x. Ok (x, m)) (sym made)
 
   -- ---- parameters and locals
 

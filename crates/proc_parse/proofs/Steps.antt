@@ -59,7 +59,8 @@ fails_map NoMemory read all h e = tt
 
 -- the first was read
 pub read_on : {A B : Type 0} {q : Result (A × Input) ParseFault} (f : A → Reader B)
-    {all : Result (B × Input) ParseFault} {x : A} {j : Input} → all ≡ goes_on q f → q ≡ Ok (x, j) → all ≡ f x j
+    {all : Result (B × Input) ParseFault} {x : A} {j : Input} → all ≡ goes_on q f → q ≡ Ok (x, j)
+    → all ≡ f x j
 read_on f first reads = first ∙ ap (λ p. goes_on p f) reads
 
 -- it wasn't

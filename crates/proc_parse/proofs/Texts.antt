@@ -35,14 +35,17 @@ module _ (tokens kept : List Token) (i : ℕ) (d : Token) (lt : i < length token
   here = rw (add-one, drop-cons tokens i d)
 
   split_at : (b : Bool) → is_line_end (get_or tokens i d).kind ≡ b → kept
-      ++ cond b (proper (drop (i + 1) tokens)) (get_or tokens i d ∷ proper (drop (i + 1) tokens)) ≡ proper tokens
+      ++ cond b (proper (drop (i + 1) tokens)) (get_or tokens i d ∷ proper (drop (i + 1) tokens))
+      ≡ proper tokens
   split_at b is =
-      ap (λ e. kept ++ cond e (proper (drop (i + 1) tokens)) (get_or tokens i d ∷ proper (drop (i + 1) tokens)))
+      ap (λ e. kept ++ cond e (proper (drop (i + 1) tokens)) (get_or tokens i d ∷ proper (drop
+      (i + 1) tokens)))
       (sym is) ∙ ap (λ l. kept ++ proper l) (sym here) ∙ told
 
   pub token_kept : is_line_end (get_or tokens i d).kind ≡ false
       → (kept ++ get_or tokens i d ∷ []) ++ proper (drop (i + 1) tokens) ≡ proper tokens
-  token_kept is = append_assoc kept (get_or tokens i d ∷ []) (proper (drop (i + 1) tokens)) ∙ split_at false is
+  token_kept is = append_assoc kept (get_or tokens i d ∷ []) (proper (drop (i + 1) tokens))
+      ∙ split_at false is
 
   pub token_left : is_line_end (get_or tokens i d).kind ≡ true
       → kept ++ proper (drop (i + 1) tokens) ≡ proper tokens

@@ -21,11 +21,13 @@ pub returns-in_err-length-clause-exact : goal.returns-in_err-length-clause-exact
 returns-in_err-length-clause-exact g c =
     let p = err_from_is_err_and c.from_residual-in_err-length.result
     c.from_residual-in_err-length.ensures.1 in
-    rw (p.1, p.2) (fails_on _ _ _ (read_on _ (read_on _ (global_is (words_of g.L.Language.made.tokens) c.args.count
+    rw (p.1, p.2) (fails_on _ _ _ (read_on _ (read_on _ (global_is
+    (words_of g.L.Language.made.tokens) c.args.count
     c.args.tokens.now)
     c.in_ok-at.ensures.exact) c.in_ok-name.ensures) c.in_err-length.ensures)
 
 pub returns-clause-exact : goal.returns-clause-exact
 returns-clause-exact g c =
-    read_on _ (read_on _ (read_on _ (global_is (words_of g.L.Language.made.tokens) c.args.count c.args.tokens.now)
+    read_on _ (read_on _ (read_on _ (global_is
+    (words_of g.L.Language.made.tokens) c.args.count c.args.tokens.now)
     c.in_ok-at.ensures.exact) c.in_ok-name.ensures) c.in_ok-length.ensures

@@ -20,7 +20,8 @@ returns-in_err-part-clause-exact g c =
 pub returns-in_err-sign-clause-exact : goal.returns-in_err-sign-clause-exact
 returns-in_err-sign-clause-exact g c =
     let p = err_from_is_err_and c.from_residual-in_err-sign.result c.from_residual-in_err-sign.ensures.1 in
-    rw (p.1, p.2) (fails_on _ _ _ (read_on _ (read_on _ (import_is (words_of g.L.Language.made.tokens) c.args.count
+    rw (p.1, p.2) (fails_on _ _ _ (read_on _ (read_on _ (import_is
+    (words_of g.L.Language.made.tokens) c.args.count
     c.args.tokens.now)
     c.in_ok-at.ensures.exact) c.in_ok-part.ensures) c.in_err-sign.ensures)
 
@@ -28,7 +29,8 @@ pub returns-in_err-name-clause-exact : goal.returns-in_err-name-clause-exact
 returns-in_err-name-clause-exact g c =
     let p = err_from_is_err_and c.from_residual-in_err-name.result
     c.from_residual-in_err-name.ensures.1 in
-    rw (p.1, p.2) (fails_on _ _ _ (read_on _ (read_on _ (read_on _ (import_is (words_of g.L.Language.made.tokens)
+    rw (p.1, p.2) (fails_on _ _ _ (read_on _ (read_on _ (read_on _ (import_is
+    (words_of g.L.Language.made.tokens)
     c.args.count c.args.tokens.now)
     c.in_ok-at.ensures.exact) c.in_ok-part.ensures) c.in_ok-sign.ensures) c.in_err-name.ensures)
 

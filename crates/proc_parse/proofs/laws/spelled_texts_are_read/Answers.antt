@@ -12,7 +12,8 @@ returns-clause-one g c text m m' =
 
 pub returns-clause-read : goal.returns-clause-read
 returns-clause-read g c text m short =
-    spelled_read g.L.Language.made text m (below_full (length text) short) (c.tokens_are_pieces.ensures.placed text)
+    spelled_read g.L.Language.made text m (below_full (length text) short)
+    (c.tokens_are_pieces.ensures.placed text)
     (c.tokens_are_pieces.ensures.spelled text)
     (λ tokens. (c.reading_keeps_the_grammar.ensures.tokens text tokens).0)
 
