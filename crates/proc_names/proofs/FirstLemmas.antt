@@ -1,7 +1,7 @@
 -- The first of faults, part by part.
 use Rattle.std.proofs.Common.{◌≡◌, ℕ, ◌==◌, nat_lt, nat_le, Bool, true, false, ◌&&◌, ◌||◌}
 use Rattle.std.proofs.Common.{if◌then◌else◌, refl, sym, ◌∙◌, ap, List, [], ◌∷◌, ◌++◌, Option, Some, None}
-use Rattle.std.proofs.Common.{arith, get_or, suc, IsTrue, subst}
+use Rattle.std.proofs.Common.{arith, get_or, suc, IsTrue, subst, ap₂}
 use Rattle.std.proofs.lemmas.List.Elements.{All-cons}
 use Rattle.std.specs.Prelude.{All, Contains}
 use Rattle.std.proofs.lemmas.Bool.Decides.{nat_tests}
@@ -64,6 +64,16 @@ first-append (f ∷ fs) gs =
 pub earlier_none : (a : Option NameFault) → earlier a None ≡ a
 earlier_none None = refl
 earlier_none (Some f) = refl
+
+-- what was found in two parts
+pub found_both : {found here there : Option NameFault} (fs gs : List NameFault) → found ≡ earlier here there
+    → here ≡ first fs → there ≡ first gs → found ≡ first (fs ++ gs)
+found_both fs gs is one other = is ∙ ap₂ earlier one other ∙ sym (first-append fs gs)
+
+-- the same faults by another name
+pub found_as : {found : Option NameFault} {fs gs : List NameFault} → found ≡ first fs → fs ≡ gs
+    → found ≡ first gs
+found_as one same = one ∙ ap first same
 
 -- one part more
 pub first_step : (found : Option NameFault) (fs gs : List NameFault)

@@ -1,4 +1,5 @@
 mod NeedLemmas
+mod Looked
 pub mod FirstLemmas
 pub mod ItemFaults
 mod TwiceLemmas

@@ -22,5 +22,3 @@ twice_step found x xs ys =
     ap (λ f. earlier (earlier found f) (first (twice (xs ++ ys))))
     (sym (first-append (again x xs) (again x ys)) ∙ ap first (sym (again-append x xs ys)))
     ∙ first_step found (again x (xs ++ ys)) (twice (xs ++ ys))
-
-pub ruleset twices = (first-append, first_step, again-append, twice_step)

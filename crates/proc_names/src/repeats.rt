@@ -32,7 +32,6 @@ fn met(x: &Name, y: &Name) -> Option<NameFault>
 }
 
 /// Where a name stands that an item before has: the first such place.
-#[tactic(auto, using(crate::proofs::FirstLemmas::firsts))]
 pub fn twice<T: Named>(items: &[T]) -> Option<NameFault>
     ensures { result ≡ first (twice (map T.name_of items.now)) }
 {
@@ -46,7 +45,6 @@ pub fn twice<T: Named>(items: &[T]) -> Option<NameFault>
 }
 
 /// Where a name stands that an item before has, in two lists one after the other: the first such place.
-#[tactic(auto, using(crate::proofs::TwiceLemmas::twices))]
 pub fn twice_in_two<T: Named, U: Named>(items: &[T], others: &[U]) -> Option<NameFault>
     ensures { result ≡ first (twice (map T.name_of items.now ++ map U.name_of others.now)) }
 {
@@ -61,7 +59,6 @@ pub fn twice_in_two<T: Named, U: Named>(items: &[T], others: &[U]) -> Option<Nam
 }
 
 /// Where the name of an item of a module stands that one before has: the first such place.
-#[tactic(auto, using(crate::proofs::TwiceLemmas::twices))]
 pub fn items_twice<P: Named>(
     imports: &[Import],
     globals: &[Global],
