@@ -7,11 +7,14 @@ use Rattle.cap_words.specs.declared.Word.TheVariants.{Int}
 use Rattle.lcm_isa.specs.declared.Reg.{Reg}
 use Rattle.lcm_isa.specs.declared.Instr.{Instr}
 use Rattle.call_sequence.specs.Sequences.{numbers}
+use Rattle.proc_program.specs.Program.{Exp, Statement}
+use Rattle.proc_templates.specs.declared.FrameShape.{FrameShape}
 use Rattle.proc_templates.specs.Items.{Item, does, guards, instrs, sites_with, put, word_of}
 use Rattle.proc_templates.specs.Templates.{argument, check_half, check_param}
 use Rattle.proc_templates.specs.Free.{behind}
 use Rattle.proc_templates.proofs.Offers.{put-length}
-use Rattle.proc_compiler.specs.Drafts.{Drafted, with_items, with_code, with_words, Emits, PutsWords}
+use Rattle.proc_compiler.specs.Drafts.{Drafted, with_items, with_code, with_words, Emits, EmitsExp, EmitsStep}
+use Rattle.proc_compiler.specs.Drafts.{PutsWords}
 use Rattle.proc_compiler.proofs.Written.{items_append, items_nil}
 
 pub nothing : (d : Drafted) → Emits [] 0 0 d d
@@ -41,6 +44,15 @@ counted {d = d} words calls h = record {
   sited = h.sited ∙ ap (λ x. length d.laid.sites + x) calls;
   kept = h.kept;
 }
+
+-- of a statement or an expression that is this one
+pub of_step : (f : FrameShape) {s r : Statement} {d e : Drafted} → s ≡ r → EmitsStep f r d e
+    → EmitsStep f s d e
+of_step f {d = d} {e = e} is h = subst (λ s. EmitsStep f s d e) (sym is) h
+
+pub of_exp : (f : FrameShape) (slot : ℕ) {x y : Exp} {d e : Drafted} → x ≡ y → EmitsExp f slot y d e
+    → EmitsExp f slot x d e
+of_exp f slot {d = d} {e = e} is h = subst (λ x. EmitsExp f slot x d e) (sym is) h
 
 -- a single item that is no call
 pub single : (x : Item) (n : ℕ) (d e : Drafted) → ((o : ℕ) → behind o x ≡ o + n)
@@ -92,11 +104,11 @@ words_both [] b = refl
 words_both (i ∷ a) b = ap (λ ws. word_of i ∷ ws) (words_both a b)
 
 pub one_code : {zs : List ℤ} {n : ℕ} {w0 w1 : List Word} (a : List Instr) → zs ≡ numbers a
-    → length (numbers a) ≡ n → PutsWords (map (λ z. Int z) zs) (length zs) w0 w1
-    → PutsWords (map word_of a) n w0 w1
-one_code {w0 = w0} a same many h = record {
-  written = h.written ∙ ap (λ zs. w0 ++ map (λ z. Int z) zs) same ∙ ap (λ ws. w0 ++ ws) (numbers_words a);
-  grown = h.grown ∙ ap (λ zs. length w0 + length zs) same ∙ ap (λ n. length w0 + n) many;
+    → length (numbers a) ≡ n → w1 ≡ w0 ++ map (λ z. Int z) zs → PutsWords (map word_of a) n w0 w1
+one_code {zs = zs} {w0 = w0} a same many h = record {
+  written = h ∙ ap (λ zs. w0 ++ map (λ z. Int z) zs) same ∙ ap (λ ws. w0 ++ ws) (numbers_words a);
+  grown = ap length h ∙ length-append w0 (map (λ z. Int z) zs)
+      ∙ ap (λ n. length w0 + n) (length-map zs (λ z. Int z) ∙ ap length same ∙ many);
 }
 
 -- two pieces of code, one after the other

@@ -5,4 +5,5 @@ pub mod Ends
 pub mod Branches
 pub mod Loops
 pub mod Placed
+pub mod Pushes
 pub mod Modules

@@ -1,7 +1,6 @@
 //! The code of a component as it is written.
 ghost use Rattle.std.specs.Prelude.{◌≡◌, ◌≤◌, ◌<◌, ◌+◌, ◌*◌, OnOk, IfOk, length, replicate, pos, [], ◌∷◌};
 ghost use Rattle.std.specs.Prelude.{◌++◌, ◌==◌, map, slice_set, ◌-◌};
-ghost use Rattle.cap_words.specs.declared.Word.TheVariants.{Int};
 ghost use Rattle.component_file.specs.declared.TheConstants.{LAST_OFFSET, MOST_SITES};
 ghost use Rattle.proc_language.specs.declared.TheConstants.{MOST_SEALS};
 ghost use Rattle.cap_words.specs.declared.TheConstants.{LAST_PLACE};
@@ -17,6 +16,7 @@ ghost use Rattle.proc_compiler.specs.Drafts.{with_code, with_words, at_spot, Emi
 ghost use Rattle.proc_templates.specs.Bounds.{HandleBound};
 
 use crate::counts::{ACCESS_WORDS, CALLBACK_WORDS, ELEMENT_WORDS, EPILOGUE_WORDS, JUMP_WORDS};
+use crate::lists::push_integers;
 use call_sequence::{
     CALL_WORDS, ENTRY_WORDS, RETURN_WORDS, SITE_WORDS, call_words, entry_words, return_words,
 };
@@ -25,7 +25,7 @@ use lcm_isa::{Instr, Operand, Reg, encode};
 use proc_language::Op;
 use proc_program::Handle;
 use proc_templates::FrameShape;
-use seal_space::{SealLot, SealRange, SealToken};
+use seal_space::{SealLot, SealRange};
 use std::alloc::{AllocError, Global};
 use std::marker::Model;
 
@@ -91,9 +91,7 @@ impl Draft {
           seals = seals;
         }) }
     {
-        let mut code = Vec::new(alloc);
-        code.push(Word::Int(encode(&Instr::Fail)))?;
-        code.push(literal)?;
+        let code = vec![in alloc; Word::Int(encode(&Instr::Fail)), literal]?;
         Ok(Draft {
             code,
             sites: Vec::new(alloc),
@@ -165,15 +163,6 @@ impl Draft {
         self.code[at as usize] = Word::Int(encode(&instr));
     }
 
-    // The jump at an offset goes on by so many words, counted from its own first.
-    fn aim(&mut self, at: u32, far: i32)
-        requires placed { length self.old.laid.code ≤ MOST_WORDS }
-        requires there { at + 1 < length self.old.laid.code }
-        ensures { Aims at far self.old self.new }
-    {
-        self.replace(at + 1, Instr::Cca(Reg::T2, Operand::Imm(far)));
-    }
-
     /// The jump at an offset leads to so many words after what is written.
     pub(crate) fn lead(&mut self, at: u32, beyond: u32)
         requires placed { length self.old.laid.code ≤ MOST_WORDS }
@@ -182,7 +171,7 @@ impl Draft {
         ensures { Aims at (pos (length self.old.laid.code + beyond - at)) self.old self.new }
     {
         let far = self.at() + beyond - at;
-        self.aim(at, far as i32);
+        self.replace(at + 1, Instr::Cca(Reg::T2, Operand::Imm(far as i32)));
     }
 
     // The words that check one half of a pair.
@@ -549,17 +538,8 @@ fn next_number(lot: &mut SealLot, first: u32, count: u32) -> u32
 {
     match lot.draw() {
         None => count,
-        Some(token) => number_of_site(token, first, count),
+        Some(token) => token.bind(count).seal - first,
     }
-}
-
-// The token is bound to the site.
-fn number_of_site(token: SealToken, first: u32, count: u32) -> u32
-    requires { token ≡ first + count }
-    ensures { result ≡ count }
-{
-    let bound = token.bind(count);
-    bound.seal - first
 }
 
 // The words of a call and of its return.
@@ -571,8 +551,8 @@ fn put_site(code: &mut Vec<Word>, at: u32, number: u32, stack_base: u32) -> Resu
         (map word_of (call_code 1 at number ++ return_code 0 (at + CALL_WORDS) stack_base)) SITE_WORDS
         code.old.items code.new.items) }
 {
-    put_numbers(code, &call_words(1, at, number))?;
-    put_numbers(code, &return_words(0, at + CALL_WORDS, stack_base))
+    push_integers(code, &call_words(1, at, number))?;
+    push_integers(code, &return_words(0, at + CALL_WORDS, stack_base))
 }
 
 // The words of an entry.
@@ -582,16 +562,5 @@ fn put_entry(code: &mut Vec<Word>, at: u32, stack_base: u32) -> Result<(), Alloc
     ensures { OnOk result (PutsWords
         (map word_of (entry_code 0 at stack_base)) ENTRY_WORDS code.old.items code.new.items) }
 {
-    put_numbers(code, &entry_words(0, at, stack_base))
-}
-
-// Numbers, each as a word.
-fn put_numbers(code: &mut Vec<Word>, numbers: &[i64]) -> Result<(), AllocError>
-    ensures { OnOk result (PutsWords
-        (map (λ z. Int z) numbers.now) (length numbers.now) code.old.items code.new.items) }
-{
-    for number in numbers {
-        code.push(Word::Int(*number))?;
-    }
-    Ok(())
+    push_integers(code, &entry_words(0, at, stack_base))
 }

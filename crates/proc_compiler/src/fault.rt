@@ -2,7 +2,6 @@
 ghost use Rattle.std.specs.Prelude.{◌≡◌};
 ghost use Rattle.proc_compiler.specs.declared.fault.CompileFault.TheVariants.{NoMemory};
 ghost use Rattle.proc_compiler.specs.Fault.{fault_number, fault_place};
-ghost use Rattle.proc_compiler.specs.FaultText.{compile_fault_text};
 
 use std::alloc::AllocError;
 use std::error::Error;
@@ -38,16 +37,6 @@ impl CompileFault {
     {
         0
     }
-
-    fn why(self) -> &'static str
-        ensures { result.now ≡ compile_fault_text self }
-    {
-        match self {
-            CompileFault::TooLarge => "the module has too many words",
-            CompileFault::SealsShort => "the module has more calls than return seals",
-            CompileFault::NoMemory => "out of memory",
-        }
-    }
 }
 
 impl fmt::Display for CompileFault {
@@ -57,7 +46,11 @@ impl fmt::Display for CompileFault {
     ghost output = { λ fault. Some (compile_fault_text fault) };
 
     fn fmt<W: fmt::Write>(&self, f: &mut fmt::Formatter<W>) -> fmt::Result {
-        f.write_str(self.why())
+        f.write_str(match self {
+            CompileFault::TooLarge => "the module has too many words",
+            CompileFault::SealsShort => "the module has more calls than return seals",
+            CompileFault::NoMemory => "out of memory",
+        })
     }
 }
 

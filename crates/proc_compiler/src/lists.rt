@@ -1,6 +1,6 @@
 //! The lists of a component.
 ghost use Rattle.std.specs.Prelude.{◌≡◌, ◌≤◌, ◌<◌, ◌+◌, ◌*◌, ◌^◌, OnOk, IfOk, length, sum_by, map, replicate};
-ghost use Rattle.std.specs.Prelude.{pos, ◌++◌};
+ghost use Rattle.std.specs.Prelude.{pos, [], ◌∷◌, ◌++◌};
 ghost use Rattle.cap_words.specs.declared.Word.TheVariants.{Int};
 ghost use Rattle.component_file.specs.declared.TheConstants.{MOST_WORDS};
 ghost use Rattle.component_file.specs.Limits.{name_lt};
@@ -33,12 +33,28 @@ pub(crate) fn push_zeros(words: &mut Vec<Word>, count: u32) -> Result<(), AllocE
 }
 
 /// Integers, each as a word.
-pub(crate) fn push_words(words: &mut Vec<Word>, numbers: &[i64]) -> Result<(), AllocError>
+pub(crate) fn push_integers(words: &mut Vec<Word>, numbers: &[i64]) -> Result<(), AllocError>
     ensures { OnOk result (words.new.items ≡ words.old.items ++ map int_word numbers.now) }
 {
     for number in numbers {
         words.push(Word::Int(*number))?;
     }
+    Ok(())
+}
+
+// The slot of an import, or of an own procedure.
+fn push_slot(
+    alloc: Global,
+    list: &mut Vec<Import>,
+    part: &Items<u8>,
+    name: &Items<u8>,
+    slot: u32,
+) -> Result<(), AllocError>
+    ensures { OnOk result (list.new.items
+        ≡ list.old.items ++ record { part = part.now; name = name.now; slot = slot } ∷ []) }
+{
+    let (part, name) = (text_of(alloc, part)?, text_of(alloc, name)?);
+    list.push(Import { part, name, slot })?;
     Ok(())
 }
 
@@ -55,8 +71,7 @@ pub(crate) fn push_imports(
     match imports.split_first() {
         None => Ok(()),
         Some((i, rest)) => {
-            let (part, name) = (text_of(alloc, &i.part)?, text_of(alloc, &i.name)?);
-            list.push(Import { part, name, slot })?;
+            push_slot(alloc, list, &i.part, &i.name, slot)?;
             push_imports(alloc, list, rest, slot + 2)
         }
     }
@@ -76,21 +91,10 @@ pub(crate) fn push_own(
     match procs.split_first() {
         None => Ok(()),
         Some((p, rest)) => {
-            let (text, name) = (text_of(alloc, part)?, text_of(alloc, &p.name)?);
-            list.push(Import {
-                part: text,
-                name,
-                slot,
-            })?;
+            push_slot(alloc, list, part, &p.name, slot)?;
             push_own(alloc, list, part, rest, slot + 2)
         }
     }
-}
-
-fn comes_before(name: &[u8], export: &Export) -> bool
-    ensures { result ≡ name_lt name.now export.now.name }
-{
-    name.cmp(export.name.as_slice()).is_lt()
 }
 
 // How many exports stand before the place of a name.
@@ -101,7 +105,7 @@ fn place_of(name: &[u8], exports: &[Export]) -> usize
     match exports.split_first() {
         None => 0,
         Some((e, rest)) => {
-            if comes_before(name, e) {
+            if name.cmp(e.name.as_slice()).is_lt() {
                 0
             } else {
                 place_of(name, rest) + 1
@@ -119,29 +123,27 @@ fn insert(exports: &mut Vec<Export>, export: Export) -> Result<(), AllocError>
     Ok(())
 }
 
-/// The exports of procedures, the first of which stands at an offset.
-pub(crate) fn exports_from(
+/// The exports of procedures, the first of which stands at an offset, into a list that has none.
+pub(crate) fn insert_exports(
     alloc: Global,
+    exports: &mut Vec<Export>,
     procs: &[Procedure],
     from: u32,
-) -> Result<Vec<Export>, AllocError>
+) -> Result<(), AllocError>
     requires placed { from + sum_by size_of_proc procs.now ≤ MOST_WORDS }
-    ensures { IfOk result (λ es. es.items ≡ exports_from from procs.now) }
+    requires none { exports.old.items ≡ [] }
+    ensures { OnOk result (exports.new.items ≡ exports_from from procs.now) }
 {
     match procs.split_first() {
-        None => Ok(Vec::new(alloc)),
+        None => Ok(()),
         Some((p, rest)) => {
-            let mut exports = exports_from(alloc, rest, from + size_of_proc(p))?;
-            let name = text_of(alloc, &p.name)?;
-            insert(
-                &mut exports,
-                Export {
-                    name,
-                    offset: from,
-                    shared: p.shared,
-                },
-            )?;
-            Ok(exports)
+            insert_exports(alloc, exports, rest, from + size_of_proc(p))?;
+            let export = Export {
+                name: text_of(alloc, &p.name)?,
+                offset: from,
+                shared: p.shared,
+            };
+            insert(exports, export)
         }
     }
 }
@@ -160,12 +162,11 @@ fn row_at(offset: u32) -> KindRow
 }
 
 /// The rows at labels.
-pub(crate) fn rows_at(alloc: Global, labels: &[u32]) -> Result<Vec<KindRow>, AllocError>
-    ensures { IfOk result (λ rows. rows.items ≡ map row_at_label labels.now) }
+pub(crate) fn push_rows(rows: &mut Vec<KindRow>, labels: &[u32]) -> Result<(), AllocError>
+    ensures { OnOk result (rows.new.items ≡ rows.old.items ++ map row_at_label labels.now) }
 {
-    let mut rows = Vec::new(alloc);
     for label in labels {
         rows.push(row_at(*label))?;
     }
-    Ok(rows)
+    Ok(())
 }

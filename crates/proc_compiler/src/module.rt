@@ -1,5 +1,5 @@
 //! Modules.
-ghost use Rattle.std.specs.Prelude.{◌≡◌, ◌≤◌, ◌+◌, ◌*◌, OnOk, IfOk, IfErr, length, sum_by, []};
+ghost use Rattle.std.specs.Prelude.{◌≡◌, ◌≤◌, ◌+◌, ◌*◌, OnOk, IfOk, IfErr, length, sum_by, [], ◌++◌};
 ghost use Rattle.component_file.specs.declared.TheConstants.{MOST_WORDS};
 ghost use Rattle.call_sequence.specs.Verdict.{IsKept};
 ghost use Rattle.proc_language.specs.Limits.{Each};
@@ -20,7 +20,7 @@ use crate::counts::{
 use crate::draft::Draft;
 use crate::fault::CompileFault;
 use crate::lists::{
-    exports_from, push_imports, push_own, push_words, push_zeros, rows_at, text_of,
+    insert_exports, push_imports, push_integers, push_own, push_rows, push_zeros, text_of,
 };
 use crate::routine::{proc_at, registers_of};
 use cap_words::{Items, SealCap, SealRange, Word};
@@ -116,36 +116,28 @@ fn code_of(alloc: Global, m: &Program) -> Result<Draft, AllocError>
     Ok(draft)
 }
 
-#[tactic(auto, unfolding(proc_templates::specs::Compiled::first_data))]
-fn data_of(alloc: Global, m: &Program) -> Result<Vec<Word>, AllocError>
-    requires { IsProgram m.now }
-    ensures { IfOk result (λ words. words.items ≡ first_data m.now) }
+// The words of the data, the slots and the exports. There are no exports before.
+#[tactic(auto, unfolding(proc_templates::specs::Compiled::first_data, proc_templates::specs::Compiled::imports_of, proc_templates::specs::Compiled::exports_of, proc_templates::specs::Compiled::code_words))]
+fn push_lists(
+    alloc: Global,
+    m: &Program,
+    words: &mut Vec<Word>,
+    imports: &mut Vec<Import>,
+    exports: &mut Vec<Export>,
+) -> Result<(), AllocError>
+    requires limits { IsProgram m.now }
+    requires code { code_words m.now ≤ MOST_WORDS }
+    requires none { exports.old.items ≡ [] }
+    ensures words { OnOk result (words.new.items ≡ words.old.items ++ first_data m.now) }
+    ensures imports { OnOk result (imports.new.items ≡ imports.old.items ++ imports_of m.now) }
+    ensures exports { OnOk result (exports.new.items ≡ exports_of m.now) }
 {
-    let mut words = Vec::new(alloc);
-    push_zeros(&mut words, pair_count(m))?;
-    push_words(&mut words, m.globals.as_slice())?;
-    Ok(words)
-}
-
-#[tactic(auto, unfolding(proc_templates::specs::Compiled::imports_of))]
-fn imports_of(alloc: Global, m: &Program) -> Result<Vec<Import>, AllocError>
-    requires { IsProgram m.now }
-    ensures { IfOk result (λ list. list.items ≡ imports_of m.now) }
-{
-    let mut list = Vec::new(alloc);
-    let imports = m.imports.as_slice();
-    push_imports(alloc, &mut list, imports, 0)?;
-    let slot = 2 * imports.len() as u32;
-    push_own(alloc, &mut list, &m.name, m.procs.as_slice(), slot)?;
-    Ok(list)
-}
-
-#[tactic(auto, unfolding(proc_templates::specs::Compiled::exports_of, proc_templates::specs::Compiled::code_words))]
-fn exports_of(alloc: Global, m: &Program) -> Result<Vec<Export>, AllocError>
-    requires { code_words m.now ≤ MOST_WORDS }
-    ensures { IfOk result (λ list. list.items ≡ exports_of m.now) }
-{
-    exports_from(alloc, m.procs.as_slice(), 2)
+    push_zeros(words, pair_count(m))?;
+    push_integers(words, m.globals.as_slice())?;
+    push_imports(alloc, imports, m.imports.as_slice(), 0)?;
+    let slot = 2 * m.imports.as_slice().len() as u32;
+    push_own(alloc, imports, &m.name, m.procs.as_slice(), slot)?;
+    insert_exports(alloc, exports, m.procs.as_slice(), 2)
 }
 
 fn literal_at_of(m: &Program) -> Option<u32>
@@ -177,11 +169,11 @@ fn fields_of(alloc: Global, m: &Program) -> Result<ComponentFields, AllocError>
     ensures { IfOk result (λ c. c ≡ component_of m.now) }
 {
     let draft = code_of(alloc, m)?;
-    let rows = rows_at(alloc, draft.labels())?;
     let name = text_of(alloc, &m.name)?;
-    let data_words = data_of(alloc, m)?;
-    let imports = imports_of(alloc, m)?;
-    let exports = exports_of(alloc, m)?;
+    let (mut data_words, mut imports) = (Vec::new(alloc), Vec::new(alloc));
+    let (mut exports, mut rows) = (Vec::new(alloc), Vec::new(alloc));
+    push_lists(alloc, m, &mut data_words, &mut imports, &mut exports)?;
+    push_rows(&mut rows, draft.labels())?;
     let (code, sites) = draft.into_parts();
     Ok(ComponentFields {
         name,

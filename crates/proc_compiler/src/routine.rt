@@ -10,7 +10,6 @@ ghost use Rattle.proc_templates.specs.Templates.{checks_words, pushed, push, pro
 ghost use Rattle.proc_templates.specs.Bounds.{BlockBound};
 ghost use Rattle.proc_compiler.specs.Drafts.{Emits};
 
-use crate::counts::CALLBACK_WORDS;
 use crate::draft::Draft;
 use crate::exprs::argument;
 use crate::stmts::block;
@@ -38,15 +37,6 @@ pub(crate) fn registers_of(callbacks: &[bool]) -> u32
         .sum()
 }
 
-// The check of a callback whose first half is handed over in this register.
-fn check_callback(draft: &mut Draft, from: u32) -> Result<(), AllocError>
-    requires placed { length draft.old.laid.code ≤ MOST_WORDS }
-    requires few { from + 2 ≤ MOST_REGISTERS }
-    ensures { OnOk result (Emits (check_param from true ∷ []) CALLBACK_WORDS 0 draft.old draft.new) }
-{
-    draft.check_pair(argument(from), argument(from + 1))
-}
-
 // The check of a parameter that is handed over in this register.
 fn check(draft: &mut Draft, callback: bool, from: u32) -> Result<(), AllocError>
     requires placed { length draft.old.laid.code ≤ MOST_WORDS }
@@ -55,7 +45,7 @@ fn check(draft: &mut Draft, callback: bool, from: u32) -> Result<(), AllocError>
         (Emits (check_param from callback ∷ []) (check_words callback) 0 draft.old draft.new) }
 {
     if callback {
-        return check_callback(draft, from);
+        return draft.check_pair(argument(from), argument(from + 1));
     }
     let r = argument(from);
     draft.put(Instr::Plus(r, r, Operand::Imm(0)))

@@ -7,6 +7,6 @@ use Rattle.proc_compiler.proofs.draft.put_entry.Goals as goal
 pub returns : goal.returns
 unfolding entry_code
 returns c =
-    on_ok_weaker c.put_numbers.result
+    on_ok_weaker c.push_integers.result
     (one_code (entry_code 0 c.args.at c.args.stack_base) c.entry_words.ensures refl)
-    c.put_numbers.ensures
+    c.push_integers.ensures

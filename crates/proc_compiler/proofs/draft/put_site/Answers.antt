@@ -10,7 +10,7 @@ unfolding call_code return_code
 returns c =
     let call = call_code 1 c.args.at c.args.number in
     let back = return_code 0 (c.args.at + CALL_WORDS) c.args.stack_base in
-    on_ok_weaker c.put_numbers-2.result
-    (λ h. two_codes call back (one_code call c.call_words.ensures refl c.in_ok-put_numbers.ensures)
+    on_ok_weaker c.push_integers-2.result
+    (λ h. two_codes call back (one_code call c.call_words.ensures refl c.in_ok-push_integers.ensures)
     (one_code back c.return_words.ensures refl h))
-    c.put_numbers-2.ensures
+    c.push_integers-2.ensures
