@@ -1,3 +1,4 @@
 mod Works
 mod Endings
 mod Ticking
+mod Lines

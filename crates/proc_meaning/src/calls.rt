@@ -73,9 +73,10 @@ fn call<'a>(
     match pair_of(world, run, to.handle) {
         Pair::Bad => Ok(Ahead::Stop(End::Fail)),
         Pair::Outside => {
-            let name = part_name(alloc, world, run.frame.home)?;
-            let event = OutEvent::CallOut(name, to.site, out_args(values));
+            let home = run.frame.home;
             put(Work::Waits(run.leave(alloc), to.site, given), work)?;
+            let name = part_name(alloc, world, home)?;
+            let event = OutEvent::CallOut(name, to.site, out_args(values));
             Ok(Ahead::Said(event, Now::Wait))
         }
         Pair::Runs(target) => {

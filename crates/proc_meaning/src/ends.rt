@@ -20,9 +20,8 @@ use std::alloc::{AllocError, Global};
 fn add_locals(mut env: Vec<Value>, count: u32) -> Result<Vec<Value>, AllocError>
     ensures { IfOk result (λ e. e.items ≡ env.items ++ replicate count (Num (pos 0))) }
 {
-    for _ in 0..count {
-        env.push(Value::Num(0))?;
-    }
+    let places = env.len() + count as usize;
+    env.resize(places, Value::Num(0))?;
     Ok(env)
 }
 

@@ -10,8 +10,8 @@ use Rattle.proc_meaning.specs.Rest.{with_value}
 use Rattle.proc_meaning.proofs.Works.{pushed, kept}
 use Rattle.proc_meaning.proofs.calls.call.Goals as goal
 
-pub returns-in_ok-put-in-Outside-clause-same : goal.returns-in_ok-put-in-Outside-clause-same
-returns-in_ok-put-in-Outside-clause-same c st =
+pub returns-in_ok-name-in-Outside-clause-same : goal.returns-in_ok-name-in-Outside-clause-same
+returns-in_ok-name-in-Outside-clause-same c st =
     let world = c.args.world.now in let items = c.args.work.now.items in let r = c.args.run.now in
     let f = r.frame in
     let site = c.args.to.now.site in let given = c.in-Some.given in let vs = c.args.values.now in

@@ -4,7 +4,7 @@ use Rattle.proc_semantics.specs.Meaning.{on_item}
 use Rattle.proc_semantics.specs.Whole.{whole}
 use Rattle.proc_meaning.specs.Rest.{ahead_of, waiting}
 use Rattle.proc_meaning.proofs.Works.{kept}
-use Rattle.proc_meaning.proofs.Ticking.{at_first, went_ticks, ran_out, took}
+use Rattle.proc_meaning.proofs.Ticking.{at_first, went, went_ticks, went_said, ran_out, stopped, none_left, took}
 use Rattle.proc_meaning.proofs.telling.end_of.Goals as goal
 
 pub loop-next-init : goal.loop-next-init
@@ -33,6 +33,34 @@ loop-next-preserved-in-Ticked c =
       went_ticks c.args.fuel _ c.in-Ticked.ticks _ _ c.loop-next.events.items c.loop-next.left
           c.loop-next.coming.now c.if-left-ticks.false c.loop-next.invariant.0 same c.loop-next.invariant.1,
     )
+
+pub loop-next-preserved-in-Free : goal.loop-next-preserved-in-Free
+loop-next-preserved-in-Free c =
+    let same = c.in_ok-next.ensures.same
+    ∙ ap (λ a. ahead_of c.args.world.now a c.turn.new.work.items c.turn.new.run c.turn.new.store.items)
+    c.in-Free.is in (
+      c.loop-next.invariant.0,
+      went c.args.fuel _ _ _ c.loop-next.events.items c.loop-next.left
+          c.loop-next.coming.now same c.loop-next.invariant.1,
+    )
+
+pub loop-next-preserved-in-Said : goal.loop-next-preserved-in-Said
+loop-next-preserved-in-Said c =
+    let same = c.in_ok-next.ensures.same
+    ∙ ap (λ a. ahead_of c.args.world.now a c.turn.new.work.items c.turn.new.run c.turn.new.store.items)
+    c.in-Said.is in (
+      c.loop-next.invariant.0,
+      went_said c.args.fuel _ c.in-Said.event _ _ c.loop-next.events.items _
+          c.loop-next.left c.loop-next.coming.now c.in_ok-push-in-Said.ensures.items same c.loop-next.invariant.1,
+    )
+
+pub returns-in-Stop : goal.returns-in-Stop
+returns-in-Stop c =
+    let same = c.in_ok-next.ensures.same
+    ∙ ap (λ a. ahead_of c.args.world.now a c.turn.new.work.items c.turn.new.run c.turn.new.store.items)
+    c.in-Stop.is in
+    stopped c.args.fuel _ _ c.in-Stop.end c.loop-next.events.items c.loop-next.left c.loop-next.coming.now same
+    c.loop-next.invariant.1
 
 pub loop-next-preserved : goal.loop-next-preserved
 loop-next-preserved c =
