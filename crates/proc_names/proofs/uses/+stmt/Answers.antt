@@ -14,7 +14,8 @@ use Rattle.proc_names.proofs.uses.+stmt.Goals as goal
 pub stmt_fault-returns-in-Set : goal.stmt_fault-returns-in-Set
 stmt_fault-returns-in-Set t c =
     let m = c.args.m.now in let p = c.args.p.now in let x = c.in-Set.x in
-    found_as (found_both (plain_faults x (variable_named m p x)) (expr_faults m p c.in-Set.e) c.earlier.ensures
+    found_as (found_both (plain_faults x (variable_named m p x)) (expr_faults m p c.in-Set.e)
+    c.earlier.ensures
     (c.plain_fault.ensures ∙ ap (λ v. first (plain_faults x v)) c.variable_named.ensures)
     c.expr_fault.ensures)
     (ap (stmt_faults m p) (sym (sym c.s.view_is ∙ ap (stmt_at c.s.inside.at) c.in-Set.is)))
