@@ -14,9 +14,9 @@ use Rattle.command_words.specs.Number.{number_in, number_or, steps_in, size_in, 
 use Rattle.command_words.specs.Part.{mark_in, ending_in, may_be, has_tokens, part_in, parts_in, some_parts_in}
 use Rattle.command_words.specs.Part.{one_part_in, image_in, one_image_in}
 use Rattle.command_words.specs.Action.{action_in, image_or_parts, is_assembler, is_module, is_source}
-use Rattle.command_words.specs.Action.{linked_asked, run_in, assemble_in, compile_in, part_alone_in, link_in}
+use Rattle.command_words.specs.Action.{linked_asked, run_in, put_of, put_in, look_of, look_in, link_in}
 use Rattle.command_words.specs.Action.{mean_in, generate_in, asked_of, asked_by, asked_in}
-use Rattle.command_words.specs.Action.{reach_in, debug_in, audit_in, erase_in}
+use Rattle.command_words.specs.Action.{reach_in, debug_in, audit_in}
 use Rattle.command_words.specs.Fits.{Fits, FitsLinked, FitsLinkDeed, FitsName, FitsPart, FitsParts}
 use Rattle.command_words.specs.Fits.{FitsStack, FitsSteps}
 use Rattle.command_words.specs.declared.TheConstants.{MOST_PARTS, GREATEST_SEED}
@@ -25,11 +25,15 @@ use Rattle.command_words.specs.declared.command.Linked.TheVariants.{Parts, Image
 use Rattle.command_words.specs.declared.command.Command.{Command}
 use Rattle.command_words.specs.declared.command.LinkDeed.{LinkDeed}
 use Rattle.command_words.specs.declared.command.LinkDeed.TheVariants.{Run, Trace}
-use Rattle.command_words.specs.declared.command.ComponentDeed.TheVariants.{Put, Show}
-use Rattle.command_words.specs.declared.command.Command.TheVariants.{Takes, Checks, Mean, Generate}
+use Rattle.command_words.specs.declared.command.ComponentDeed.TheVariants.{Put}
+use Rattle.command_words.specs.declared.command.Command.TheVariants.{Takes, Mean, Generate}
 use Rattle.command_words.specs.declared.command.Command.TheVariants.{Audit, Erase}
 use Rattle.command_words.specs.declared.action.Action.{Action}
 use Rattle.command_words.specs.declared.action.Action.TheVariants as action
+use Rattle.command_words.specs.declared.action.PutAction.{PutAction}
+use Rattle.command_words.specs.declared.action.PutAction.TheVariants as puts
+use Rattle.command_words.specs.declared.action.LookAction.{LookAction}
+use Rattle.command_words.specs.declared.action.LookAction.TheVariants as looks
 
 -- one thing after another
 next : {A B : Type 0} (o : Option A) (f : A → Option B) (Q : A → Type 0) (P : B → Type 0) → IfSome o Q
@@ -171,23 +175,30 @@ run_fits deed d t = unless _ _ Fits (
     next (linked_asked t.parts t.stack) _ FitsLinked Fits (linked_fits t.parts t.stack)
     (λ what w. (w, d steps s))))
 
-assemble_fits : (t : Taken) → IfSome (assemble_in t) Fits
-unfolding assemble_in
-assemble_fits t = unless _ _ Fits (
-    next (one_part_in t.parts) _ FitsPart Fits (one_part_fits t.parts) (λ part p.
-    next (file_of t.out) _ FitsName Fits (file_fits t.out) (λ out o.
-    where_true (is_assembler part.ending) (Some (Takes part (Put out))) Fits (λ e. (p, o)))))
+put_of_fits : (a : PutAction) (part : PartWord) (out : Text) → FitsPart part → FitsName out
+    → IfSome (put_of a part out) Fits
+put_of_fits puts.Assemble part out p o =
+    where_true (is_assembler part.ending) (Some (Takes part (Put out))) Fits (λ e. (p, o))
+put_of_fits puts.Compile part out p o =
+    where_true (is_source part.ending) (Some (Takes part (Put out))) Fits (λ e. (p, o))
+put_of_fits puts.Erase part out p o =
+    where_true (has_tokens part.ending) (Some (Erase part out)) Fits (λ e. (p, e, o))
 
-compile_fits : (t : Taken) → IfSome (compile_in t) Fits
-unfolding compile_in
-compile_fits t = unless _ _ Fits (
+put_fits : (a : PutAction) (t : Taken) → IfSome (put_in a t) Fits
+unfolding put_in
+put_fits a t = unless _ _ Fits (
     next (one_part_in t.parts) _ FitsPart Fits (one_part_fits t.parts) (λ part p.
-    next (file_of t.out) _ FitsName Fits (file_fits t.out) (λ out o.
-    where_true (is_source part.ending) (Some (Takes part (Put out))) Fits (λ e. (p, o)))))
+    next (file_of t.out) _ FitsName Fits (file_fits t.out) (λ out o. put_of_fits a part out p o)))
 
-part_alone_fits : (t : Taken) → IfSome (part_alone_in t) FitsPart
-unfolding part_alone_in
-part_alone_fits t = unless _ _ FitsPart (one_part_fits t.parts)
+look_of_fits : (a : LookAction) (part : PartWord) → FitsPart part → Fits (look_of a part)
+look_of_fits looks.Disassemble part p = (p, tt)
+look_of_fits looks.Check part p = p
+
+look_fits : (a : LookAction) (t : Taken) → IfSome (look_in a t) Fits
+unfolding look_in
+look_fits a t =
+    unless _ _ Fits
+    (made (one_part_in t.parts) (look_of a) FitsPart Fits (one_part_fits t.parts) (look_of_fits a))
 
 link_fits : (t : Taken) → IfSome (link_in t) Fits
 unfolding link_in
@@ -227,28 +238,17 @@ audit_fits : (t : Taken) → IfSome (audit_in t) Fits
 unfolding audit_in
 audit_fits t = unless _ _ Fits (made (file_of t.feed) Audit FitsName Fits (file_fits t.feed) (λ text n. n))
 
-erase_fits : (t : Taken) → IfSome (erase_in t) Fits
-unfolding erase_in
-erase_fits t = unless _ _ Fits (
-    next (one_part_in t.parts) _ FitsPart Fits (one_part_fits t.parts) (λ part p.
-    next (file_of t.out) _ FitsName Fits (file_fits t.out) (λ out o.
-    where_true (has_tokens part.ending) (Some (Erase part out)) Fits (λ e. (p, e, o)))))
-
 asked_of_fits : (a : Action) (t : Taken) → IfSome (asked_of a t) Fits
 asked_of_fits action.Run t = run_fits Run (λ steps s. s) t
 asked_of_fits action.Trace t = run_fits Trace (λ steps s. s) t
-asked_of_fits action.Assemble t = assemble_fits t
-asked_of_fits action.Compile t = compile_fits t
-asked_of_fits action.Disassemble t =
-    made (part_alone_in t) (λ p. Takes p Show) FitsPart Fits (part_alone_fits t) (λ p h. (h, tt))
-asked_of_fits action.Check t = made (part_alone_in t) Checks FitsPart Fits (part_alone_fits t) (λ p h. h)
+asked_of_fits (action.Put a) t = put_fits a t
+asked_of_fits (action.Look a) t = look_fits a t
 asked_of_fits action.Link t = link_fits t
 asked_of_fits action.Mean t = mean_fits t
 asked_of_fits action.Generate t = generate_fits t
 asked_of_fits action.Reach t = reach_fits t
 asked_of_fits action.Debug t = debug_fits t
 asked_of_fits action.Audit t = audit_fits t
-asked_of_fits action.Erase t = erase_fits t
 
 asked_by_fits : (t : Taken) → IfSome (asked_by t) Fits
 unfolding asked_by

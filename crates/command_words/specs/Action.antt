@@ -22,15 +22,19 @@ use Rattle.command_words.specs.declared.command.Command.TheVariants.{Links, Take
 use Rattle.command_words.specs.declared.command.Command.TheVariants.{Debug, Audit, Erase}
 use Rattle.command_words.specs.declared.action.Action.{Action}
 use Rattle.command_words.specs.declared.action.Action.TheVariants as action
+use Rattle.command_words.specs.declared.action.PutAction.{PutAction}
+use Rattle.command_words.specs.declared.action.PutAction.TheVariants as puts
+use Rattle.command_words.specs.declared.action.LookAction.{LookAction}
+use Rattle.command_words.specs.declared.action.LookAction.TheVariants as looks
 
 -- the first words
 abbrev pub actions : List (Text × Action)
 actions =
-    (codes "run", action.Run) ∷ (codes "trace", action.Trace) ∷ (codes "asm", action.Assemble)
-    ∷ (codes "compile", action.Compile) ∷ (codes "dis", action.Disassemble) ∷ (codes "check", action.Check)
-    ∷ (codes "link", action.Link) ∷ (codes "mean", action.Mean) ∷ (codes "generate", action.Generate)
-    ∷ (codes "reach", action.Reach) ∷ (codes "debug", action.Debug) ∷ (codes "audit", action.Audit)
-    ∷ (codes "erase", action.Erase) ∷ []
+    (codes "run", action.Run) ∷ (codes "trace", action.Trace) ∷ (codes "asm", action.Put puts.Assemble)
+    ∷ (codes "compile", action.Put puts.Compile) ∷ (codes "dis", action.Look looks.Disassemble)
+    ∷ (codes "check", action.Look looks.Check) ∷ (codes "link", action.Link) ∷ (codes "mean", action.Mean)
+    ∷ (codes "generate", action.Generate) ∷ (codes "reach", action.Reach) ∷ (codes "debug", action.Debug)
+    ∷ (codes "audit", action.Audit) ∷ (codes "erase", action.Put puts.Erase) ∷ []
 
 abbrev pub first_named : Text → List (Text × Action) → Option Action
 first_named word [] = None
@@ -69,22 +73,28 @@ run_in deed t = if any_used (t.out ∷ t.feed ∷ t.seed ∷ []) then None else 
   what ← linked_asked t.parts t.stack
   Some (Links what (deed steps))
 
-unfoldable pub assemble_in : Taken → Option Command
-assemble_in t = if any_used (t.stack ∷ t.steps ∷ t.feed ∷ t.seed ∷ []) then None else do
-  part ← one_part_in t.parts
-  out ← file_of t.out
-  if is_assembler part.ending then Some (Takes part (Put out)) else None
+-- what is put into a file, by the part's ending
+abbrev pub put_of : PutAction → PartWord → Text → Option Command
+put_of puts.Assemble part out = if is_assembler part.ending then Some (Takes part (Put out)) else None
+put_of puts.Compile part out = if is_source part.ending then Some (Takes part (Put out)) else None
+put_of puts.Erase part out = if has_tokens part.ending then Some (Erase part out) else None
 
-unfoldable pub compile_in : Taken → Option Command
-compile_in t = if any_used (t.stack ∷ t.steps ∷ t.feed ∷ t.seed ∷ []) then None else do
+-- what `asm`, `compile` and `erase` ask for
+unfoldable pub put_in : PutAction → Taken → Option Command
+put_in a t = if any_used (t.stack ∷ t.steps ∷ t.feed ∷ t.seed ∷ []) then None else do
   part ← one_part_in t.parts
   out ← file_of t.out
-  if is_source part.ending then Some (Takes part (Put out)) else None
+  put_of a part out
+
+abbrev pub look_of : LookAction → PartWord → Command
+look_of looks.Disassemble part = Takes part Show
+look_of looks.Check part = Checks part
 
 -- what `dis` and `check` ask for
-unfoldable pub part_alone_in : Taken → Option PartWord
-part_alone_in t =
-    if any_used (t.stack ∷ t.steps ∷ t.out ∷ t.feed ∷ t.seed ∷ []) then None else one_part_in t.parts
+unfoldable pub look_in : LookAction → Taken → Option Command
+look_in a t =
+    if any_used (t.stack ∷ t.steps ∷ t.out ∷ t.feed ∷ t.seed ∷ []) then None
+    else option_map (look_of a) (one_part_in t.parts)
 
 unfoldable pub link_in : Taken → Option Command
 link_in t = if any_used (t.steps ∷ t.feed ∷ t.seed ∷ []) then None else do
@@ -126,27 +136,18 @@ audit_in t =
     if is_some t.parts || any_used (t.stack ∷ t.steps ∷ t.out ∷ t.seed ∷ []) then None
     else option_map Audit (file_of t.feed)
 
-unfoldable pub erase_in : Taken → Option Command
-erase_in t = if any_used (t.stack ∷ t.steps ∷ t.feed ∷ t.seed ∷ []) then None else do
-  part ← one_part_in t.parts
-  out ← file_of t.out
-  if has_tokens part.ending then Some (Erase part out) else None
-
 -- what an action asks for
 abbrev pub asked_of : Action → Taken → Option Command
 asked_of action.Run t = run_in Run t
 asked_of action.Trace t = run_in Trace t
-asked_of action.Assemble t = assemble_in t
-asked_of action.Compile t = compile_in t
-asked_of action.Disassemble t = option_map (λ part. Takes part Show) (part_alone_in t)
-asked_of action.Check t = option_map Checks (part_alone_in t)
+asked_of (action.Put a) t = put_in a t
+asked_of (action.Look a) t = look_in a t
 asked_of action.Link t = link_in t
 asked_of action.Mean t = mean_in t
 asked_of action.Generate t = generate_in t
 asked_of action.Reach t = reach_in t
 asked_of action.Debug t = debug_in t
 asked_of action.Audit t = audit_in t
-asked_of action.Erase t = erase_in t
 
 -- what words taken apart ask for
 unfoldable pub asked_by : Taken → Option Command

@@ -3,9 +3,8 @@ ghost use Rattle.std.specs.Prelude.{◌≡◌, IfOk, None, is_some, if◌then◌
 ghost use Rattle.std.specs.List.{list_all, list_any};
 ghost use Rattle.command_words.specs.Texts.{Text, texts, text_of, all_texts};
 ghost use Rattle.command_words.specs.Views.{taken_in};
-ghost use Rattle.command_words.specs.Action.{action_in, linked_asked, run_in, assemble_in, compile_in};
-ghost use Rattle.command_words.specs.Action.{part_alone_in, link_in, is_module, mean_in, generate_in};
-ghost use Rattle.command_words.specs.Action.{reach_in, debug_in, audit_in, erase_in};
+ghost use Rattle.command_words.specs.Action.{action_in, linked_asked, run_in, put_in, look_in, link_in};
+ghost use Rattle.command_words.specs.Action.{is_module, mean_in, generate_in, reach_in, debug_in, audit_in};
 ghost use Rattle.command_words.specs.Action.{asked_of, asked_by, asked_in};
 ghost use Rattle.command_words.specs.Fits.{Fits};
 
@@ -22,17 +21,29 @@ use std::alloc::{AllocError, Global};
 enum Action {
     Run,
     Trace,
-    Assemble,
-    Compile,
-    Disassemble,
-    Check,
+    Put(PutAction),
+    Look(LookAction),
     Link,
     Mean,
     Generate,
     Reach,
     Debug,
     Audit,
+}
+
+// What comes of one part is put into a file.
+#[derive(Clone, Copy)]
+enum PutAction {
+    Assemble,
+    Compile,
     Erase,
+}
+
+// What one part is or says is written.
+#[derive(Clone, Copy)]
+enum LookAction {
+    Disassemble,
+    Check,
 }
 
 #[tactic(auto, unfolding(crate::specs::Action::action_in))]
@@ -42,17 +53,17 @@ fn action_named(word: &str) -> Option<Action>
     match word {
         "run" => Some(Action::Run),
         "trace" => Some(Action::Trace),
-        "asm" => Some(Action::Assemble),
-        "compile" => Some(Action::Compile),
-        "dis" => Some(Action::Disassemble),
-        "check" => Some(Action::Check),
+        "asm" => Some(Action::Put(PutAction::Assemble)),
+        "compile" => Some(Action::Put(PutAction::Compile)),
+        "dis" => Some(Action::Look(LookAction::Disassemble)),
+        "check" => Some(Action::Look(LookAction::Check)),
         "link" => Some(Action::Link),
         "mean" => Some(Action::Mean),
         "generate" => Some(Action::Generate),
         "reach" => Some(Action::Reach),
         "debug" => Some(Action::Debug),
         "audit" => Some(Action::Audit),
-        "erase" => Some(Action::Erase),
+        "erase" => Some(Action::Put(PutAction::Erase)),
         _ => None,
     }
 }
@@ -119,12 +130,10 @@ fn run<'a>(
     }
 }
 
-// `asm`, `compile` or `erase`: what comes of one part is put into a file.
-#[tactic(auto, unfolding(crate::specs::Action::assemble_in, crate::specs::Action::compile_in, crate::specs::Action::erase_in,),)]
-fn put<'a>(action: Action, taken: &Taken<'_, 'a>) -> Option<Command<'a>>
-    ensures assemble { action ≡ Action.Assemble → result ≡ assemble_in (taken_in taken.now) }
-    ensures compile { action ≡ Action.Compile → result ≡ compile_in (taken_in taken.now) }
-    ensures erase { action ≡ Action.Erase → result ≡ erase_in (taken_in taken.now) }
+// `asm`, `compile` or `erase`.
+#[tactic(auto, unfolding(crate::specs::Action::put_in))]
+fn put<'a>(action: PutAction, taken: &Taken<'_, 'a>) -> Option<Command<'a>>
+    ensures { result ≡ put_in action (taken_in taken.now) }
 {
     if any_used(&[taken.stack, taken.steps, taken.feed, taken.seed]) {
         return None;
@@ -132,37 +141,29 @@ fn put<'a>(action: Action, taken: &Taken<'_, 'a>) -> Option<Command<'a>>
     let part = one_part(taken.parts)?;
     let out = file_of(taken.out)?;
     match action {
-        Action::Assemble if part.ending == Ending::Assembler => {
+        PutAction::Assemble if part.ending == Ending::Assembler => {
             Some(Command::Takes(part, ComponentDeed::Put(out)))
         }
-        Action::Compile if part.ending.is_source() => {
+        PutAction::Compile if part.ending.is_source() => {
             Some(Command::Takes(part, ComponentDeed::Put(out)))
         }
-        Action::Erase if part.ending.has_tokens() => Some(Command::Erase(part, out)),
+        PutAction::Erase if part.ending.has_tokens() => Some(Command::Erase(part, out)),
         _ => None,
     }
 }
 
-// What `dis` and `check` ask for.
-#[tactic(auto, unfolding(crate::specs::Action::part_alone_in))]
-fn part_alone<'a>(taken: &Taken<'_, 'a>) -> Option<PartWord<'a>>
-    ensures { result ≡ part_alone_in (taken_in taken.now) }
+// `dis` or `check`.
+#[tactic(auto, unfolding(crate::specs::Action::look_in))]
+fn look<'a>(action: LookAction, taken: &Taken<'_, 'a>) -> Option<Command<'a>>
+    ensures { result ≡ look_in action (taken_in taken.now) }
 {
     if any_used(&[taken.stack, taken.steps, taken.out, taken.feed, taken.seed]) {
         return None;
     }
-    one_part(taken.parts)
-}
-
-// `dis` or `check`.
-fn alone<'a>(action: Action, taken: &Taken<'_, 'a>) -> Option<Command<'a>>
-    ensures show { action ≡ Action.Disassemble → result ≡ asked_of Action.Disassemble (taken_in taken.now) }
-    ensures check { action ≡ Action.Check → result ≡ asked_of Action.Check (taken_in taken.now) }
-{
-    let part = part_alone(taken)?;
+    let part = one_part(taken.parts)?;
     match action {
-        Action::Check => Some(Command::Checks(part)),
-        _ => Some(Command::Takes(part, ComponentDeed::Show)),
+        LookAction::Disassemble => Some(Command::Takes(part, ComponentDeed::Show)),
+        LookAction::Check => Some(Command::Checks(part)),
     }
 }
 
@@ -287,8 +288,8 @@ fn asked_of<'a>(
     match action {
         Action::Run => run(alloc, false, taken),
         Action::Trace => run(alloc, true, taken),
-        Action::Assemble | Action::Compile | Action::Erase => Ok(put(action, taken)),
-        Action::Disassemble | Action::Check => Ok(alone(action, taken)),
+        Action::Put(action) => Ok(put(action, taken)),
+        Action::Look(action) => Ok(look(action, taken)),
         Action::Link => link(alloc, taken),
         Action::Mean => mean(alloc, taken),
         Action::Generate => Ok(generate(taken)),
