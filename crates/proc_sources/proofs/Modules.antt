@@ -28,7 +28,7 @@ use Rattle.token_check.specs.Walk.{module_walk}
 use Rattle.proc_sources.specs.declared.fault.SourceFault.{SourceFault}
 use Rattle.proc_sources.specs.declared.fault.SourceFault.TheVariants.{Text, Name, Token, Size}
 use Rattle.proc_sources.specs.Sources.{is_large, compile_answer, plain_in, token_module_in, erased_in}
-use Rattle.proc_sources.specs.Sources.{module_in, sourced}
+use Rattle.proc_sources.specs.Sources.{module_in, sourced, checked_tokens, without_tokens}
 
 -- ---- the module
 
@@ -97,6 +97,16 @@ pub erased_of : (text : List ℕ) (m : ModuleFields) → erased_in text ≡ Ok m
     → (t : TokenModuleFields) × (token_module_in text ≡ Ok t) × (m ≡ erased t)
 unfolding erased_in
 erased_of text m e = erased_so (token_module_in text) m e
+
+-- what is left of what was parsed
+pub erased_steps : (text : List ℕ) → erased_in text ≡ (told_by Text (parsed_tokens text) >>= without_tokens)
+unfolding erased_in token_module_in
+erased_steps text = by (told_by Text (parsed_tokens text))
+  where
+    by : (r : Result TokenModuleFields SourceFault)
+        → ((r >>= checked_tokens) >>= (λ t. Ok (erased t))) ≡ (r >>= without_tokens)
+    by (Ok m) = refl
+    by (Err f) = refl
 
 -- ---- its limits
 

@@ -50,15 +50,25 @@ plain_in text = do
   _ ← told_by Name (resolved m)
   Ok m
 
--- the module that a text with tokens spells, whose names are resolved and whose tokens are spent once each
-unfoldable pub token_module_in : List ℕ → Result TokenModuleFields SourceFault
-token_module_in text = do
-  m ← told_by Text (parsed_tokens text)
+-- a module with tokens whose names are resolved and whose tokens are spent once each; or the first fault
+abbrev pub checked_tokens : TokenModuleFields → Result TokenModuleFields SourceFault
+checked_tokens m = do
   _ ← told_by Name (resolved_tokens m)
   _ ← told_by Token (module_walk m)
   Ok m
 
+-- the one that a text spells
+unfoldable pub token_module_in : List ℕ → Result TokenModuleFields SourceFault
+token_module_in text = do
+  m ← told_by Text (parsed_tokens text)
+  checked_tokens m
+
 -- and what is left of it without its tokens
+abbrev pub without_tokens : TokenModuleFields → Result ModuleFields SourceFault
+without_tokens m = do
+  t ← checked_tokens m
+  Ok (erased t)
+
 unfoldable pub erased_in : List ℕ → Result ModuleFields SourceFault
 erased_in text = do
   m ← token_module_in text

@@ -3,13 +3,11 @@ ghost use Rattle.std.specs.Prelude.{◌≡◌, ◌<◌, ◌^◌, [], IfOk, lengt
 ghost use Rattle.readers.specs.Answers.{AnswersUnlessRefused};
 ghost use Rattle.readers.specs.Readers.{told_by};
 ghost use Rattle.proc_parse.specs.Text.{parsed_text};
-ghost use Rattle.proc_names.specs.NameFaults.{name_faults, resolved};
+ghost use Rattle.proc_names.specs.NameFaults.{name_faults};
 ghost use Rattle.token_parse.specs.Text.{parsed_text as parsed_tokens};
-ghost use Rattle.token_language.specs.TokenFaults.{IsTokenResolved, resolved_tokens};
-ghost use Rattle.token_check.specs.Walk.{module_walk};
-ghost use Rattle.proc_sources.specs.declared.fault.SourceFault.TheVariants.{Text, Name, Token, Size};
+ghost use Rattle.proc_sources.specs.declared.fault.SourceFault.TheVariants.{Text, Size};
 ghost use Rattle.proc_sources.specs.Sources.{is_refusal, text_fault, compile_answer, plain_in};
-ghost use Rattle.proc_sources.specs.Sources.{token_module_in, erased_in, module_in, sourced};
+ghost use Rattle.proc_sources.specs.Sources.{without_tokens, erased_in, module_in, sourced};
 
 use crate::fault::SourceFault;
 use component_file::Component;
@@ -44,17 +42,6 @@ fn parsed(alloc: Global, text: &[u8]) -> Result<Module, SourceFault>
     }
 }
 
-// Whether its names lead to what fits.
-fn check_names(m: &Module) -> Result<(), SourceFault>
-    ensures names { result ≡ told_by Name (resolved m.now) }
-    ensures fine { IfOk result (λ _. name_faults m.now ≡ []) }
-{
-    match resolve(m) {
-        Ok(()) => Ok(()),
-        Err(fault) => Err(SourceFault::Name(fault)),
-    }
-}
-
 // The module that a text without tokens spells.
 #[tactic(auto, unfolding(crate::specs::Sources::plain_in))]
 fn plain_module(alloc: Global, text: &[u8]) -> Result<Module, SourceFault>
@@ -63,8 +50,10 @@ fn plain_module(alloc: Global, text: &[u8]) -> Result<Module, SourceFault>
     ensures fine { IfOk result (λ m. name_faults m ≡ []) }
 {
     let module = parsed(alloc, text)?;
-    check_names(&module)?;
-    Ok(module)
+    match resolve(&module) {
+        Ok(()) => Ok(module),
+        Err(fault) => Err(SourceFault::Name(fault)),
+    }
 }
 
 // The module with tokens that a text spells.
@@ -78,52 +67,33 @@ fn tokens_parsed(alloc: Global, text: &[u8]) -> Result<TokenModule, SourceFault>
     }
 }
 
-// Whether its names lead to what fits.
-fn check_token_names(m: &TokenModule) -> Result<(), SourceFault>
-    ensures names { result ≡ told_by Name (resolved_tokens m.now) }
-    ensures fine { IfOk result (λ _. IsTokenResolved m.now) }
+// What is left of a module without its tokens, where its names are resolved and its tokens are spent once
+// each.
+fn without_tokens(alloc: Global, m: &TokenModule) -> Result<Module, SourceFault>
+    ensures exact { AnswersUnlessRefused is_refusal result (without_tokens m.now) }
+    ensures fine { IfOk result (λ erased. name_faults erased ≡ []) }
 {
-    match resolve_tokens(m) {
-        Ok(()) => Ok(()),
-        Err(fault) => Err(SourceFault::Name(fault)),
+    if let Err(fault) = resolve_tokens(m) {
+        return Err(SourceFault::Name(fault));
     }
-}
-
-// Whether its tokens are spent once each.
-fn check_typing(m: &TokenModule) -> Result<(), SourceFault>
-    ensures { result ≡ told_by Token (module_walk m.now) }
-{
-    match check_tokens(m) {
-        Ok(()) => Ok(()),
-        Err(fault) => Err(SourceFault::Token(fault)),
+    if let Err(fault) = check_tokens(m) {
+        return Err(SourceFault::Token(fault));
     }
-}
-
-// The module with tokens that a text spells, whose names are resolved and whose tokens are spent once each.
-#[tactic(auto, unfolding(crate::specs::Sources::token_module_in))]
-fn token_module(alloc: Global, text: &[u8]) -> Result<TokenModule, SourceFault>
-    requires { length text.now < 2 ^ 32 }
-    ensures exact { AnswersUnlessRefused is_refusal result (token_module_in text.now) }
-    ensures fine { IfOk result IsTokenResolved }
-{
-    let module = tokens_parsed(alloc, text)?;
-    check_token_names(&module)?;
-    check_typing(&module)?;
-    Ok(module)
+    match erase(alloc, m) {
+        Ok(erased) => Ok(erased),
+        Err(_) => Err(SourceFault::NoMemory),
+    }
 }
 
 // What is left of the module of a text without its tokens.
-#[tactic(auto, unfolding(crate::specs::Sources::erased_in))]
+#[tactic(auto, using(crate::proofs::Modules::erased_steps))]
 fn erased_module(alloc: Global, text: &[u8]) -> Result<Module, SourceFault>
     requires { length text.now < 2 ^ 32 }
     ensures exact { AnswersUnlessRefused is_refusal result (erased_in text.now) }
     ensures fine { IfOk result (λ m. name_faults m ≡ []) }
 {
-    let module = token_module(alloc, text)?;
-    match erase(alloc, &module) {
-        Ok(erased) => Ok(erased),
-        Err(_) => Err(SourceFault::NoMemory),
-    }
+    let module = tokens_parsed(alloc, text)?;
+    without_tokens(alloc, &module)
 }
 
 /// The module that a text in this language spells, whose names are resolved; of a text with tokens what is
