@@ -59,8 +59,8 @@ returns-in-Stop c =
     let same = c.in_ok-next.ensures.same
     ∙ ap (λ a. ahead_of c.args.world.now a c.turn.new.work.items c.turn.new.run c.turn.new.store.items)
     c.in-Stop.is in
-    stopped c.args.fuel _ _ c.in-Stop.end c.loop-next.events.items c.loop-next.left c.loop-next.coming.now same
-    c.loop-next.invariant.1
+    stopped c.args.fuel _ _ c.in-Stop.end c.loop-next.events.items c.loop-next.left c.loop-next.coming.now
+    same c.loop-next.invariant.1
 
 pub loop-next-preserved : goal.loop-next-preserved
 loop-next-preserved c =
