@@ -18,7 +18,7 @@ use Rattle.link_tool.specs.Generated.{load_of, load_steps}
 use Rattle.image_loader.specs.Image.{ImageSeen, image_bytes}
 use Rattle.file_plans.specs.declared.refusal.Refusal.TheVariants as refusal
 use Rattle.file_plans.specs.Plans.{Plan, Ends, Made, ◌>>=◌, file}
-use Rattle.alike_modules.specs.Alike.{IsParsedBack, IsSourceOf}
+use Rattle.meaning_tool.specs.Erased.{IsSourceAgain}
 use Rattle.meaning_tool.specs.Subjects.{Subject, module_at, subject_in}
 use Rattle.proc_language.specs.declared.module.ModuleFields.{ModuleFields}
 use Rattle.proc_print.specs.Printed.{printed}
@@ -45,7 +45,7 @@ spelling_of (OfModule m) = printed m
 abbrev pub IsReadAgain : Content → Type 0
 IsReadAgain (OfComponent c) = decoded (spelling c) ≡ Ok c
 IsReadAgain (OfImage i) = loaded (image_bytes i) ≡ Ok i
-IsReadAgain (OfModule m) = IsParsedBack m → IsSourceOf (printed m) m
+IsReadAgain (OfModule m) = IsSourceAgain m
 
 -- what is told of a run: its lines and its end line; or, of a load, its totals
 pub data Telling : Type 0 where
