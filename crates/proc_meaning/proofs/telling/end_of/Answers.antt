@@ -1,10 +1,12 @@
 use Rattle.std.proofs.Common.{◌-◌, ◌≤◌, ap, ◌∙◌, reverse, arith}
+use Rattle.std.proofs.lemmas.List.{nil_from_length}
 use Rattle.proc_meaning.specs.declared.work.Now.TheVariants as now
 use Rattle.proc_semantics.specs.Meaning.{on_item}
 use Rattle.proc_semantics.specs.Whole.{whole}
 use Rattle.proc_meaning.specs.Rest.{ahead_of, waiting}
 use Rattle.proc_meaning.proofs.Works.{kept}
-use Rattle.proc_meaning.proofs.Ticking.{at_first, went, went_ticks, went_said, ran_out, stopped, none_left, took}
+use Rattle.proc_meaning.proofs.Ticking.{at_first, went, went_ticks, went_said, ran_out, stopped}
+use Rattle.proc_meaning.proofs.Ticking.{none_left, took}
 use Rattle.proc_meaning.proofs.telling.end_of.Goals as goal
 
 pub loop-next-init : goal.loop-next-init
@@ -51,7 +53,8 @@ loop-next-preserved-in-Said c =
     c.in-Said.is in (
       c.loop-next.invariant.0,
       went_said c.args.fuel _ c.in-Said.event _ _ c.loop-next.events.items _
-          c.loop-next.left c.loop-next.coming.now c.in_ok-push-in-Said.ensures.items same c.loop-next.invariant.1,
+          c.loop-next.left c.loop-next.coming.now c.in_ok-push-in-Said.ensures.items same
+          c.loop-next.invariant.1,
     )
 
 pub returns-in-Stop : goal.returns-in-Stop
@@ -61,6 +64,15 @@ returns-in-Stop c =
     c.in-Stop.is in
     stopped c.args.fuel _ _ c.in-Stop.end c.loop-next.events.items c.loop-next.left c.loop-next.coming.now
     same c.loop-next.invariant.1
+
+pub returns-in-None : goal.returns-in-None
+returns-in-None c =
+    let world = c.args.world.now in let items = c.turn.new.work.items in let st = c.turn.new.store.items in
+    let same =
+    c.in_ok-next.ensures.same ∙ ap (λ a. ahead_of world a items c.turn.new.run st) c.in-Asks.is in
+    none_left c.args.fuel _ (on_item world (whole world) (waiting world (reverse items)) st) _
+    c.loop-next.events.items c.loop-next.left c.loop-next.coming.now
+    (nil_from_length c.loop-next.coming.now c.in-None.ensures.cases) same c.loop-next.invariant.1
 
 pub loop-next-preserved : goal.loop-next-preserved
 loop-next-preserved c =
