@@ -7,14 +7,11 @@ use Rattle.cap_words.specs.declared.Word.TheVariants.{Int}
 use Rattle.lcm_isa.specs.declared.Reg.{Reg}
 use Rattle.lcm_isa.specs.declared.Instr.{Instr}
 use Rattle.call_sequence.specs.Sequences.{numbers}
-use Rattle.proc_program.specs.Program.{Exp, Statement}
-use Rattle.proc_templates.specs.declared.FrameShape.{FrameShape}
 use Rattle.proc_templates.specs.Items.{Item, does, guards, instrs, sites_with, put, word_of}
 use Rattle.proc_templates.specs.Templates.{argument, check_half, check_param}
 use Rattle.proc_templates.specs.Free.{behind}
 use Rattle.proc_templates.proofs.Offers.{put-length}
-use Rattle.proc_compiler.specs.Drafts.{Drafted, with_items, with_code, with_words, Emits, EmitsExp, EmitsStep}
-use Rattle.proc_compiler.specs.Drafts.{PutsWords}
+use Rattle.proc_compiler.specs.Drafts.{Drafted, with_items, with_code, with_words, Emits, PutsWords}
 use Rattle.proc_compiler.proofs.Written.{items_append, items_nil}
 
 pub nothing : (d : Drafted) → Emits [] 0 0 d d
@@ -44,15 +41,6 @@ counted {d = d} words calls h = record {
   sited = h.sited ∙ ap (λ x. length d.laid.sites + x) calls;
   kept = h.kept;
 }
-
--- of a statement or an expression that is this one
-pub of_step : (f : FrameShape) {s r : Statement} {d e : Drafted} → s ≡ r → EmitsStep f r d e
-    → EmitsStep f s d e
-of_step f {d = d} {e = e} is h = subst (λ s. EmitsStep f s d e) (sym is) h
-
-pub of_exp : (f : FrameShape) (slot : ℕ) {x y : Exp} {d e : Drafted} → x ≡ y → EmitsExp f slot y d e
-    → EmitsExp f slot x d e
-of_exp f slot {d = d} {e = e} is h = subst (λ x. EmitsExp f slot x d e) (sym is) h
 
 -- a single item that is no call
 pub single : (x : Item) (n : ℕ) (d e : Drafted) → ((o : ℕ) → behind o x ≡ o + n)

@@ -1,9 +1,9 @@
-use Rattle.std.proofs.Common.{◌≡◌, ◌+◌, ◌-◌, [], ◌∷◌, pos, length, drop, refl, sym, ap, ◌∙◌, subst, arith}
+use Rattle.std.proofs.Common.{◌≡◌, ◌+◌, ◌-◌, [], ◌∷◌, pos, length, drop, ap, subst, arith}
 use Rattle.std.proofs.lemmas.List.{drop_all}
 use Rattle.std.proofs.lemmas.Result.{on_ok_weaker}
 use Rattle.call_sequence.specs.Sequences.{distance}
 use Rattle.proc_program.specs.Program.{step_size, block_size}
-use Rattle.proc_program.specs.StepView.{step_of, block_of}
+use Rattle.proc_program.specs.StepView.{block_of}
 use Rattle.proc_language.proofs.Offers.{drop_item}
 use Rattle.proc_templates.specs.Items.{goes}
 use Rattle.proc_templates.specs.Templates.{exp_words, step_words, block_words, block_code}
@@ -11,40 +11,8 @@ use Rattle.proc_templates.specs.Bounds.{BlockBound}
 use Rattle.proc_compiler.specs.declared.counts.TheConstants.{JUMP_WORDS}
 use Rattle.proc_compiler.specs.Drafts.{Emits}
 use Rattle.proc_compiler.proofs.Branches.{labelled, followed, led, branched, repeated}
-use Rattle.proc_compiler.proofs.Emitted.{then, counted, of_step}
 use Rattle.proc_compiler.proofs.Loops.{Left, one_more, none_left}
 use Rattle.proc_compiler.proofs.stmts.+statement.Goals as goal
-
-pub statement-returns-in_ok-expr-in-Set : goal.statement-returns-in_ok-expr-in-Set
-statement-returns-in_ok-expr-in-Set t c =
-    on_ok_weaker c.store_var.result
-    (λ h. of_step c.args.f (sym c.s.view_is ∙ ap step_of c.in-Set.is)
-    (counted refl (omega arith) (then c.in_ok-expr-in-Set.ensures h)))
-    c.store_var.ensures
-
-pub statement-returns-in_ok-put-in-Return : goal.statement-returns-in_ok-put-in-Return
-statement-returns-in_ok-put-in-Return t c =
-    on_ok_weaker c.finish.result
-    (λ h. of_step c.args.f (sym c.s.view_is ∙ ap step_of c.in-Return.is)
-    (counted refl (omega arith) (then c.in_ok-expr-in-Return.ensures (then c.in_ok-put-in-Return.ensures h))))
-    c.finish.ensures
-
-pub statement-returns-in_ok-expr-in-Halt : goal.statement-returns-in_ok-expr-in-Halt
-statement-returns-in_ok-expr-in-Halt t c =
-    on_ok_weaker c.puts.result
-    (λ h. of_step c.args.f (sym c.s.view_is ∙ ap step_of c.in-Halt.is)
-    (counted refl (omega arith) (then c.in_ok-expr-in-Halt.ensures h)))
-    c.puts.ensures
-
-pub statement-returns-in-SetAt : goal.statement-returns-in-SetAt
-statement-returns-in-SetAt t c =
-    on_ok_weaker c.sets_at.result (of_step c.args.f (sym c.s.view_is ∙ ap step_of c.in-SetAt.is))
-    c.sets_at.ensures
-
-pub statement-returns-in-Do : goal.statement-returns-in-Do
-statement-returns-in-Do t c =
-    on_ok_weaker c.expr-in-Do.result (of_step c.args.f (sym c.s.view_is ∙ ap step_of c.in-Do.is))
-    c.expr-in-Do.ensures
 
 pub block-loop-s-preserved : goal.block-loop-s-preserved
 block-loop-s-preserved t c =
