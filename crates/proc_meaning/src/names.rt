@@ -16,10 +16,22 @@ use std::alloc::{AllocError, Global};
 /// The name of the procedure at which a program starts.
 const MAIN: &str = "main";
 
+fn is_shared(name: &[u8], proc: &Procedure) -> bool
+    ensures { result ≡ is_shared name.now proc.now }
+{
+    proc.shared && name == proc.name.as_slice()
+}
+
+fn is_named(part: &[u8], owner: &Program) -> bool
+    ensures { result ≡ is_named part.now owner.now }
+{
+    part == owner.name.as_slice()
+}
+
 fn named(world: &[Program], part: &[u8]) -> Option<usize>
     ensures { result ≡ position (is_named part.now) world.now }
 {
-    world.iter().position(|owner| part == owner.name.as_slice())
+    world.iter().position(|owner| is_named(part, owner))
 }
 
 fn shared_place(owner: &Program, name: &[u8]) -> Option<usize>
@@ -29,7 +41,7 @@ fn shared_place(owner: &Program, name: &[u8]) -> Option<usize>
         .procs
         .as_slice()
         .iter()
-        .position(|proc| proc.shared && name == proc.name.as_slice())
+        .position(|proc| is_shared(name, proc))
 }
 
 fn shared_in(world: &[Program], home: usize, name: &[u8]) -> Option<Target>
@@ -55,12 +67,16 @@ pub(crate) fn found(world: &[Program], part: &[u8], name: &[u8]) -> Option<Targe
     }
 }
 
+fn has_main(owner: &Program) -> bool
+    ensures { result ≡ has_main owner.now }
+{
+    shared_place(owner, MAIN.as_bytes()).is_some()
+}
+
 fn first_main(world: &[Program]) -> Option<usize>
     ensures { result ≡ position has_main world.now }
 {
-    world
-        .iter()
-        .position(|owner| shared_place(owner, MAIN.as_bytes()).is_some())
+    world.iter().position(|owner| has_main(owner))
 }
 
 /// The first shared main.
