@@ -30,7 +30,7 @@ use Rattle.authority_report.specs.declared.reach.Reach.{Reach}
 use Rattle.authority_report.specs.Spans.{allows}
 use Rattle.authority_report.specs.Report.{told_authority, IsJust}
 use Rattle.authority_report.specs.SealRanges.{is_in}
-use Rattle.authority_report.specs.Found.{bared, gives, gives_seal, AddsWord, authority_of, IsSound}
+use Rattle.authority_report.specs.Found.{bared, gives, gives_seal, IsEmpty, AddsWord, authority_of, IsSound}
 use Rattle.authority_report.specs.Found.{IsClosedBut}
 use Rattle.authority_report.proofs.ReachedWithin.{reached_within}
 
@@ -201,28 +201,24 @@ all_left f g w adds h a e = elim (cases_Bool (has f.read a)) as (λ _. is_left g
   | inr new ↦ fresh _ f.read f.left.items g.read g.left.items adds.read a new e
 ]
 
-sound_none : (m : State Word) (o : Owner) (f : Found) → ((a : ℕ) → has f.read a ≡ false)
-    → ((a : ℕ) → has f.write a ≡ false) → ((a : ℕ) → has f.run a ≡ false) → ((a : ℕ) → has f.seals a ≡ false)
-    → f.left.items ≡ [] → IsSound m o f
-sound_none m o f r w x s l = record {
-  read = λ a e. no e (r a);
-  write = λ a e. no e (w a);
-  run = λ a e. no e (x a);
-  seals = λ a e. no e (s a);
-  left = λ a e. (let z : false ≡ true = sym (ap (λ ss. is_left ss a) l) ∙ e in absurd cc);
+sound_none : (m : State Word) (o : Owner) (f : Found) → IsEmpty f → IsSound m o f
+sound_none m o f none = record {
+  read = λ a e. no e (none.read a);
+  write = λ a e. no e (none.write a);
+  run = λ a e. no e (none.run a);
+  seals = λ a e. no e (none.seals a);
+  left = λ a e. (let z : false ≡ true = sym (ap (λ ss. is_left ss a) none.left) ∙ e in absurd cc);
 }
 
 -- the code, the data and the stack are added to nothing
-pub closed_begun : (m : State Word) (o : Owner) (z : ℤ) (f0 f1 f2 f3 : Found)
-    → ((a : ℕ) → has f0.read a ≡ false) → ((a : ℕ) → has f0.write a ≡ false)
-    → ((a : ℕ) → has f0.run a ≡ false) → ((a : ℕ) → has f0.seals a ≡ false) → f0.left.items ≡ []
+pub closed_begun : (m : State Word) (o : Owner) (z : ℤ) (f0 f1 f2 f3 : Found) → IsEmpty f0
     → AddsWord f0 (Mem (whole_code o z)) f1 → AddsWord f1 (Mem (whole_data o)) f2 → AddsWord f2
     (bared o (reg m.regs Stk)) f3
     → IsClosedBut (λ a. false) m o f3
-closed_begun m o z f0 f1 f2 f3 r w x s l first second third = record {
+closed_begun m o z f0 f1 f2 f3 none first second third = record {
   sound = stays_sound m o f2 f3 (reg m.regs Stk) the_stack third
       (stays_sound m o f1 f2 (Mem (whole_data o)) its_data second
-      (stays_sound m o f0 f1 (Mem (whole_code o z)) (its_code z) first (sound_none m o f0 r w x s l)));
+      (stays_sound m o f0 f1 (Mem (whole_code o z)) (its_code z) first (sound_none m o f0 none)));
   begun = record {
     its_code = λ y. (
         let k = cap_added o f0 f1 (whole_code o z) first in
@@ -236,7 +232,7 @@ closed_begun m o z f0 f1 f2 f3 r w x s l first second third = record {
   };
   looked = λ a e. absurd (let f : false ≡ true = e in cc);
   cells = λ a v reads out rest there. no (all_left f2 f3 _ third
-      (all_left f1 f2 _ second (all_left f0 f1 _ first (λ a e. no e (r a)))) a reads) out;
+      (all_left f1 f2 _ second (all_left f0 f1 _ first (λ a e. no e (none.read a)))) a reads) out;
 }
 
 -- ---- looking at cells

@@ -1,5 +1,6 @@
 mod Ends
 mod Filled
+mod NoPlaces
 mod SpansListed
 mod StretchesFound
 pub mod FreeLemmas

@@ -1,6 +1,6 @@
 -- What is found of a part's reach, and what is left to be looked at.
 use Rattle.std.specs.Prelude.{◌≡◌, ℕ, ◌+◌, length, nat_le, Bool, true, false, ◌&&◌, ◌||◌, ℤ, pos, Some}
-use Rattle.std.specs.Prelude.{if◌then◌else◌}
+use Rattle.std.specs.Prelude.{[], if◌then◌else◌}
 use Rattle.cap_words.specs.declared.Word.{Word}
 use Rattle.cap_words.specs.declared.Word.TheVariants.{Int, Mem, Seal, Sealed}
 use Rattle.cap_words.specs.declared.Perm.{Perm}
@@ -47,6 +47,14 @@ gives may _ a = false
 abbrev pub gives_seal : Word → ℕ → Bool
 gives_seal (Seal q) n = nat_le q.base n && nat_le n q.end
 gives_seal _ n = false
+
+-- nothing is found
+pub record IsEmpty (f : Found) : Type 0 where
+  pub read : (a : ℕ) → has f.read a ≡ false
+  pub write : (a : ℕ) → has f.write a ≡ false
+  pub run : (a : ℕ) → has f.run a ≡ false
+  pub seals : (n : ℕ) → has f.seals n ≡ false
+  pub left : f.left.items ≡ []
 
 -- what a word gives is added
 pub record AddsWord (f : Found) (w : Word) (g : Found) : Type 0 where

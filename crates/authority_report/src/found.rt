@@ -1,10 +1,10 @@
 //! What is found of a part's reach, word by word.
 ghost use Rattle.std.specs.Prelude.{◌≡◌, ◌≤◌, ◌+◌, ◌&&◌, ℕ, false, nat_le, pos, IfOk, OnOk, []};
 ghost use Rattle.cap_words.specs.declared.Word.TheVariants.{Mem as MemWord, Seal as SealWord};
-ghost use Rattle.authority_report.specs.Has.{has};
 ghost use Rattle.authority_report.specs.Reaches.{is_seal_of, whole_code, whole_data};
 ghost use Rattle.cap_words.specs.Face.{FaceInOrder, ContentInOrder};
-ghost use Rattle.authority_report.specs.Found.{bared, bare_word, opened_word, AddsWord, IsClosedBut, unread};
+ghost use Rattle.authority_report.specs.Found.{bared, bare_word, opened_word, IsEmpty, AddsWord};
+ghost use Rattle.authority_report.specs.Found.{IsClosedBut, unread};
 
 use crate::set::{PlaceSet, Stretch};
 use cap_words::{CapFields, Content, Face, LAST_PLACE, Lin, Opened, Perm, SealFields, Word};
@@ -61,11 +61,7 @@ fn data_of(owner: &Owner) -> CapFields
 impl Found {
     /// Nothing.
     pub(crate) fn new(alloc: Global) -> Result<Found, AllocError>
-        ensures read { IfOk result (λ f. (a : ℕ) → has f.read a ≡ false) }
-        ensures write { IfOk result (λ f. (a : ℕ) → has f.write a ≡ false) }
-        ensures run { IfOk result (λ f. (a : ℕ) → has f.run a ≡ false) }
-        ensures seals { IfOk result (λ f. (a : ℕ) → has f.seals a ≡ false) }
-        ensures left { IfOk result (λ f. f.left.items ≡ []) }
+        ensures { IfOk result IsEmpty }
     {
         Ok(Found {
             read: PlaceSet::new(alloc)?,
@@ -143,17 +139,16 @@ impl Found {
         }
     }
 
-    /// What the part begins with: its code, its data and the stack.
-    pub(crate) fn begin(alloc: Global, state: &LcmState, owner: &Owner) -> Result<Found, AllocError>
+    /// Adds to nothing what the part begins with: its code, its data and the stack.
+    pub(crate) fn begin(&mut self, state: &LcmState, owner: &Owner) -> Result<(), AllocError>
+        requires empty { IsEmpty self.old }
         requires code { owner.now.code.end ≤ LAST_PLACE }
         requires its_data { owner.now.data_span.end ≤ LAST_PLACE }
-        ensures { IfOk result (IsClosedBut (λ a. false) state.now.maps owner.now) }
+        ensures { OnOk result (IsClosedBut (λ a. false) state.now.maps owner.now self.new) }
     {
-        let mut found = Found::new(alloc)?;
-        found.add_memory(code_of(owner))?;
-        found.add_memory(data_of(owner))?;
-        found.add(state.reg(Reg::Stk), owner)?;
-        Ok(found)
+        self.add_memory(code_of(owner))?;
+        self.add_memory(data_of(owner))?;
+        self.add(state.reg(Reg::Stk), owner)
     }
 
     // Adds what the word of an address gives, if it has a cell.

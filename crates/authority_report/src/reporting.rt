@@ -1,5 +1,6 @@
 //! Reports of parts.
 ghost use Rattle.std.specs.Prelude.{◌≡◌, ◌≤◌, ◌<◌, Some, IfOk, length, option_copied};
+ghost use Rattle.authority_report.specs.Found.{IsEmpty};
 ghost use Rattle.authority_report.specs.Report.{IsReport, owner_of_part, Reports};
 ghost use Rattle.authority_report.specs.SealRanges.{SealsAreOwn};
 ghost use Rattle.authority_report.specs.Entered.{IsLinked, BoundsRuns};
@@ -14,6 +15,28 @@ use lcm_machine::LcmState;
 use linked_starts::{Owner, Start};
 use std::alloc::{AllocError, Global};
 
+// The report of an owner, where nothing is found yet.
+fn reach_of(
+    alloc: Global,
+    found: &mut Found,
+    state: &LcmState,
+    owner: &Owner,
+) -> Result<Reach, AllocError>
+    requires empty { IsEmpty found.old }
+    requires code { owner.now.code.end ≤ LAST_PLACE }
+    requires its_data { owner.now.data_span.end ≤ LAST_PLACE }
+    requires seals { SealsAreOwn state.now.maps owner.now }
+    requires few { owner.now.seals.count ≤ LONGEST_STRETCH }
+    ensures { IfOk result (IsReport state.now.maps owner.now) }
+{
+    found.begin(state, owner)?;
+    found.finish(state, owner)?;
+    let spans = spans_of(alloc, &found.read, &found.write, &found.run)?;
+    let stretches = found.seals.stretches(alloc)?;
+    let seals = ranges_of(alloc, stretches.as_slice())?;
+    Ok(Reach { spans, seals })
+}
+
 /// The report of an owner.
 pub(crate) fn report_of(alloc: Global, state: &LcmState, owner: &Owner) -> Result<Reach, AllocError>
     requires code { owner.now.code.end ≤ LAST_PLACE }
@@ -22,12 +45,8 @@ pub(crate) fn report_of(alloc: Global, state: &LcmState, owner: &Owner) -> Resul
     requires few { owner.now.seals.count ≤ LONGEST_STRETCH }
     ensures { IfOk result (IsReport state.now.maps owner.now) }
 {
-    let mut found = Found::begin(alloc, state, owner)?;
-    found.finish(state, owner)?;
-    let spans = spans_of(alloc, &found.read, &found.write, &found.run)?;
-    let stretches = found.seals.stretches(alloc)?;
-    let seals = ranges_of(alloc, stretches.as_slice())?;
-    Ok(Reach { spans, seals })
+    let mut found = Found::new(alloc)?;
+    reach_of(alloc, &mut found, state, owner)
 }
 
 // The owner of a part, if there is one.

@@ -3,7 +3,7 @@ use Rattle.std.specs.List.{All}
 use Rattle.authority_report.specs.SealRanges.{is_in, AreRanges, Fits, range_of}
 use Rattle.authority_report.proofs.FoundLemmas.{found_all, found_told}
 use Rattle.authority_report.proofs.Ranges.{ranges_have, ranges_apart, all_fit}
-use Rattle.authority_report.proofs.reporting.report_of.Goals as goal
+use Rattle.authority_report.proofs.reporting.reach_of.Goals as goal
 
 pub ranges_of-requires : goal.ranges_of-requires
 ranges_of-requires c =
