@@ -1,3 +1,4 @@
+mod Glued
 mod Leads
 mod Lines
 mod TableLines
