@@ -75,14 +75,14 @@ impl fmt::Display for ImageFault {
 
     fn fmt<W: fmt::Write>(&self, f: &mut fmt::Formatter<W>) -> fmt::Result {
         match self {
-            ImageFault::Magic => write!(f, "the image does not begin with STKI"),
-            ImageFault::Version => write!(f, "the version is not 1"),
+            ImageFault::Magic => f.write_str("the image does not begin with STKI"),
+            ImageFault::Version => f.write_str("the version is not 1"),
             ImageFault::Short(at) => write!(f, "the image ends within the field at byte {at}"),
             ImageFault::BadField(at) => write!(f, "the field at byte {at} is not valid"),
             ImageFault::Trailing(at) => write!(f, "the image ends before byte {at}"),
             ImageFault::File(part, fault) => write!(f, "part {part}: {fault}"),
-            ImageFault::Rule(at) => write!(f, "{at}"),
-            ImageFault::NoMemory => write!(f, "out of memory"),
+            ImageFault::Rule(at) => fmt::Display::fmt(at, f),
+            ImageFault::NoMemory => f.write_str("out of memory"),
         }
     }
 }
