@@ -13,6 +13,17 @@ unreachable-requires c =
     not_none _ (c.requires.found c.loop-import.import-index c.import-item.result at)
     (sym c.imported.ensures ∙ c.in_default.is)
 
+pub overflow_add-data_base : goal.overflow_add-data_base
+overflow_add-data_base c =
+    let p = c.args.part.now in
+    let i = c.import-item.result in
+    let at = item_at p.component.imports c.imports-import-items.result.now c.loop-import.import-index i
+    c.imports-import-items.ensures.is c.loop-import-test.true c.import-item.is in
+    let within = c.requires.kept.slots_in c.loop-import.import-index i at in
+    let end = c.requires.kept.data_end in
+    let base = c.data_base.ensures.is in
+    omega (arith, base, within, end)
+
 pub lay_halves-requires : goal.lay_halves-requires
 lay_halves-requires c =
     let p = c.args.part.now in
