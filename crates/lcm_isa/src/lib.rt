@@ -243,6 +243,43 @@ fn number_of_parts(op: u64, first: Reg, second: Reg, third: Reg, last: Operand) 
     low + MODE * last.mode() + FIELD * last.field()
 }
 
+// The parts of an instruction: its op number, its registers and its last operand. What it doesn't have
+// counts as pc, whose number is 0.
+#[tactic(auto, unfolding(crate::specs::Numbers::number_of))]
+fn parts(instr: &Instr) -> (u64, Reg, Reg, Reg, Operand)
+    ensures value { number_of instr.now ≡ packed result.0 (reg_number result.1) (reg_number result.2)
+        (reg_number result.3) (mode_of result.4) (field_of result.4) }
+    ensures below { result.0 < 64 }
+{
+    let pc = Reg::Pc;
+    let none = Operand::R(pc);
+    match *instr {
+        Instr::Fail => (0, pc, pc, pc, none),
+        Instr::Halt => (1, pc, pc, pc, none),
+        Instr::Jmp(a) => (2, a, pc, pc, none),
+        Instr::Jnz(a, b) => (3, a, b, pc, none),
+        Instr::Gettype(a, b) => (4, a, b, pc, none),
+        Instr::Geta(a, b) => (5, a, b, pc, none),
+        Instr::Getb(a, b) => (6, a, b, pc, none),
+        Instr::Gete(a, b) => (7, a, b, pc, none),
+        Instr::Getp(a, b) => (8, a, b, pc, none),
+        Instr::Getlin(a, b) => (9, a, b, pc, none),
+        Instr::Move(a, n) => (10, a, pc, pc, n),
+        Instr::Store(a, b) => (11, a, b, pc, none),
+        Instr::Load(a, b) => (12, a, b, pc, none),
+        Instr::Cca(a, n) => (13, a, pc, pc, n),
+        Instr::Restrict(a, n) => (14, a, pc, pc, n),
+        Instr::Lt(a, b, n) => (15, a, b, pc, n),
+        Instr::Plus(a, b, n) => (16, a, b, pc, n),
+        Instr::Minus(a, b, n) => (17, a, b, pc, n),
+        Instr::Seta2b(a) => (18, a, pc, pc, none),
+        Instr::Xjmp(a, b) => (19, a, b, pc, none),
+        Instr::Cseal(a, b) => (20, a, b, pc, none),
+        Instr::Split(a, b, c, n) => (21, a, b, c, n),
+        Instr::Splice(a, b, c) => (22, a, b, c, none),
+    }
+}
+
 /// The number of an instruction. It is never negative.
 ///
 /// It is `op + 2^6 * r1 + 2^10 * r2 + 2^14 * r3 + 2^18 * mode + 2^19 * field`, where what the
@@ -250,43 +287,8 @@ fn number_of_parts(op: u64, first: Reg, second: Reg, third: Reg, last: Operand) 
 pub fn encode(instr: &Instr) -> i64
     ensures { result ≡ pos (number_of instr.now) }
 {
-    number(instr) as i64
-}
-
-// The number, of which an instruction needs 51 bits. An operand that it doesn't have counts as pc, whose
-// number is 0.
-#[tactic(auto, unfolding(crate::specs::Numbers::number_of))]
-fn number(instr: &Instr) -> u64
-    ensures value { result ≡ number_of instr.now }
-    ensures below { result < 2 ^ 51 }
-{
-    let pc = Reg::Pc;
-    let none = Operand::R(pc);
-    match *instr {
-        Instr::Fail => number_of_parts(0, pc, pc, pc, none),
-        Instr::Halt => number_of_parts(1, pc, pc, pc, none),
-        Instr::Jmp(a) => number_of_parts(2, a, pc, pc, none),
-        Instr::Jnz(a, b) => number_of_parts(3, a, b, pc, none),
-        Instr::Gettype(a, b) => number_of_parts(4, a, b, pc, none),
-        Instr::Geta(a, b) => number_of_parts(5, a, b, pc, none),
-        Instr::Getb(a, b) => number_of_parts(6, a, b, pc, none),
-        Instr::Gete(a, b) => number_of_parts(7, a, b, pc, none),
-        Instr::Getp(a, b) => number_of_parts(8, a, b, pc, none),
-        Instr::Getlin(a, b) => number_of_parts(9, a, b, pc, none),
-        Instr::Move(a, n) => number_of_parts(10, a, pc, pc, n),
-        Instr::Store(a, b) => number_of_parts(11, a, b, pc, none),
-        Instr::Load(a, b) => number_of_parts(12, a, b, pc, none),
-        Instr::Cca(a, n) => number_of_parts(13, a, pc, pc, n),
-        Instr::Restrict(a, n) => number_of_parts(14, a, pc, pc, n),
-        Instr::Lt(a, b, n) => number_of_parts(15, a, b, pc, n),
-        Instr::Plus(a, b, n) => number_of_parts(16, a, b, pc, n),
-        Instr::Minus(a, b, n) => number_of_parts(17, a, b, pc, n),
-        Instr::Seta2b(a) => number_of_parts(18, a, pc, pc, none),
-        Instr::Xjmp(a, b) => number_of_parts(19, a, b, pc, none),
-        Instr::Cseal(a, b) => number_of_parts(20, a, b, pc, none),
-        Instr::Split(a, b, c, n) => number_of_parts(21, a, b, c, n),
-        Instr::Splice(a, b, c) => number_of_parts(22, a, b, c, none),
-    }
+    let (op, first, second, third, last) = parts(instr);
+    number_of_parts(op, first, second, third, last) as i64
 }
 
 impl Instr {
