@@ -17,7 +17,8 @@ use Rattle.line_fields.specs.Fields.{meant, tested, whole}
 use Rattle.line_fields.specs.Seen.{EnterSeen}
 use Rattle.line_fields.specs.Lines.{LineSeen, enter_line as Enter, ret_line as Ret, pass_line as Pass}
 use Rattle.line_fields.specs.Lines.{other_line as Other}
-use Rattle.line_fields.specs.Lines.{begun, entered, answered, passed, enter_in, ret_in, pass_in, seen}
+use Rattle.line_fields.specs.Lines.{begun, entered, answered_with, answered, passed, enter_in}
+use Rattle.line_fields.specs.Lines.{ret_in, pass_in, seen}
 use Rattle.line_fields.proofs.Offers.{text_is_back, text_is_handed}
 use Rattle.audited_runs.proofs.High.{IsHigh, decimal_high, word_high, name_high, name_is, IsOneLine}
 use Rattle.audited_runs.proofs.High.{line_join, high_line}
@@ -138,7 +139,7 @@ answer_in : (part : List ℕ) (site base last : ℕ) (a0 : Word) (words : List W
     → LineFits (ret false part site base last a0 words)
     → ret_in (part ++ spaced (ret_fields site base last a0 words))
     ≡ Some (record { part = part; site = site; base = base; a0 = word_text_of a0 })
-unfolding ret_in answered meant tested
+unfolding ret_in answered answered_with meant tested
 answer_in part site base last a0 words h =
     let behind : AllHigh (word_text_of a0 ∷ codes ":" ∷ map word_text_of words) =
     (word_high a0, (colon_high, words_high words)) in

@@ -9,7 +9,7 @@ use Rattle.line_fields.specs.declared.fault.FeedFault.{FeedFault}
 use Rattle.line_fields.specs.declared.fault.FeedFault.TheVariants.{Line}
 use Rattle.line_fields.specs.declared.line.FeedLine.{FeedLine}
 use Rattle.line_fields.specs.Lines.{seen, is_enter}
-use Rattle.line_fields.specs.Feed.{line_item, with_item, fed_line, fed_from, fed}
+use Rattle.line_fields.specs.Feed.{line_item, line_items, with_item, fed_line, fed_from, fed}
 
 -- after items that are read already
 abbrev pub behind_items : List Item → Result (List Item) FeedFault → Result (List Item) FeedFault
@@ -24,10 +24,11 @@ behind_none : (r : Result (List Item) FeedFault) → behind_items [] r ≡ r
 behind_none (Ok items) = refl
 behind_none (Err e) = refl
 
-behind_one : (items : List Item) (i : Item) (r : Result (List Item) FeedFault)
-    → behind_items (items ++ i ∷ []) r ≡ behind_items items (with_item (Some i) r)
-behind_one items i (Ok more) = ap Ok (append_assoc items (i ∷ []) more)
-behind_one items i (Err e) = refl
+behind_line : (items : List Item) (o : Option Item) (r : Result (List Item) FeedFault)
+    → behind_items (items ++ line_items o) r ≡ behind_items items (with_item o r)
+behind_line items None r = ap (λ x. behind_items x r) (append-nil items)
+behind_line items (Some i) (Ok more) = ap Ok (append_assoc items (i ∷ []) more)
+behind_line items (Some i) (Err e) = refl
 
 pub begins : (items : List Item) (base : ℕ) (left : List (List ℕ)) (text : List ℕ) → items ≡ []
     → left ≡ lines text → behind_items items (fed_from base false 1 left) ≡ fed base text
@@ -62,25 +63,16 @@ module _ (items : List Item) (base : ℕ) (entry : Bool) (n : ℕ) (left : List 
       → None ≡ seen entry line → behind_items items (fed_from base entry n left) ≡ Err (Line n)
   bad_line line rest at is = ap (behind_items items) (at_line line rest None at is)
 
-  module _ (more : List Item) (line : List ℕ) (rest : List (List ℕ)) (found : FeedLine) (b : Bool)
-      (at : field left ≡ Some (line, rest)) (is : Some found ≡ seen entry line)
-      (enters : b ≡ is_enter found) where
-    pub with_one : (i : Item) → Some i ≡ line_item base found rest → more ≡ items ++ i ∷ []
-        → behind_items more (fed_from base b (n + 1) rest) ≡ behind_items items (fed_from base entry n left)
-    with_one i one grown =
-        ap (λ x. behind_items x (fed_from base b (n + 1) rest)) grown
-        ∙ behind_one items i (fed_from base b (n + 1) rest)
-        ∙ ap (λ e. behind_items items (with_item (Some i) (fed_from base e (n + 1) rest))) enters
-        ∙ ap (λ o. behind_items items (with_item o (fed_from base (is_enter found) (n + 1) rest))) one
-        ∙ sym (ap (behind_items items) (at_line line rest (Some found) at is))
-
-    pub with_none : None ≡ line_item base found rest → more ≡ items
-        → behind_items more (fed_from base b (n + 1) rest) ≡ behind_items items (fed_from base entry n left)
-    with_none none same =
-        ap (λ x. behind_items x (fed_from base b (n + 1) rest)) same
-        ∙ ap (λ e. behind_items items (fed_from base e (n + 1) rest)) enters
-        ∙ ap (λ o. behind_items items (with_item o (fed_from base (is_enter found) (n + 1) rest))) none
-        ∙ sym (ap (behind_items items) (at_line line rest (Some found) at is))
+  pub good_line : (more : List Item) (line : List ℕ) (rest : List (List ℕ)) (found : FeedLine) (b : Bool)
+      → field left ≡ Some (line, rest) → Some found ≡ seen entry line → b ≡ is_enter found
+      → more ≡ items ++ line_items (line_item base found rest)
+      → behind_items more (fed_from base b (n + 1) rest) ≡ behind_items items (fed_from base entry n left)
+  good_line more line rest found b at is enters grown =
+      let o = line_item base found rest in
+      ap (λ x. behind_items x (fed_from base b (n + 1) rest)) grown
+      ∙ behind_line items o (fed_from base b (n + 1) rest)
+      ∙ ap (λ e. behind_items items (with_item o (fed_from base e (n + 1) rest))) enters
+      ∙ sym (ap (behind_items items) (at_line line rest (Some found) at is))
 
   pub ends : field left ≡ None → behind_items items (fed_from base entry n left) ≡ Ok items
   ends none =

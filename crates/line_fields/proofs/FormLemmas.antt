@@ -16,7 +16,8 @@ use Rattle.line_fields.proofs.Numbers.{chosen, some_of}
 use Rattle.line_fields.specs.declared.line.FeedLine.{FeedLine}
 use Rattle.line_fields.specs.declared.line.FeedLine.TheVariants.{Enter, Ret, Pass, Other}
 use Rattle.line_fields.specs.Seen.{EnterSeen, RetSeen, PassSeen}
-use Rattle.line_fields.specs.Lines.{entered, answered, passed, begun, enter_in, ret_in, pass_in}
+use Rattle.line_fields.specs.Lines.{entered, answered_with, answered, passed, begun, enter_in}
+use Rattle.line_fields.specs.Lines.{ret_in, pass_in}
 use Rattle.line_fields.specs.Lines.{pass_seen, ret_seen, enter_seen, seen, is_enter}
 use Rattle.line_fields.specs.Bad.{IsEnterForm, IsRetForm, IsPassForm, KeepsForm, begins_enter}
 
@@ -90,7 +91,7 @@ enter_form ts y h last =
     (is_part, is_name, is_back)))))))))
 
 ret_form : (ts : Fields) (y : RetSeen × Fields) → answered ts ≡ Some y → IsRetForm ts
-unfolding answered
+unfolding answered answered_with
 ret_form ts y h =
     by_test is_name _ ts y IsRetForm h (λ part r1 x1 is_part h1.
     by_meaning natural_in _ r1 y (λ r. IsRetForm (part ∷ r)) h1 (λ site r2 x2 is_site h2.
@@ -149,7 +150,7 @@ enter_read (part ∷ name ∷ stk ∷ a0 ∷ a1 ∷ a2 ∷ a3 ∷ back ∷ []) h
 enter_read _ h = absurd h
 
 ret_read : (ts : List (List ℕ)) → IsRetForm ts → is_some (begun (answered ts)) ≡ true
-unfolding answered tested meant
+unfolding answered answered_with tested meant
 ret_read (part ∷ site ∷ base ∷ last ∷ a0 ∷ colon ∷ words) h =
     let one : is_name part ≡ true = h.0 in
     let k = is_there (natural_in site) h.1 in

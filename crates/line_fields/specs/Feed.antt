@@ -49,6 +49,10 @@ line_item base (Ret r) rest = Some (answer_item r)
 line_item base (Pass p) rest = None
 line_item base Other rest = None
 
+abbrev pub line_items : Option Item → List Item
+line_items None = []
+line_items (Some i) = i ∷ []
+
 -- ---- the whole
 
 abbrev pub with_item : Option Item → Result (List Item) FeedFault → Result (List Item) FeedFault

@@ -39,16 +39,21 @@ entered = do
   back ← meant back_in
   done (record { part = part; name = name; stk = stk; a0 = a0; a1 = a1; a2 = a2; a3 = a3; back = back })
 
+-- END A0 :, behind these
+unfoldable pub answered_with : List ℕ → ℕ → ℕ → Reader RetSeen
+answered_with part site base = do
+  last ← meant natural_in
+  a0 ← field
+  colon ← tested (bytes_eq (codes ":"))
+  done (record { part = part; site = site; base = base; a0 = a0 })
+
 -- PART SITE BASE END A0 :
 unfoldable pub answered : Reader RetSeen
 answered = do
   part ← tested is_name
   site ← meant natural_in
   base ← meant natural_in
-  last ← meant natural_in
-  a0 ← field
-  colon ← tested (bytes_eq (codes ":"))
-  done (record { part = part; site = site; base = base; a0 = a0 })
+  answered_with part site base
 
 -- P0 P1 P2
 unfoldable pub passed : Reader PassSeen

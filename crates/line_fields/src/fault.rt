@@ -24,7 +24,7 @@ impl fmt::Display for FeedFault {
     fn fmt<W: fmt::Write>(&self, f: &mut fmt::Formatter<W>) -> fmt::Result {
         match self {
             FeedFault::Line(line) => write!(f, "line {line} is not of the form of a feed's"),
-            FeedFault::NoMemory => write!(f, "out of memory"),
+            FeedFault::NoMemory => f.write_str("out of memory"),
         }
     }
 }

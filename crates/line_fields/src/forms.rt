@@ -86,10 +86,10 @@ pub fn back_in(text: &[u8]) -> Option<WayBack<'_>>
         return Some(WayBack::Bad);
     }
     if let Some(entry) = behind(b"hop:", text) {
-        return Some(WayBack::Hop(entry_in(entry)?));
+        return entry_in(entry).map(WayBack::Hop);
     }
     let call = behind(b"pair:", text)?;
-    Some(WayBack::Pair(call_in(call)?))
+    call_in(call).map(WayBack::Pair)
 }
 
 /// What two argument registers are as a closure pair: `none`, `bad`, `out` or `hop:PART:EXPORT`. `None`
@@ -108,5 +108,5 @@ pub fn handed_in(text: &[u8]) -> Option<Handed<'_>>
         return Some(Handed::Out);
     }
     let entry = behind(b"hop:", text)?;
-    Some(Handed::Hop(entry_in(entry)?))
+    entry_in(entry).map(Handed::Hop)
 }

@@ -1,9 +1,10 @@
 //! The items of lines.
-ghost use Rattle.std.specs.Prelude.{◌≡◌, [], ◌∷◌, IfOk};
+ghost use Rattle.std.specs.Prelude.{◌≡◌, [], ◌∷◌, ◌++◌, IfOk, OnOk};
 ghost use Rattle.source_events.specs.Forms.{no_pairs};
 ghost use Rattle.source_events.specs.Left.{left_by};
 ghost use Rattle.line_fields.specs.Forms.{back_seen, handed_seen};
 ghost use Rattle.line_fields.specs.Feed.{left_of, pairs_of, pairs_next, entered_item, answer_item, line_item};
+ghost use Rattle.line_fields.specs.Feed.{line_items};
 
 use crate::forms::WayBack;
 use crate::line::{FeedLine, seen};
@@ -122,8 +123,9 @@ fn entered_item(
 ) -> Result<Item, AllocError>
     ensures { IfOk result (λ i. i ≡ entered_item base e.now (pairs_next lines.now)) }
 {
-    let (part, name) = owned_pair(alloc, e.part, e.name)?;
+    let pairs = pairs_behind(alloc, lines)?;
     let back = back_of(alloc, &e.back)?;
+    let (part, name) = owned_pair(alloc, e.part, e.name)?;
     Ok(Item::Enter {
         part,
         name,
@@ -134,7 +136,7 @@ fn entered_item(
             integer_in(e.a2),
             integer_in(e.a3),
         ],
-        pairs: pairs_behind(alloc, lines)?,
+        pairs,
         back,
     })
 }
@@ -150,18 +152,21 @@ fn answer_item(alloc: Global, r: &Answered<'_>) -> Result<Item, AllocError>
     })
 }
 
-/// The item of a line, by the lines after it.
-pub(crate) fn item_of(
+/// Appends the item of a line, if it tells one, by the lines after it.
+pub(crate) fn push_item(
+    items: &mut Vec<Item>,
     alloc: Global,
     base: u32,
     seen: &FeedLine<'_>,
     lines: &Parts<'_>,
-) -> Result<Option<Item>, AllocError>
-    ensures { IfOk result (λ i. i ≡ line_item base seen.now lines.now) }
+) -> Result<(), AllocError>
+    ensures { OnOk result (items.new.items
+        ≡ items.old.items ++ line_items (line_item base seen.now lines.now)) }
 {
     match seen {
-        FeedLine::Enter(e) => Ok(Some(entered_item(alloc, base, e, lines)?)),
-        FeedLine::Ret(r) => Ok(Some(answer_item(alloc, r)?)),
-        _ => Ok(None),
+        FeedLine::Enter(e) => items.push(entered_item(alloc, base, e, lines)?)?,
+        FeedLine::Ret(r) => items.push(answer_item(alloc, r)?)?,
+        _ => {}
     }
+    Ok(())
 }

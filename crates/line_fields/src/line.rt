@@ -1,8 +1,8 @@
 //! The lines of a feed.
 ghost use Rattle.std.specs.Prelude.{◌≡◌};
 ghost use Rattle.line_fields.specs.Fields.{GivesAs};
-ghost use Rattle.line_fields.specs.Lines.{entered, answered, passed, enter_in, ret_in, pass_in, seen};
-ghost use Rattle.line_fields.specs.Lines.{is_enter};
+ghost use Rattle.line_fields.specs.Lines.{entered, answered_with, answered, passed};
+ghost use Rattle.line_fields.specs.Lines.{enter_in, ret_in, pass_in, seen, is_enter};
 
 use crate::seen::{Answered, Entered, Passed};
 use crate::{Parts, behind};
@@ -44,13 +44,16 @@ fn entered<'a>(fields: &mut Parts<'a>) -> Option<Entered<'a>>
     })
 }
 
-#[tactic(auto, unfolding(crate::specs::Lines::answered))]
-fn answered<'a>(fields: &mut Parts<'a>) -> Option<Answered<'a>>
-    ensures { GivesAs (λ r. r) result fields.new (answered fields.old) }
+// `END A0 :`, after the name of a part, a site of it, and the first address of a range.
+#[tactic(auto, unfolding(crate::specs::Lines::answered_with))]
+fn answered_with<'a>(
+    part: &'a [u8],
+    site: u32,
+    base: u32,
+    fields: &mut Parts<'a>,
+) -> Option<Answered<'a>>
+    ensures { GivesAs (λ r. r) result fields.new (answered_with part.now site base fields.old) }
 {
-    let part = fields.name()?;
-    let site = fields.natural()?;
-    let base = fields.natural()?;
     fields.natural()?;
     let a0 = fields.part()?;
     fields.is(":")?;
@@ -60,6 +63,17 @@ fn answered<'a>(fields: &mut Parts<'a>) -> Option<Answered<'a>>
         base,
         a0,
     })
+}
+
+// `PART SITE BASE END A0 :`
+#[tactic(auto, unfolding(crate::specs::Lines::answered))]
+fn answered<'a>(fields: &mut Parts<'a>) -> Option<Answered<'a>>
+    ensures { GivesAs (λ r. r) result fields.new (answered fields.old) }
+{
+    let part = fields.name()?;
+    let site = fields.natural()?;
+    let base = fields.natural()?;
+    answered_with(part, site, base, fields)
 }
 
 #[tactic(auto, unfolding(crate::specs::Lines::passed))]
@@ -108,13 +122,13 @@ pub(crate) fn seen(entry: bool, line: &[u8]) -> Option<FeedLine<'_>>
     ensures { result ≡ seen entry line.now }
 {
     if let Some(rest) = behind(b"enter ", line) {
-        return Some(FeedLine::Enter(enter_in(rest)?));
+        return enter_in(rest).map(FeedLine::Enter);
     }
     if let Some(rest) = behind(b"ret out ", line) {
-        return Some(FeedLine::Ret(ret_in(rest)?));
+        return ret_in(rest).map(FeedLine::Ret);
     }
     match behind(b"pass ", line) {
-        Some(rest) if entry => Some(FeedLine::Pass(pass_in(rest)?)),
+        Some(rest) if entry => pass_in(rest).map(FeedLine::Pass),
         _ => Some(FeedLine::Other),
     }
 }

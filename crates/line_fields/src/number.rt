@@ -89,7 +89,7 @@ fn negative(number: u64) -> Option<i64>
     if number == 0 {
         return None;
     }
-    Some(-((number - 1) as i64) - 1)
+    Some(-1 - (number - 1) as i64)
 }
 
 /// The integer of 64 bits that a text is, and `None` exactly where the text is the decimal text of none. A

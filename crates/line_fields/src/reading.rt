@@ -5,7 +5,7 @@ ghost use Rattle.line_fields.specs.Feed.{fed};
 
 use crate::Parts;
 use crate::fault::FeedFault;
-use crate::item::item_of;
+use crate::item::push_item;
 use crate::line::seen;
 use source_events::Item;
 use std::alloc::Global;
@@ -29,9 +29,7 @@ pub fn read_feed(alloc: Global, base: u32, text: &[u8]) -> Result<Vec<Item>, Fee
         let Some(found) = seen(entry, line) else {
             return Err(FeedFault::Line(number));
         };
-        if let Some(item) = item_of(alloc, base, &found, &lines)? {
-            items.push(item)?;
-        }
+        push_item(&mut items, alloc, base, &found, &lines)?;
         entry = found.is_enter();
         number += 1;
     }

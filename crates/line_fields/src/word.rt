@@ -68,8 +68,7 @@ fn content_in(text: &[u8]) -> Option<Sealable>
     ensures { result ≡ content_in text.now }
 {
     if let Some(rest) = behind(b"cap(", text) {
-        let cap = cap_in(rest)?;
-        return Some(Sealable::Mem(cap));
+        return cap_in(rest).map(Sealable::Mem);
     }
     let rest = behind(b"seal(", text)?;
     let range = range_in(rest)?;

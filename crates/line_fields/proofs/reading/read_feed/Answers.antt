@@ -1,7 +1,5 @@
-use Rattle.std.proofs.Common.{arith, rules, sym, ap, ◌∙◌, length, inr, Vec, Global}
-use Rattle.source_events.specs.declared.Item.{Item}
-use Rattle.line_fields.proofs.Feeding.{begins, few, bad_line, with_one, with_none, ends}
-use Rattle.line_fields.proofs.reading.read_feed.Goals.{in-Some-2+in_ok-push, in_default-2}
+use Rattle.std.proofs.Common.{arith, rules, sym, ap, ◌∙◌, length, inr}
+use Rattle.line_fields.proofs.Feeding.{begins, few, bad_line, good_line, ends}
 use Rattle.line_fields.proofs.reading.read_feed.Goals as goal
 use Rattle.line_fields.proofs.Cuts.{next_line}
 
@@ -25,20 +23,11 @@ loop-line-preserved c =
     let next = next_line c.loop-line.lines c.in-Some.line.now c.part.new.self c.in-Some.ensures in
     record {
       number = omega (arith, ap length next, c.loop-line.invariant.number);
-      so_far = elim c.match-branch-2.branch [
-        | in-Some-2+in_ok-push w ↦
-            with_one c.loop-line.items.items c.args.base c.loop-line.entry c.loop-line.number
-            c.loop-line.lines _ c.in-Some.line.now c.part.new.self c.in-Some-seen.found _ c.in-Some.ensures
-            c.in-Some-seen.ensures c.is_enter-entry.ensures _ (sym w.in-Some-2.is ∙ c.in_ok-item.ensures)
-            (ap (λ (v : Vec Item Global). v.items) w.items-is ∙ w.in_ok-push.ensures.items)
-            ∙ c.loop-line.invariant.so_far
-        | in_default-2 w ↦
-            with_none c.loop-line.items.items c.args.base c.loop-line.entry c.loop-line.number
-            c.loop-line.lines _ c.in-Some.line.now c.part.new.self c.in-Some-seen.found _ c.in-Some.ensures
-            c.in-Some-seen.ensures c.is_enter-entry.ensures (sym w.in_default-2.is ∙ c.in_ok-item.ensures)
-            (ap (λ (v : Vec Item Global). v.items) w.items-is)
-            ∙ c.loop-line.invariant.so_far
-      ];
+      so_far =
+          good_line c.loop-line.items.items c.args.base c.loop-line.entry c.loop-line.number c.loop-line.lines
+          _ c.in-Some.line.now c.part.new.self c.in-Some-seen.found _ c.in-Some.ensures
+          c.in-Some-seen.ensures c.is_enter-entry.ensures c.in_ok-push_item.ensures
+          ∙ c.loop-line.invariant.so_far;
     }
 
 pub returns-clause-told : goal.returns-clause-told
