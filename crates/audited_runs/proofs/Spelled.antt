@@ -20,7 +20,7 @@ use Rattle.audited_runs.proofs.Offers.{fields_are, words_spaced, words_high, nat
 use Rattle.audited_runs.proofs.Offers.{back_high, pair_high, body}
 use Rattle.run_audit.specs.declared.line.Line.TheVariants.{Enter, Pass, Leave}
 use Rattle.run_audit.specs.declared.line.Line.{Line as AuditLine}
-use Rattle.run_audit.specs.Lines.{line_in, one_line, line_named, told, words_left, call as call_in}
+use Rattle.run_audit.specs.Lines.{line_in, one_line, line_named, told, told_with, words_left, call as call_in}
 use Rattle.run_audit.specs.Lines.{ret as ret_in, entered, passed, left}
 use Rattle.audited_runs.specs.Audited.{line_seen}
 use Rattle.audited_runs.specs.Spelling.{LineHasText, FittingHaveTexts}
@@ -106,7 +106,7 @@ call_at : (inward : Bool) (part : List ℕ) (site base last : ℕ) (a : Args) (w
     → LineHasText (call inward part site base last a words)
     → one_line (codes "call" ∷ call_fields inward part site base last a words)
     ≡ Some (line_seen (call inward part site base last a words), [])
-unfolding one_line line_named call_in told words_left meant tested
+unfolding one_line line_named call_in told told_with words_left meant tested
 call_at inward part site base last a words h =
     let p : is_name part ≡ true = name_is part h.0.0 in
     let s = natural_again site h.0.1 in
@@ -165,7 +165,7 @@ ret_at : (inward : Bool) (part : List ℕ) (site base last : ℕ) (a0 : Word) (w
     → LineHasText (ret inward part site base last a0 words)
     → one_line (codes "ret" ∷ ret_fields inward part site base last a0 words)
     ≡ Some (line_seen (ret inward part site base last a0 words), [])
-unfolding one_line line_named ret_in told words_left meant tested
+unfolding one_line line_named ret_in told told_with words_left meant tested
 ret_at inward part site base last a0 words h =
     let p : is_name part ≡ true = name_is part h.0.0 in
     let s = natural_again site h.0.1 in

@@ -3,6 +3,7 @@ use Rattle.std.proofs.Common.{◌≡◌, ℕ, ◌≤◌, Bool, true, false, List
 use Rattle.std.proofs.Common.{arith}
 use Rattle.std.specs.Prelude.{codes, decimal, map, ◌||◌}
 use Rattle.std.specs.Str.{bytes_eq}
+use Rattle.cap_words.specs.declared.Word.{Word}
 use Rattle.cap_words.specs.Names.{is_name}
 use Rattle.cap_words.specs.Text.{word_text_of}
 use Rattle.run_lines.specs.Lines.{Line, call, ret, enter, pass, leave}
@@ -19,7 +20,7 @@ use Rattle.audited_runs.proofs.Offers.{spaced, body, line_text_is}
 use Rattle.run_audit.specs.declared.line.Line.{Line as AuditLine}
 use Rattle.run_audit.specs.declared.line.Line.TheVariants.{Call, Ret, Pass}
 use Rattle.run_audit.specs.Told.{ToldSeen}
-use Rattle.run_audit.specs.Lines.{is_direction, registers, told, words_left}
+use Rattle.run_audit.specs.Lines.{is_direction, registers, told, told_with, words_left}
 use Rattle.run_audit.specs.Lines.{call as call_in, ret as ret_in, entered, passed, left}
 use Rattle.audited_runs.specs.Audited.{told_seen, line_seen}
 use Rattle.audited_runs.specs.Spelling.{LineHasText, LineIsSpelled}
@@ -53,6 +54,48 @@ record ToldTaken (is_call : Bool) (ts : Fields) (t : ToldSeen) (rest : Fields) :
   texts : AllOf HasText line.words
   none : rest ≡ []
 
+-- behind a part, a site of it and the first address of a range
+record EndTaken (is_call : Bool) (part : List ℕ) (site base : ℕ) (ts : Fields) (t : ToldSeen) (rest : Fields)
+    : Type 0 where
+  last : ℕ
+  words : List Word
+  before : Fields
+  arg : List ℕ
+  is : ts ≡ decimal last ∷ before
+  args : registers is_call before ≡ Some (arg, codes ":" ∷ map word_text_of words)
+  seen : told_seen (record { part = part; site = site; base = base; last = last; words = words }) ≡ t
+  within : last ≤ 4294967295
+  texts : AllOf HasText words
+  none : rest ≡ []
+
+end_taken : (is_call : Bool) (part : List ℕ) (site base : ℕ) (ts : Fields) (t : ToldSeen) (rest : Fields)
+    → told_with is_call part site base ts ≡ Some (t, rest) → EndTaken is_call part site base ts t rest
+unfolding told_with
+end_taken is_call part site base ts t rest h =
+    let y : ToldSeen × Fields = (t, rest) in
+    let g0 = goes (meant natural_in ts) _ y h in
+    let g1 = goes (registers is_call g0.rest) _ y g0.next in
+    let g2 = goes (tested (bytes_eq (codes ":")) g1.rest) _ y g1.next in
+    let g3 = goes (words_left g2.rest) _ y g2.next in
+    let l = natural_taken ts g0.value g0.rest g0.first in
+    let k = mark_taken (codes ":") g1.rest g2.value g2.rest g2.first in
+    let w = words_taken g2.rest g3.value g3.rest g3.first in
+    let both = same_read g3.next in
+    record {
+      last = g0.value;
+      words = w.words;
+      before = g0.rest;
+      arg = g1.value;
+      is = l.1;
+      args = g1.first ∙ ap (λ us. Some (g1.value, us)) (k ∙ ap (λ us. codes ":" ∷ us) w.is);
+      seen = ap (λ ws. record { part = part; site = site; base = base; last = g0.value; words = ws })
+          (sym (w.same ∙ w.is))
+          ∙ both.0;
+      within = l.0;
+      texts = w.texts;
+      none = sym both.1 ∙ w.none;
+    }
+
 told_taken : (is_call : Bool) (ts : Fields) (t : ToldSeen) (rest : Fields) → told is_call ts ≡ Some (t, rest)
     → ToldTaken is_call ts t rest
 unfolding told
@@ -62,32 +105,22 @@ told_taken is_call ts t rest h =
     let g1 = goes (tested is_name g0.rest) _ y g0.next in
     let g2 = goes (meant natural_in g1.rest) _ y g1.next in
     let g3 = goes (meant natural_in g2.rest) _ y g2.next in
-    let g4 = goes (meant natural_in g3.rest) _ y g3.next in
-    let g5 = goes (registers is_call g4.rest) _ y g4.next in
-    let g6 = goes (tested (bytes_eq (codes ":")) g5.rest) _ y g5.next in
-    let g7 = goes (words_left g6.rest) _ y g6.next in
     let d = direction_taken ts g0.value g0.rest g0.first in
     let p = name_taken g0.rest g1.value g1.rest g1.first in
     let s = natural_taken g1.rest g2.value g2.rest g2.first in
     let b = natural_taken g2.rest g3.value g3.rest g3.first in
-    let l = natural_taken g3.rest g4.value g4.rest g4.first in
-    let k = mark_taken (codes ":") g5.rest g6.value g6.rest g6.first in
-    let w = words_taken g6.rest g7.value g7.rest g7.first in
-    let both = same_read g7.next in
+    let e = end_taken is_call g1.value g2.value g3.value g3.rest t rest g3.next in
     record {
       inward = d.0;
-      line = record { part = g1.value; site = g2.value; base = g3.value; last = g4.value; words = w.words };
-      before = g4.rest;
-      arg = g5.value;
-      is = and_then d.1 (and_then p.1 (and_then s.1 (and_then b.1 l.1)));
-      args = g5.first ∙ ap (λ us. Some (g5.value, us)) (k ∙ ap (λ us. codes ":" ∷ us) w.is);
-      seen = ap
-          (λ ws. record { part = g1.value; site = g2.value; base = g3.value; last = g4.value; words = ws })
-          (sym (w.same ∙ w.is))
-          ∙ both.0;
-      fits = (p.0, s.0, b.0, l.0);
-      texts = w.texts;
-      none = sym both.1 ∙ w.none;
+      line = record { part = g1.value; site = g2.value; base = g3.value; last = e.last; words = e.words };
+      before = e.before;
+      arg = e.arg;
+      is = and_then d.1 (and_then p.1 (and_then s.1 (and_then b.1 e.is)));
+      args = e.args;
+      seen = e.seen;
+      fits = (p.0, s.0, b.0, e.within);
+      texts = e.texts;
+      none = e.none;
     }
 
 pub call_spelled : (fs : Fields) (l : AuditLine) → call_in fs ≡ Some (l, []) → Spells (codes "call") fs l

@@ -54,6 +54,15 @@ registers false = tested is_word
 unfoldable pub words_left : Reader (List (List ℕ))
 words_left ts = unless_none (where_true (list_all is_word ts) ts) []
 
+-- the last address, the registers, a colon and the words, behind these
+unfoldable pub told_with : Bool → List ℕ → ℕ → ℕ → Reader ToldSeen
+told_with is_call part site base = do
+  last ← meant natural_in
+  args ← registers is_call
+  colon ← tested (bytes_eq (codes ":"))
+  words ← words_left
+  done (record { part = part; site = site; base = base; last = last; words = words })
+
 -- what a call line, or a ret line, tells
 unfoldable pub told : Bool → Reader ToldSeen
 told is_call = do
@@ -61,11 +70,7 @@ told is_call = do
   part ← tested is_name
   site ← meant natural_in
   base ← meant natural_in
-  last ← meant natural_in
-  args ← registers is_call
-  colon ← tested (bytes_eq (codes ":"))
-  words ← words_left
-  done (record { part = part; site = site; base = base; last = last; words = words })
+  told_with is_call part site base
 
 unfoldable pub call : Reader Line
 call = do

@@ -3,8 +3,8 @@ ghost use Rattle.std.specs.Prelude.{◌≡◌};
 ghost use Rattle.source_events.specs.Forms.{is_pair};
 ghost use Rattle.line_fields.specs.Forms.{handed_seen};
 ghost use Rattle.line_fields.specs.Fields.{GivesAs};
-ghost use Rattle.run_audit.specs.Lines.{registers, told, call, ret, entered, passed, left, steps, halted};
-ghost use Rattle.run_audit.specs.Lines.{failed, running, line_named, one_line, line_in, is_end};
+ghost use Rattle.run_audit.specs.Lines.{registers, told_with, told, call, ret, entered, passed, left, steps};
+ghost use Rattle.run_audit.specs.Lines.{halted, failed, running, line_named, one_line, line_in, is_end};
 
 use crate::fields::{address, cause, count, direction, words};
 use crate::told::FrameLine;
@@ -39,15 +39,18 @@ fn registers<'a>(is_call: bool, fields: &mut Parts<'a>) -> Option<&'a [u8]>
     fields.word()
 }
 
-// What a call line, or a ret line, tells.
-#[tactic(auto, unfolding(crate::specs::Lines::told))]
-fn told<'a>(is_call: bool, fields: &mut Parts<'a>) -> Option<FrameLine<'a>>
-    ensures { GivesAs (λ t. t) result fields.new (told is_call fields.old) }
+// What such a line tells from the last address of its range on, after the name of a part, a site of it, and
+// the first address.
+#[tactic(auto, unfolding(crate::specs::Lines::told_with))]
+fn told_with<'a>(
+    is_call: bool,
+    part: &'a [u8],
+    site: u32,
+    base: u32,
+    fields: &mut Parts<'a>,
+) -> Option<FrameLine<'a>>
+    ensures { GivesAs (λ t. t) result fields.new (told_with is_call part.now site base fields.old) }
 {
-    direction(fields)?;
-    let part = fields.name()?;
-    let site = fields.natural()?;
-    let base = fields.natural()?;
     let last = fields.natural()?;
     registers(is_call, fields)?;
     fields.is(":")?;
@@ -59,6 +62,18 @@ fn told<'a>(is_call: bool, fields: &mut Parts<'a>) -> Option<FrameLine<'a>>
         last,
         words,
     })
+}
+
+// What a call line, or a ret line, tells.
+#[tactic(auto, unfolding(crate::specs::Lines::told))]
+fn told<'a>(is_call: bool, fields: &mut Parts<'a>) -> Option<FrameLine<'a>>
+    ensures { GivesAs (λ t. t) result fields.new (told is_call fields.old) }
+{
+    direction(fields)?;
+    let part = fields.name()?;
+    let site = fields.natural()?;
+    let base = fields.natural()?;
+    told_with(is_call, part, site, base, fields)
 }
 
 #[tactic(auto, unfolding(crate::specs::Lines::entered))]

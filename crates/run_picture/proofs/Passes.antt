@@ -19,7 +19,8 @@ use Rattle.run_audit.specs.declared.fault.AuditFault.TheVariants.{Form, Width, O
 use Rattle.run_audit.specs.declared.line.Line.{Line}
 use Rattle.run_audit.specs.declared.line.Line.TheVariants as audit_line
 use Rattle.run_audit.specs.Told.{ToldSeen, is_wide, same_told}
-use Rattle.run_audit.specs.Lines.{is_direction, is_cause, is_address, registers, words_left, told, call, ret}
+use Rattle.run_audit.specs.Lines.{is_direction, is_cause, is_address, registers, words_left, told_with, told}
+use Rattle.run_audit.specs.Lines.{call, ret}
 use Rattle.run_audit.specs.Lines.{entered as enter_line, passed, left, steps, halted, failed, running}
 use Rattle.run_audit.specs.Lines.{line_named, one_line, line_in}
 use Rattle.run_audit.specs.Audit.{OpenSeen, nothing_open, below_newest, closed_by, audit_on, judged, stepped}
@@ -58,7 +59,7 @@ spanned_is c d p s b l r base last h k = rw (h, k) refl
 told_is : (b : Bool) (ts : Fields) (t : ToldSeen) (rest : Fields) → told b ts ≡ Some (t, rest)
     → (side : Side) × (r : Fields)
     × (spanned b ts ≡ Some (call_or_ret b side (record { base = t.base; last = t.last }), r))
-unfolding told
+unfolding told told_with
 told_is b ts t rest h =
     let g1 = goes (tested is_direction ts) _ (t, rest) h in
     let g2 = goes (tested is_name g1.rest) _ (t, rest) g1.next in

@@ -25,7 +25,8 @@ use Rattle.run_audit.specs.declared.line.Line.{Line}
 use Rattle.run_audit.specs.declared.line.Line.TheVariants.{Call, Ret, Enter, Pass, Leave, End}
 use Rattle.run_audit.specs.Told.{ToldSeen}
 use Rattle.run_audit.specs.Lines.{is_direction, is_cause_behind, is_cause, is_address, registers, words_left}
-use Rattle.run_audit.specs.Lines.{told, call, ret, entered, passed, left, steps, halted, failed, running}
+use Rattle.run_audit.specs.Lines.{told_with, told, call, ret, entered, passed, left, steps, halted, failed}
+use Rattle.run_audit.specs.Lines.{running}
 use Rattle.run_audit.specs.Lines.{line_named, one_line, line_in}
 use Rattle.run_audit.specs.Audit.{OpenSeen, nothing_open, stepped, at_end, audit_on, judged, audited_from}
 use Rattle.run_audit.specs.Audit.{audited}
@@ -142,7 +143,7 @@ words_plain ts x rest h =
 
 told_plain : (b : Bool) (ts : Fields) (t : ToldSeen) (rest : Fields) → told b ts ≡ Some (t, rest)
     → AllPlain ts
-unfolding told
+unfolding told told_with
 told_plain b ts t rest h =
     let g1 = goes (tested is_direction ts) _ (t, rest) h in
     let g2 = goes (tested is_name g1.rest) _ (t, rest) g1.next in
