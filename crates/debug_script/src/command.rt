@@ -52,20 +52,20 @@ pub fn command_in(line: &[u8]) -> Option<DebugCommand>
     ensures { result ≡ command_in line.now }
 {
     if let Some(steps) = behind(b"f ", line) {
-        return Some(DebugCommand::Forward(steps_in(steps)?));
+        return steps_in(steps).map(DebugCommand::Forward);
     }
     if let Some(steps) = behind(b"b ", line) {
-        return Some(DebugCommand::Back(steps_in(steps)?));
+        return steps_in(steps).map(DebugCommand::Back);
     }
     if let Some(at) = behind(b"stop ", line) {
-        return Some(DebugCommand::StopAt(address_in(at)?));
+        return address_in(at).map(DebugCommand::StopAt);
     }
     if let Some(at) = behind(b"clear ", line) {
-        return Some(DebugCommand::Clear(address_in(at)?));
+        return address_in(at).map(DebugCommand::Clear);
     }
     if let Some(at) = behind(b"c ", line) {
-        return Some(DebugCommand::Cell(address_in(at)?));
+        return address_in(at).map(DebugCommand::Cell);
     }
     let name = behind(b"r ", line)?;
-    Some(DebugCommand::Register(register_in(name)?))
+    register_in(name).map(DebugCommand::Register)
 }

@@ -24,7 +24,7 @@ impl fmt::Display for ScriptFault {
     fn fmt<W: fmt::Write>(&self, f: &mut fmt::Formatter<W>) -> fmt::Result {
         match self {
             ScriptFault::Line(line) => write!(f, "line {line} is no command of a script"),
-            ScriptFault::NoMemory => write!(f, "out of memory"),
+            ScriptFault::NoMemory => f.write_str("out of memory"),
         }
     }
 }
