@@ -8,7 +8,8 @@ ghost use Rattle.readers.specs.Answers.{Gives, GivesAs};
 ghost use Rattle.asm_fields.specs.Fields.{proper_name_at};
 ghost use Rattle.asm_fields.specs.Instrs.{last_seen};
 ghost use Rattle.asm_fields.specs.Operands.{offset_seen, kind_seen, stretch_at};
-ghost use Rattle.assembler.specs.Order.{reaches_data};
+ghost use Rattle.assembler.specs.declared.labels.Section.TheVariants.{Code};
+ghost use Rattle.assembler.specs.Order.{reaches_data, section_of};
 ghost use Rattle.assembler.specs.Tables.{tables_seen};
 ghost use Rattle.assembler.specs.Draft.{nothing, words_in, has_word_room, with_word, may_end, with_label};
 ghost use Rattle.assembler.specs.Draft.{with_instr};
@@ -146,11 +147,7 @@ impl<'a> Draft<'a> {
     {
         let word = self.code.len() as u32;
         self.code.push(Word::Int(encode(instr)))?;
-        match last {
-            Last::Plain(_) => Ok(()),
-            Last::Code(at, name) => self.references.push_word(word, at, Section::Code, name),
-            Last::Data(at, name) => self.references.push_word(word, at, Section::Data, name),
-        }
+        self.references.push_last(word, last)
     }
 
     // Adds a label before the next word of its section.
@@ -194,6 +191,13 @@ impl<'a> Draft<'a> {
         if labelled { self.label(fields) } else { Ok(()) }
     }
 
+    // Whether an instruction may stand next.
+    fn takes_instr(&self) -> bool
+        ensures { result ≡ (is_code (section_of self.now.last) && has_word_room Code self.now) }
+    {
+        matches!(section_of(self.last), Some(Section::Code)) && self.has_word_room(Section::Code)
+    }
+
     #[tactic(auto, unfolding(crate::specs::Lines::instr_in))]
     fn instr(&mut self, fields: &mut Fields<'a, '_>) -> Result<(), AsmFault>
         ensures { MakesDraft result self.new fields.new (instr_in self.old fields.old) }
@@ -203,7 +207,7 @@ impl<'a> Draft<'a> {
         let Some(row) = row_named(name) else {
             return Err(AsmFault::Unknown(at));
         };
-        if !is_code(section_of(self.last)) || !self.has_word_room(Section::Code) {
+        if !self.takes_instr() {
             return Err(AsmFault::Section(at));
         }
         let (instr, last) = instr_operands(at, name, shape_of(&row), fields)?;
@@ -456,12 +460,6 @@ impl<'a> Draft<'a> {
     {
         reaches_data(self.last) && self.may_end()
     }
-}
-
-fn is_code(section: Option<Section>) -> bool
-    ensures { result ≡ is_code section }
-{
-    matches!(section, Some(Section::Code))
 }
 
 // Puts what was read into its place.

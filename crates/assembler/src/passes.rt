@@ -4,15 +4,35 @@ ghost use Rattle.component_file.specs.declared.TheConstants.{MOST_WORDS};
 ghost use Rattle.assembler.specs.References.{AreReady};
 ghost use Rattle.readers.specs.Answers.{AnswersUnlessRefused};
 ghost use Rattle.asm_fields.specs.Fault.{is_refusal};
-ghost use Rattle.assembler.specs.Assembled.{finished, assembled};
+ghost use Rattle.readers.specs.Readers.{told_by};
+ghost use Rattle.std.specs.Result.{result_and};
+ghost use Rattle.asm_fields.specs.declared.fault.AsmFault.TheVariants.{LabelMissing};
+ghost use Rattle.assembler.specs.Assembled.{in_order, finished, assembled};
 
 use crate::draft::Draft;
 use crate::lines::draft_of;
+use crate::references::MissingLabel;
 use asm_fields::AsmFault;
 use cap_words::Items;
 use component_file::{Component, ComponentFields};
 use std::alloc::Global;
 use text_scan::scan;
+
+// That a label is missing, or else that an item is out of order.
+fn first_fault(
+    resolved: Result<(), MissingLabel>,
+    out_of_order: Option<u32>,
+) -> Result<(), AsmFault>
+    ensures { result ≡ result_and (told_by (λ m. LabelMissing m.at) resolved) (in_order out_of_order) }
+{
+    if let Err(missing) = resolved {
+        return Err(AsmFault::LabelMissing(missing.at));
+    }
+    match out_of_order {
+        Some(at) => Err(AsmFault::Section(at)),
+        None => Ok(()),
+    }
+}
 
 // What a draft says, once each reference has its label and no item is out of order. It takes no memory.
 #[tactic(auto, unfolding(crate::specs::Assembled::finished))]
@@ -30,13 +50,9 @@ fn component_of(draft: Draft<'_>) -> Result<ComponentFields, AsmFault>
         data_words,
         tables,
     } = draft;
-    if let Err(missing) = references.resolve(&labels, &mut code) {
-        return Err(AsmFault::LabelMissing(missing.at));
-    }
-    if let Some(at) = tables.out_of_order {
-        return Err(AsmFault::Section(at));
-    }
-    Ok(ComponentFields {
+    let resolved = references.resolve(&labels, &mut code);
+    let faults = first_fault(resolved, tables.out_of_order);
+    let fields = ComponentFields {
         name: header.name,
         stack_base: header.stack_base,
         closure: header.closure,
@@ -53,7 +69,8 @@ fn component_of(draft: Draft<'_>) -> Result<ComponentFields, AsmFault>
         literal_at: tables.literal_at,
         rows: Items::of(tables.rows),
         movable: header.movable,
-    })
+    };
+    faults.and(Ok(fields))
 }
 
 /// The component that a text spells, or its first fault. docs/ASSEMBLER.md has the form of texts.

@@ -5,9 +5,12 @@ ghost use Rattle.std.specs.List.{AllByRecursion};
 ghost use Rattle.assembler.specs.References.{value_of, user_word, user_place, word_resolved, IsReady};
 ghost use Rattle.assembler.specs.References.{AreReady};
 ghost use Rattle.assembler.specs.References.{resolved, Resolves, HasOwn, WaitsForNone};
+ghost use Rattle.asm_fields.specs.Instrs.{last_seen};
+ghost use Rattle.assembler.specs.Draft.{reference_of};
 
 use crate::fixup::Fixup;
 use crate::labels::{Labels, Section};
+use asm_fields::Last;
 use cap_words::{LONGEST_STRETCH, Word};
 use std::alloc::{AllocError, Global};
 use std::marker::Model;
@@ -135,10 +138,8 @@ impl<'a> References<'a> {
         }
     }
 
-    /// Adds the reference of a word of code, whose label has its sign at this place of the text: the
-    /// distance of a code label from the word before, or the offset of a data label. Where memory is
-    /// refused, nothing changes.
-    pub fn push_word(
+    // Adds the reference of a word of code, whose label has its sign at this place of the text.
+    fn push_word(
         &mut self,
         word: u32,
         at: u32,
@@ -151,6 +152,20 @@ impl<'a> References<'a> {
     {
         let fixup = Fixup { word, label_at: at };
         self.push(User::Word(fixup), section, name)
+    }
+
+    /// Adds the reference, if any, that the last operand makes of the instruction at a word of code: the
+    /// distance of a code label from the word before, or the offset of a data label. Where memory is
+    /// refused, nothing changes.
+    pub fn push_last(&mut self, word: u32, last: Last<'a>) -> Result<(), AllocError>
+        ensures ok { OnOk result (self.new ≡ self.old ++ reference_of word (last_seen last.entry)) }
+        ensures err { OnErr result (self.new ≡ self.old) }
+    {
+        match last {
+            Last::Plain(_) => Ok(()),
+            Last::Code(at, name) => self.push_word(word, at, Section::Code, name),
+            Last::Data(at, name) => self.push_word(word, at, Section::Data, name),
+        }
     }
 
     /// Adds the reference of a table, at this place of the text. Where memory is refused, nothing
