@@ -1,5 +1,6 @@
 //! Instructions, as a line has them.
 ghost use Rattle.std.specs.Prelude.{◌≡◌, ◌+◌, ◌<◌, true, false, if◌then◌else◌};
+ghost use Rattle.lcm_isa.specs.Numbers.{all_with};
 ghost use Rattle.lcm_isa.specs.Texts.{mnemonic_of};
 ghost use Rattle.readers.specs.Answers.{Gives, GivesAs};
 ghost use Rattle.cap_words.specs.Text.{named};
@@ -141,13 +142,19 @@ fn row_of_name(rows: &[Instr], name: &[u8]) -> Option<Instr>
         .find(|i| i.mnemonic().as_bytes() == name)
 }
 
+// The instruction of this name, with those of these operands that it has.
+fn instr_named(name: &[u8], a: Reg, b: Reg, c: Reg, n: Operand) -> Option<Instr>
+    ensures { result ≡ named mnemonic_of (all_with a b c n) name.now }
+{
+    row_of_name(&Instr::all_with(a, b, c, n), name)
+}
+
 /// The row of the instructions' table that has the name. Its last operand, where it has one, is an
 /// immediate.
 pub fn row_named(name: &[u8]) -> Option<Instr>
     ensures { result ≡ row_named name.now }
 {
-    let rows = Instr::all_with(Reg::Pc, Reg::Pc, Reg::Pc, Operand::Imm(0));
-    row_of_name(&rows, name)
+    instr_named(name, Reg::Pc, Reg::Pc, Reg::Pc, Operand::Imm(0))
 }
 
 /// The operands of an instruction of this name and shape, whose name stands at this place, and the end of
@@ -167,9 +174,8 @@ pub fn instr_operands<'a>(
     let c = reg_if(3 <= shape.regs, fields)?;
     let n = last_if(shape.last, fields)?;
     fields.end()?;
-    let rows = Instr::all_with(a, b, c, n.plain());
-    let Some(instr) = row_of_name(&rows, name) else {
-        return Err(AsmFault::Unknown(at));
-    };
-    Ok((instr, n))
+    match instr_named(name, a, b, c, n.plain()) {
+        Some(instr) => Ok((instr, n)),
+        None => Err(AsmFault::Unknown(at)),
+    }
 }

@@ -53,8 +53,9 @@ pub fn ownership(shared: bool) -> &'static str
 pub(crate) fn shared_named(name: &[u8]) -> Option<bool>
     ensures { result ≡ shared_named name.now }
 {
-    [true, false]
-        .iter()
-        .copied()
-        .find(|s| ownership(*s).as_bytes() == name)
+    match name {
+        b"shared" => Some(true),
+        b"own" => Some(false),
+        _ => None,
+    }
 }
