@@ -58,7 +58,7 @@ impl fmt::Display for ScanFault {
             ScanFault::BadByte(at) => write!(f, "no token begins at byte {at}"),
             ScanFault::NumberTooLarge(at) => write!(f, "the number at byte {at} is above 2^63"),
             ScanFault::LineTooLong(line) => write!(f, "line {line} has more than 512 bytes"),
-            ScanFault::NoMemory => write!(f, "out of memory"),
+            ScanFault::NoMemory => f.write_str("out of memory"),
         }
     }
 }
