@@ -13,15 +13,20 @@ use Rattle.cap_words.proofs.text.push_cap.Goals as goal
 abbrev kind : CapFields → List ℕ
 kind cap = codes "cap(" ++ perm_name cap.perm ++ codes "," ++ lin_name cap.lin ++ codes ","
 
--- its part as far as the permission
-perm_ascii : (p : Perm) → IsAscii (codes "cap(" ++ perm_name p ++ codes ",")
+comma : IsAscii (codes ",")
+comma = IsAscii-cons 44 [] (omega arith) IsAscii-nil
+
+opening : IsAscii (codes "cap(")
+opening = search (rules, IsAscii-cons, IsAscii-nil) depth 20
+
+-- the names
+perm_ascii : (p : Perm) → IsAscii (perm_name p)
 perm_ascii No = search (rules, IsAscii-cons, IsAscii-nil) depth 20
 perm_ascii ReadOnly = search (rules, IsAscii-cons, IsAscii-nil) depth 20
 perm_ascii Rw = search (rules, IsAscii-cons, IsAscii-nil) depth 20
 perm_ascii Rx = search (rules, IsAscii-cons, IsAscii-nil) depth 20
 perm_ascii Rwx = search (rules, IsAscii-cons, IsAscii-nil) depth 20
 
--- both names
 lin_ascii : (l : Lin) → IsAscii (lin_name l)
 lin_ascii Normal = search (rules, IsAscii-cons, IsAscii-nil) depth 20
 lin_ascii Linear = search (rules, IsAscii-cons, IsAscii-nil) depth 20
@@ -29,9 +34,12 @@ lin_ascii Linear = search (rules, IsAscii-cons, IsAscii-nil) depth 20
 -- the whole of it
 kind_ascii : (cap : CapFields) → IsAscii (kind cap)
 kind_ascii cap =
-    let perm = codes "cap(" ++ perm_name cap.perm ++ codes "," in
-    let both = IsAscii-append perm (lin_name cap.lin) (perm_ascii cap.perm) (lin_ascii cap.lin) in
-    IsAscii-append (perm ++ lin_name cap.lin) (codes ",") both (IsAscii-cons 44 [] (omega arith) IsAscii-nil)
+    let one = codes "cap(" ++ perm_name cap.perm in
+    let two = one ++ codes "," in
+    let perm = IsAscii-append (codes "cap(") (perm_name cap.perm) opening (perm_ascii cap.perm) in
+    let parted = IsAscii-append one (codes ",") perm comma in
+    let lin = IsAscii-append two (lin_name cap.lin) parted (lin_ascii cap.lin) in
+    IsAscii-append (two ++ lin_name cap.lin) (codes ",") lin comma
 
 -- and the text, where that of the range is ASCII
 cap_text_ascii : (cap : CapFields) → IsAscii (range_text cap.base cap.end cap.addr) → IsAscii (cap_text cap)
