@@ -8,21 +8,13 @@ use arrayvec::ArrayString;
 use itoa::Buffer;
 
 impl Instr {
-    // Its operands, in their order, and None after the last.
-    fn operand_parts(
-        &self,
-    ) -> (
-        Option<Operand>,
-        Option<Operand>,
-        Option<Operand>,
-        Option<Operand>,
-    )
-        ensures { result.0 ∷ result.1 ∷ result.2 ∷ result.3 ∷ []
-            ≡ map (slice_get (operands_of self.now)) (0 ∷ 1 ∷ 2 ∷ 3 ∷ []) }
+    /// Its operands, in the order in which a program writes them, and None after the last.
+    pub fn operands(&self) -> [Option<Operand>; 4]
+        ensures { result ≡ map (slice_get (operands_of self.now)) (0 ∷ 1 ∷ 2 ∷ 3 ∷ []) }
     {
         match *self {
-            Instr::Fail | Instr::Halt => (None, None, None, None),
-            Instr::Jmp(a) | Instr::Seta2b(a) => (Some(Operand::R(a)), None, None, None),
+            Instr::Fail | Instr::Halt => listed(None, None, None, None),
+            Instr::Jmp(a) | Instr::Seta2b(a) => listed(Some(Operand::R(a)), None, None, None),
             Instr::Jnz(a, b)
             | Instr::Gettype(a, b)
             | Instr::Geta(a, b)
@@ -33,34 +25,26 @@ impl Instr {
             | Instr::Store(a, b)
             | Instr::Load(a, b)
             | Instr::Xjmp(a, b)
-            | Instr::Cseal(a, b) => (Some(Operand::R(a)), Some(Operand::R(b)), None, None),
+            | Instr::Cseal(a, b) => listed(Some(Operand::R(a)), Some(Operand::R(b)), None, None),
             Instr::Move(a, n) | Instr::Cca(a, n) | Instr::Restrict(a, n) => {
-                (Some(Operand::R(a)), Some(n), None, None)
+                listed(Some(Operand::R(a)), Some(n), None, None)
             }
             Instr::Lt(a, b, n) | Instr::Plus(a, b, n) | Instr::Minus(a, b, n) => {
-                (Some(Operand::R(a)), Some(Operand::R(b)), Some(n), None)
+                listed(Some(Operand::R(a)), Some(Operand::R(b)), Some(n), None)
             }
-            Instr::Split(a, b, c, n) => (
+            Instr::Split(a, b, c, n) => listed(
                 Some(Operand::R(a)),
                 Some(Operand::R(b)),
                 Some(Operand::R(c)),
                 Some(n),
             ),
-            Instr::Splice(a, b, c) => (
+            Instr::Splice(a, b, c) => listed(
                 Some(Operand::R(a)),
                 Some(Operand::R(b)),
                 Some(Operand::R(c)),
                 None,
             ),
         }
-    }
-
-    /// Its operands, in the order in which a program writes them, and None after the last.
-    pub fn operands(&self) -> [Option<Operand>; 4]
-        ensures { result ≡ map (slice_get (operands_of self.now)) (0 ∷ 1 ∷ 2 ∷ 3 ∷ []) }
-    {
-        let (first, second, third, fourth) = self.operand_parts();
-        [first, second, third, fourth]
     }
 
     /// The instruction as one line without its newline: its mnemonic and its operands, with one
@@ -78,6 +62,18 @@ impl Instr {
         push_operand(&mut text, fourth);
         text
     }
+}
+
+// Up to four operands, in their order.
+fn listed(
+    first: Option<Operand>,
+    second: Option<Operand>,
+    third: Option<Operand>,
+    fourth: Option<Operand>,
+) -> [Option<Operand>; 4]
+    ensures { result ≡ first ∷ second ∷ third ∷ fourth ∷ [] }
+{
+    [first, second, third, fourth]
 }
 
 // Appends a blank and the operand, or nothing where there is none.
