@@ -31,7 +31,7 @@ use std::marker::Model;
 use trusted_border::{Event, Layout};
 
 /// What a step came to: that it went, with what is told of it, or how the machine ended.
-#[derive(Clone, Copy, PartialEq, Eq)]
+#[derive(Clone, Copy)]
 pub enum OStep {
     Went(Option<Event>),
     Halted,

@@ -1,7 +1,7 @@
 //! Events: what is told of a step that went.
 
 /// What an `xjmp rcode rdata` would do.
-#[derive(Clone, Copy, PartialEq, Eq)]
+#[derive(Clone, Copy)]
 pub enum Back {
     /// It would go, and neither `Hop` nor `Pair` is so.
     Out,
@@ -15,7 +15,7 @@ pub enum Back {
 }
 
 /// What a step did at the border of trusted code.
-#[derive(Clone, Copy, PartialEq, Eq)]
+#[derive(Clone, Copy)]
 pub enum Event {
     /// A call of trusted code went, to trusted code or not. Its frame is from base to end.
     Called {

@@ -2,7 +2,7 @@
 use Rattle.std.proofs.Common.{◌≡◌, ◌≢◌, ◌⊎◌, inl, inr, ℕ, zero, suc, ◌-◌, ◌<◌, ◌≤◌, Bool, true, false, List}
 use Rattle.std.proofs.Common.{[], ◌∷◌, length, Option, Some, None, refl, sym, ap, ◌∙◌, subst, arith, eqb-true}
 use Rattle.std.proofs.Common.{eq-eqb}
-use Rattle.std.specs.Prelude.{◌==◌, if◌then◌else◌, find}
+use Rattle.std.specs.Prelude.{◌==◌, if◌then◌else◌, find, slice_get}
 use Rattle.std.specs.Option.{option_or}
 use Rattle.std.specs.List.{Contains}
 use Rattle.std.proofs.lemmas.Bool.{cases_lt}
@@ -11,6 +11,7 @@ use Rattle.lcm_machine.specs.Cells.{cell}
 use Rattle.trusted_border.specs.declared.layout.Layout.{Layout}
 use Rattle.overlay_machine.specs.declared.words.OWord.{OWord}
 use Rattle.overlay_machine.specs.State.{OpenFrame, Cells, framed, frame_of, word_of}
+use Rattle.overlay_machine.specs.Step.{rest_words}
 use Rattle.overlay_machine.specs.Invariant.{FrameLies, FramesLie}
 use Rattle.overlay_machine.proofs.FrameWords.{word_of-below, word_of-within}
 use Rattle.component_file.proofs.Offers.{inside}
@@ -20,6 +21,10 @@ contains_first x xs = (0, omega arith, refl)
 
 pub contains_rest : {A : Type 0} (x y : A) (xs : List A) → Contains xs y → Contains (x ∷ xs) y
 contains_rest x y xs h = (suc h.0, omega (arith, h.1), h.2)
+
+pub first_of : (ws : List OWord) (w : OWord) → slice_get ws 0 ≡ Some w → ws ≡ w ∷ rest_words ws
+first_of [] w e = cc
+first_of (x ∷ ws) w e = let q : x ≡ w = cc in ap (λ y. y ∷ ws) q
 
 -- ---- the frame of a call
 

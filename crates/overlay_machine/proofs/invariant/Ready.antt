@@ -62,7 +62,7 @@ use Rattle.overlay_machine.proofs.invariant.Crossing.{half_seal, seal_is}
 use Rattle.overlay_machine.proofs.FlatLemmas.{mem_of_face}
 use Rattle.overlay_machine.proofs.invariant.Targets.{target_bounds, target_reg}
 use Rattle.overlay_machine.proofs.invariant.FrameFacts.{frame_known, lies_of, framed_in, framed_by}
-use Rattle.overlay_machine.proofs.invariant.FrameFacts.{word_in_frame, unframed, frames_apart, frame_in}
+use Rattle.overlay_machine.proofs.invariant.FrameFacts.{word_in_frame, unframed, frames_apart, frame_in, first_of}
 use Rattle.overlay_machine.proofs.invariant.FrameFacts.{frame_none, frame_of-cons, contains_first, below_all}
 use Rattle.overlay_machine.proofs.FrameWords.{word_of-within}
 use Rattle.overlay_machine.proofs.invariant.HeldFlat.{pair_apart, one_place, in_no_frame}
@@ -104,10 +104,6 @@ pub entry_kind : (p : PartSeen) (off : ℕ) (r : Row) → begins_entry p.compone
     → RowAt p.component off r → r ≡ entry_row
 entry_kind p off r e (inl h) = h.1
 entry_kind p off r e (inr h) = let bad : true ≡ false = sym e ∙ h.0 in cc
-
-first_of : (ws : List OWord) (w : OWord) → slice_get ws 0 ≡ Some w → ws ≡ w ∷ rest_words ws
-first_of [] w e = cc
-first_of (x ∷ ws) w e = let q : x ≡ w = cc in ap (λ y. y ∷ ws) q
 
 module _ (g : Link) (linked : IsLink g) where
   -- a safe word is under no return seal

@@ -7,7 +7,7 @@ use Rattle.std.specs.Prelude.{◌==◌, ◌&&◌, not, slice_get}
 use Rattle.std.specs.Option.{option_or}
 use Rattle.std.specs.List.{Contains}
 use Rattle.std.proofs.lemmas.Bool.{cases_lt, and_parts}
-use Rattle.std.proofs.lemmas.Option.{slice_get_within}
+use Rattle.std.proofs.lemmas.Option.{slice_get_within, same_Some}
 use Rattle.cap_words.specs.declared.Word.{Word}
 use Rattle.cap_words.specs.declared.Word.TheVariants.{Mem}
 use Rattle.cap_words.specs.declared.CapFields.{CapFields}
@@ -55,7 +55,7 @@ use Rattle.overlay_machine.proofs.invariant.EntryKept.{need_goes}
 use Rattle.overlay_machine.proofs.invariant.Standing.{Stand}
 use Rattle.overlay_machine.proofs.invariant.FramesKept.{return_keeps}
 use Rattle.overlay_machine.proofs.invariant.FrameFacts.{word_out, has_word, contains_first, contains_rest}
-use Rattle.overlay_machine.proofs.invariant.FrameFacts.{frames_apart}
+use Rattle.overlay_machine.proofs.invariant.FrameFacts.{frames_apart, first_of}
 use Rattle.overlay_machine.proofs.invariant.Popped.{popped, fits_popped, frames_up, framed_at, none_rest}
 
 -- what a return that goes on was
@@ -76,6 +76,9 @@ pub ask_goes : (b : Bool) (e : Ending) (q : OState) → ask b e ≡ goes q → (
 unfolding ask
 ask_goes true e q h = (refl, h)
 ask_goes false e q h = cc
+
+goes_same : (p q : OState) → goes p ≡ goes q → p ≡ q
+goes_same p q h = cc
 
 return_goes : (l : Layout) (r1 r2 : Reg) (o q : OState) (x y : OWord) (fs : List OpenFrame)
     → reg o.maps.regs r1 ≡ x → reg o.maps.regs r2 ≡ y → o.frames ≡ fs → return_by l x y r2 fs o ≡ goes q
@@ -98,8 +101,7 @@ return_goes l r1 r2 o q (RetCode i) (RetData k) (f ∷ fs) e1 e2 ef h =
       site_is = sym (ap (site_code l) ei) ∙ b.1;
       own = c.1;
       joins = eqb-true (c.0.end + 1) f.base d.0;
-      result = (let g : goes (state_resumed b.0 c.0 f fs (put o.maps (R r2) (zero_word Plain)) o) ≡ goes q =
-          d.1 in cc);
+      result = sym (goes_same (state_resumed b.0 c.0 f fs (put o.maps (R r2) (zero_word Plain)) o) q d.1);
     }
 return_goes l r1 r2 o q (RetCode i) (RetData k) [] e1 e2 ef h = cc
 return_goes l r1 r2 o q (RetCode i) (Plain w) fs e1 e2 ef h = cc
@@ -111,6 +113,20 @@ pub returned : (l : Layout) (r1 r2 : Reg) (o q : OState) → return_step l r1 r2
     → Returned l r1 r2 o q
 unfolding return_step
 returned l r1 r2 o q h = return_goes l r1 r2 o q _ _ _ refl refl refl h
+
+stk_not_dat : Stk ≢ Dat
+stk_not_dat e = cc
+
+reg_of_place : (a b : Reg) → R a ≡ R b → a ≡ b
+reg_of_place a b e = cc
+
+cell_not_reg : (a : ℕ) (r : Reg) → Cell a ≢ R r
+cell_not_reg a r e = cc
+
+-- where something would leave none of a word that is there, it isn't there
+none_beside : (x o : Option OWord) (w : OWord) → o ≡ Some w → ((v : OWord) → x ≡ Some v → o ≡ None) → x ≡ None
+none_beside None o w e h = refl
+none_beside (Some v) o w e h = let n : o ≡ None = h v refl in cc
 
 code_cap_is : (b e a c f d : ℕ) → b ≡ c → e ≡ f → a ≡ d → code_cap b e a ≡ code_cap c f d
 code_cap_is b e a c f d p q r =
@@ -155,7 +171,7 @@ module _ (g : Link) (linked : IsLink g) (o : OState) (t : State Word) (inv : Inv
   off = fit.site.offset
 
   same_site : fit.code ≡ x.site
-  same_site = let e : Some fit.code ≡ Some x.site = sym fit.code_is ∙ x.site_is in cc
+  same_site = same_Some fit.code x.site (sym fit.code_is ∙ x.site_is)
 
   own : (look o.maps.regs.stk ≡ Mem x.cap)
       × (x.cap ≡ record
@@ -163,7 +179,7 @@ module _ (g : Link) (linked : IsLink g) (o : OState) (t : State Word) (inv : Inv
   own = own_is g.layout o.maps x.cap x.own
 
   cap_safe : IsSafeCap g (F ∷ gs) x.cap
-  cap_safe = mem_safe g (F ∷ gs) o.maps.regs.stk x.cap own.0 (here _ (shown Stk refl (λ e. cc)))
+  cap_safe = mem_safe g (F ∷ gs) o.maps.regs.stk x.cap own.0 (here _ (shown Stk refl stk_not_dat))
 
   base_is : x.cap.base ≡ g.layout.stack.base
   base_is = ap (λ y. y.base) own.1
@@ -173,14 +189,9 @@ module _ (g : Link) (linked : IsLink g) (o : OState) (t : State Word) (inv : Inv
 
   -- the frame's addresses are in no older frame
   older_free : (a : ℕ) → F.base ≤ a → a ≤ F.end → framed gs a ≡ None
-  older_free a low high = by_word (framed gs a) refl
-    where
-      by_word : (w : Option OWord) → framed gs a ≡ w → w ≡ None
-      by_word None e = refl
-      by_word (Some w) e =
-          let n = frames_apart g.layout m o.calls F gs a w k e in
-          let v = has_word g.layout m F a lies low high in
-          let bad : Some v.0 ≡ None = sym v.1 ∙ n in cc
+  older_free a low high =
+      let v = has_word g.layout m F a lies low high in
+      none_beside (framed gs a) (word_of F a) v.0 v.1 (λ w e. frames_apart g.layout m o.calls F gs a w k e)
 
   up : Up (IsStackCell g gs) (ranges_of fit.part) F.end
   up =
@@ -229,9 +240,6 @@ module _ (g : Link) (linked : IsLink g) (o : OState) (t : State Word) (inv : Inv
         (popped g F gs (reg o.maps.regs d) (here _ (shown d p ne))
         (rd.one_place F.call (R d) (reg o.maps.regs d) x.data_is refl (λ e. nq (reg_of_place d r2 e))))
   ]
-    where
-      reg_of_place : (a b : Reg) → R a ≡ R b → a ≡ b
-      reg_of_place a b e = cc
 
   safe_after : (d : Reg) → is_pc d ≡ false → d ≢ Dat → IsSafe g gs (reg after d)
   safe_after Pc p ne = cc
@@ -241,17 +249,17 @@ module _ (g : Link) (linked : IsLink g) (o : OState) (t : State Word) (inv : Inv
       (stk_cap_safe g linked gs fit.part F.end (pos F.base) fit.trusted up)
   safe_after T1 p ne = tt
   safe_after T2 p ne = tt
-  safe_after Rcode p ne = zeroed_safe Rcode refl (λ e. cc)
-  safe_after Rdata p ne = zeroed_safe Rdata refl (λ e. cc)
-  safe_after C1 p ne = zeroed_safe C1 refl (λ e. cc)
-  safe_after C2 p ne = zeroed_safe C2 refl (λ e. cc)
-  safe_after A0 p ne = zeroed_safe A0 refl (λ e. cc)
-  safe_after A1 p ne = zeroed_safe A1 refl (λ e. cc)
-  safe_after A2 p ne = zeroed_safe A2 refl (λ e. cc)
-  safe_after A3 p ne = zeroed_safe A3 refl (λ e. cc)
-  safe_after G0 p ne = zeroed_safe G0 refl (λ e. cc)
-  safe_after G1 p ne = zeroed_safe G1 refl (λ e. cc)
-  safe_after G2 p ne = zeroed_safe G2 refl (λ e. cc)
+  safe_after Rcode p ne = zeroed_safe Rcode p ne
+  safe_after Rdata p ne = zeroed_safe Rdata p ne
+  safe_after C1 p ne = zeroed_safe C1 p ne
+  safe_after C2 p ne = zeroed_safe C2 p ne
+  safe_after A0 p ne = zeroed_safe A0 p ne
+  safe_after A1 p ne = zeroed_safe A1 p ne
+  safe_after A2 p ne = zeroed_safe A2 p ne
+  safe_after A3 p ne = zeroed_safe A3 p ne
+  safe_after G0 p ne = zeroed_safe G0 p ne
+  safe_after G1 p ne = zeroed_safe G1 p ne
+  safe_after G2 p ne = zeroed_safe G2 p ne
 
   abbrev saved : OWord
   saved = Plain (Mem (data_cap (ranges_of fit.part) fit.to))
@@ -261,11 +269,7 @@ module _ (g : Link) (linked : IsLink g) (o : OState) (t : State Word) (inv : Inv
       omega arith in ap (slice_get F.words) (sym z) ∙ sym (word_of-within F F.base (omega arith)) ∙ fit.first
 
   words_are : F.words ≡ saved ∷ rest_words F.words
-  words_are = by_words F.words head_is
-    where
-      by_words : (ws : List OWord) → slice_get ws 0 ≡ Some saved → ws ≡ saved ∷ rest_words ws
-      by_words [] e = cc
-      by_words (y ∷ ws) e = let s : y ≡ saved = cc in ap (λ v. v ∷ ws) s
+  words_are = first_of F.words saved head_is
 
   first_is : first_word F.words ≡ saved
   first_is = ap first_word words_are
@@ -336,16 +340,6 @@ module _ (g : Link) (linked : IsLink g) (o : OState) (t : State Word) (inv : Inv
   frame_out : (a : ℕ) → (a < F.base) ⊎ (F.end < a) → word_of F a ≡ None
   frame_out a out = word_out g.layout m F a lies out
 
-  -- no older frame is at its addresses
-  older_none : (a : ℕ) → F.base ≤ a → a ≤ F.end → framed gs a ≡ None
-  older_none a low high = by_word (framed gs a) refl
-    where
-      by_word : (w : Option OWord) → framed gs a ≡ w → w ≡ None
-      by_word None e = refl
-      by_word (Some w) e =
-          (let v = has_word g.layout m F a lies low high in let bad : Some v.0 ≡ None =
-          sym v.1 ∙ frames_apart g.layout m o.calls F gs a w k e in cc)
-
   in_stack_region : (a : ℕ) → F.base ≤ a → a ≤ F.end → in_regions a (regions g) ≡ true
   in_stack_region a low high = in_regions_is a (regions g) (stack_region g.layout) (stack_there g linked)
       (let x = lies.above in omega (arith, x, low)) (let x = lies.within in omega (arith, x, high))
@@ -358,7 +352,7 @@ module _ (g : Link) (linked : IsLink g) (o : OState) (t : State Word) (inv : Inv
         ∙ ap (λ y. in_regions a (regions g) && not (is_some (option_or y (framed gs a)))) (frame_out a out)
     | inr inn ↦
         ap is_some (cell_in a inn.0 inn.1).1
-        ∙ sym (ap (λ y. in_regions a (regions g) && not (is_some y)) (older_none a inn.0 inn.1)
+        ∙ sym (ap (λ y. in_regions a (regions g) && not (is_some y)) (older_free a inn.0 inn.1)
         ∙ ap (λ b. b && true) (in_stack_region a inn.0 inn.1))
   ]
 
@@ -380,10 +374,10 @@ module _ (g : Link) (linked : IsLink g) (o : OState) (t : State Word) (inv : Inv
   cells_after a w op e = elim (where_in a F.base F.end) as (λ _. IsSafe g gs w) [
     | inl out ↦
         (let c : cell m a ≡ Some w = sym (cell_out a out) ∙ e in popped g F gs w (here w (inv.cells a w op c))
-        (rd.one_place F.call (Cell a) w x.data_is c (λ y. cc)))
+        (rd.one_place F.call (Cell a) w x.data_is c (cell_not_reg a r2)))
     | inr inn ↦
-        (let v = cell_in a inn.0 inn.1 in let s : Some v.0 ≡ Some w = sym v.1 ∙ e in let r : v.0 ≡ w =
-        cc in subst (λ y. IsSafe g gs y) r v.2)
+        (let v = cell_in a inn.0 inn.1 in
+        subst (λ y. IsSafe g gs y) (same_Some v.0 w (sym v.1 ∙ e)) v.2)
   ]
 
   pub return_kept : Stand g q
