@@ -4,7 +4,7 @@ ghost use Rattle.lcm_machine.specs.Table.{is_pc};
 ghost use Rattle.call_sequence.specs.Flow.{flow, ask, into, source, is_area, seen, seen_operand, gets, taken};
 ghost use Rattle.call_sequence.specs.Flow.{take_from, led, led_to, cca_of, shows_nothing};
 
-use crate::kinds::{below_any, kind_of, set_kind};
+use crate::kinds::{all_below_any, below_any, kind_of, set_kind};
 use call_sequence::{Flow, Row};
 use component_file::{Kind, LAST_OFFSET};
 use lcm_isa::{Instr, Operand, Reg};
@@ -226,7 +226,7 @@ const HANDED: [Reg; 14] = [
 fn shows_nothing(row: &Row) -> bool
     ensures { result ≡ shows_nothing row.now }
 {
-    HANDED.iter().all(|r| below_any(kind_of(row, *r)))
+    all_below_any(row, &HANDED)
 }
 
 #[tactic(auto, unfolding(call_sequence::specs::Flow::flow, call_sequence::specs::Flow::ask))]

@@ -1,5 +1,6 @@
 //! Kinds and rows of kinds.
 ghost use Rattle.std.specs.Prelude.{◌≡◌};
+ghost use Rattle.std.specs.List.{list_all};
 ghost use Rattle.call_sequence.specs.Kinds.{kind_of, set_kind, below_any, kind_below, row_below};
 
 use call_sequence::Row;
@@ -67,6 +68,13 @@ pub(crate) fn below_any(kind: Kind) -> bool
     ensures { result ≡ below_any kind }
 {
     matches!(kind, Kind::Any | Kind::Int | Kind::Stk)
+}
+
+/// Whether untrusted code may hold what all these registers have.
+pub(crate) fn all_below_any(row: &Row, regs: &[Reg]) -> bool
+    ensures { result ≡ list_all (λ r. below_any (kind_of row.now r)) regs.now }
+{
+    regs.iter().all(|r| below_any(kind_of(row, *r)))
 }
 
 fn kind_below(kind: Kind, other: Kind) -> bool

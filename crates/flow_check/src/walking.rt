@@ -10,7 +10,7 @@ ghost use Rattle.call_sequence.specs.Walk.{at_end, next_from};
 ghost use Rattle.call_sequence.specs.Verdict.{WalksTo, IsFirstOfFlow, flow_answer};
 
 use crate::judging::flow_at;
-use crate::kinds::{CLEAN_ROW, ENTRY_ROW, below_any, kind_of, row_below};
+use crate::kinds::{CLEAN_ROW, ENTRY_ROW, all_below_any, kind_of, row_below};
 use crate::lists::check_lists;
 use crate::places::{begins_entry, begins_site, declared};
 use call_sequence::{ENTRY_WORDS, Flow, Row, SITE_WORDS, Walk};
@@ -84,7 +84,7 @@ const PASSED: [Reg; 9] = [
 fn passes(row: &Row) -> bool
     ensures { result ≡ passes row.now }
 {
-    PASSED.iter().all(|p| below_any(kind_of(row, *p)))
+    all_below_any(row, &PASSED)
 }
 
 #[tactic(auto, unfolding(call_sequence::specs::Walk::site_ready))]
