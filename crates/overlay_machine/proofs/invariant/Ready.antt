@@ -62,7 +62,8 @@ use Rattle.overlay_machine.proofs.invariant.Crossing.{half_seal, seal_is}
 use Rattle.overlay_machine.proofs.FlatLemmas.{mem_of_face}
 use Rattle.overlay_machine.proofs.invariant.Targets.{target_bounds, target_reg}
 use Rattle.overlay_machine.proofs.invariant.FrameFacts.{frame_known, lies_of, framed_in, framed_by}
-use Rattle.overlay_machine.proofs.invariant.FrameFacts.{word_in_frame, unframed, frames_apart, frame_in, first_of}
+use Rattle.overlay_machine.proofs.invariant.FrameFacts.{word_in_frame, unframed, frames_apart, frame_in}
+use Rattle.overlay_machine.proofs.invariant.FrameFacts.{first_of}
 use Rattle.overlay_machine.proofs.invariant.FrameFacts.{frame_none, frame_of-cons, contains_first, below_all}
 use Rattle.overlay_machine.proofs.FrameWords.{word_of-within}
 use Rattle.overlay_machine.proofs.invariant.HeldFlat.{pair_apart, one_place, in_no_frame}

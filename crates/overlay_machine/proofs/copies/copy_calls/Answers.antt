@@ -8,7 +8,8 @@ loop-call-preserved c =
     let call = c.call-item.result in
     let part = c.in_ok-copy_name.ensures ∙ c.as_slice.ensures in
     let name = c.in_ok-copy_name-2.ensures ∙ c.as_slice-in-loop-call.ensures in
-    let copy = ap₂ (λ p n. let e : CalledEntry = record { part = p; name = n; at = call.at } in e) part name in
+    let copy =
+    ap₂ (λ p n. let e : CalledEntry = record { part = p; name = n; at = call.at } in e) part name in
     c.in_ok-push.ensures.items
     ∙ ap₂ (λ xs x. xs ++ x ∷ []) c.loop-call.invariant (copy ∙ c.call-item.is)
     ∙ sym (take_more c.args.calls.now c.loop-call.call-index call c.loop-call-test.true)
