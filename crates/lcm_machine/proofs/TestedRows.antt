@@ -1,6 +1,7 @@
 -- Rows by what their tests say.
-use Rattle.std.proofs.Common.{◌≡◌, ◌+◌, ℤ, Bool, true, false, refl}
+use Rattle.std.proofs.Common.{◌≡◌, ◌+◌, ℤ, Bool, true, false, refl, ap, ◌∙◌}
 use Rattle.std.specs.Prelude.{◌==◌, ◌&&◌, Option, Some, None, Result, Ok, Err, MatchResult, int_lt}
+use Rattle.std.specs.Prelude.{IsErrAnd}
 use Rattle.std.specs.Option.{ok_or}
 use Rattle.lcm_isa.specs.declared.Reg.{Reg}
 use Rattle.lcm_isa.specs.declared.Operand.{Operand}
@@ -23,6 +24,12 @@ use Rattle.lcm_machine.specs.Table.{ask, need, bit, fits_64, is_pc, makes, opera
 pub lacked : {A : Type 0} (o : Option A) (f e : FailCause) → Err e ≡ ok_or o f → (o ≡ None) × (e ≡ f)
 lacked None f e h = (refl, let k : e ≡ f = cc in k)
 lacked (Some a) f e h = cc
+
+-- a cause that is told on
+pub told_on : {A : Type 0} (r : Result A FailCause) (f cause : FailCause) → IsErrAnd r (λ y. y ≡ f)
+    → f ≡ cause → r ≡ Err cause
+told_on (Ok a) f cause h e = absurd h
+told_on (Err y) f cause h e = ap Err (h ∙ e)
 
 -- ---- the rows that make an integer of two
 
