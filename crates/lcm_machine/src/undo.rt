@@ -65,42 +65,14 @@ impl Undo {
 }
 
 impl Changed {
-    fn none() -> Changed
-        ensures { result ≡ record { first = None; second = None; third = None } }
+    // Up to three registers.
+    fn of(first: Option<Reg>, second: Option<Reg>, third: Option<Reg>) -> Changed
+        ensures { result ≡ record { first = first; second = second; third = third } }
     {
         Changed {
-            first: None,
-            second: None,
-            third: None,
-        }
-    }
-
-    fn one(r: Reg) -> Changed
-        ensures { result ≡ record { first = Some r; second = None; third = None } }
-    {
-        Changed {
-            first: Some(r),
-            ..Changed::none()
-        }
-    }
-
-    fn two(r: Reg, q: Reg) -> Changed
-        ensures { result ≡ record { first = Some r; second = Some q; third = None } }
-    {
-        Changed {
-            first: Some(r),
-            second: Some(q),
-            third: None,
-        }
-    }
-
-    fn three(r: Reg, q: Reg, p: Reg) -> Changed
-        ensures { result ≡ record { first = Some r; second = Some q; third = Some p } }
-    {
-        Changed {
-            first: Some(r),
-            second: Some(q),
-            third: Some(p),
+            first,
+            second,
+            third,
         }
     }
 
@@ -110,7 +82,7 @@ impl Changed {
         ensures { result ≡ changed_by instr }
     {
         match instr {
-            Instr::Fail | Instr::Halt => Changed::none(),
+            Instr::Fail | Instr::Halt => Changed::of(None, None, None),
             Instr::Jmp(r1)
             | Instr::Jnz(r1, _)
             | Instr::Gettype(r1, _)
@@ -127,11 +99,15 @@ impl Changed {
             | Instr::Plus(r1, _, _)
             | Instr::Minus(r1, _, _)
             | Instr::Seta2b(r1)
-            | Instr::Cseal(r1, _) => Changed::one(r1),
-            Instr::Store(_, r2) => Changed::one(r2),
-            Instr::Move(r1, Operand::R(r2)) => Changed::two(r1, r2),
-            Instr::Xjmp(_, r2) => Changed::two(r2, Reg::Dat),
-            Instr::Split(r1, r2, r3, _) | Instr::Splice(r1, r2, r3) => Changed::three(r1, r2, r3),
+            | Instr::Cseal(r1, _) => Changed::of(Some(r1), None, None),
+            Instr::Store(_, r2) => Changed::of(Some(r2), None, None),
+            Instr::Move(r1, Operand::R(r2)) => Changed::of(Some(r1), Some(r2), None),
+            Instr::Xjmp(_, r2) => Changed::of(Some(r2), Some(Reg::Dat), None),
+            Instr::Split(r1, r2, r3, _) | Instr::Splice(r1, r2, r3) => Changed::of(
+                Some(r1),
+                Some(r2),
+                Some(r3),
+            ),
         }
     }
 }
@@ -180,7 +156,7 @@ impl State<Word> {
     {
         let (changed, at) = match self.fetch() {
             Ok((instr, _)) => (Changed::by(instr), self.target(instr)),
-            Err(_) => (Changed::none(), None),
+            Err(_) => (Changed::of(None, None, None), None),
         };
         Undo {
             count,
